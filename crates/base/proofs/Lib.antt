@@ -1,0 +1,4 @@
+pub mod Laws
+pub mod RefusalLaws
+pub mod PartLaws
+pub mod PutLaws

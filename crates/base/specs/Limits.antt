@@ -1,0 +1,33 @@
+-- The limits of document 01, each under one name. `src/limits.rt` has the same as constants.
+use Prim.Native.Nat.{ℕ, _*_, _^_}
+
+-- ---- the frame sheet (13)
+-- T, ticks a second, in a sheet
+abbrev pub mostSheetTimescale : ℕ
+mostSheetTimescale = 1000000
+
+-- n, the frame count
+abbrev pub mostFrames : ℕ
+mostFrames = 1048576
+
+-- ---- the trim list (7, and 16 for the lent places)
+abbrev pub mostListBytes : ℕ
+mostListBytes = 65536
+
+abbrev pub mostTrims : ℕ
+mostTrims = 1024
+
+-- the largest frame number, and number of a frame that is read: 2^32 - 1
+abbrev pub mostFrame : ℕ
+mostFrame = 4294967295
+
+-- ---- conversions (15 for T, 16 for the value)
+-- T in conversions and sessions
+abbrev pub mostTimescale : ℕ
+mostTimescale = 1000000
+
+abbrev pub mostUnits : ℕ
+mostUnits = 2 ^ 36
+
+abbrev pub mostTicks : ℕ
+mostTicks = 2 ^ 52

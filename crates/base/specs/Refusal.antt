@@ -1,0 +1,19 @@
+-- Refusals in the order in which document 01 lists them. A fault is its number, and 0 is none.
+--     faultUnless t k     the fault k, unless the test t holds
+--     a orElse b          the first of two
+--     firstOf f i k       the first of f i, f (i + 1), .., k of them
+use Prim.Native.Nat.{ℕ, zero, suc}
+use mathlib.Core.Bool.{Bool, true, false}
+
+infixr 20 _orElse_
+unfoldable pub _orElse_ : ℕ → ℕ → ℕ
+_orElse_ zero b = b
+_orElse_ (suc a) b = suc a
+
+unfoldable pub faultUnless : Bool → ℕ → ℕ
+faultUnless true k = 0
+faultUnless false k = k
+
+unfoldable pub firstOf : (ℕ → ℕ) → ℕ → ℕ → ℕ
+firstOf f i zero = 0
+firstOf f i (suc k) = f i orElse firstOf f (suc i) k

@@ -1,0 +1,21 @@
+// The limits of document 01; specs/Limits has the same as definitions.
+
+// Ticks a second in a frame sheet.
+pub const MOST_SHEET_TIMESCALE: u32 = 1000000;
+
+// Frames of a sheet.
+pub const MOST_FRAMES: u32 = 1048576;
+
+// Bytes and trims of a trim list, and the largest number in one.
+pub const MOST_LIST_BYTES: usize = 65536;
+
+pub const MOST_TRIMS: usize = 1024;
+
+pub const MOST_FRAME: u32 = 4294967295;
+
+// Ticks a second in conversions and sessions, and the values that a lone conversion takes.
+pub const MOST_TIMESCALE: u32 = 1000000;
+
+pub const MOST_UNITS: u64 = 68719476736;
+
+pub const MOST_TICKS: u64 = 4503599627370496;

@@ -1,0 +1,28 @@
+// Writers that lend the tail of an output on: the whole piece, or nothing and the place unchanged.
+ghost use mathlib.Core.Path.{_≡_};
+ghost use Rattle.base.specs.Put.{placed, placedLength, placedAt, placeAfter};
+
+// Writes `s` to the start of `out`, the rest of the output, and answers its length; where it does not fit, nothing and 0.
+pub fn bytes(out: &mut [u8], s: &[u8]) -> usize
+    ensures { λ r. ⌜ (r ≡ placedLength (now (s .entry)) (now (out .entry))) × (now (out .exit) ≡ placed (now (s .entry)) (now (out .entry))) ⌝ }
+{
+    if out.len() < s.len() {
+        return 0;
+    }
+    let mut i = 0;
+    while i < s.len() {
+        out[i] = s[i];
+        i += 1;
+    }
+    i
+}
+
+// Writes `s` from the place `at` on, and answers the place after it; where it does not fit, nothing and `at`.
+pub fn bytes_at(out: &mut [u8], at: usize, s: &[u8]) -> usize
+    ensures { λ r. ⌜ (r ≡ placeAfter at (now (s .entry)) (now (out .entry))) × (now (out .exit) ≡ placedAt at (now (s .entry)) (now (out .entry))) ⌝ }
+{
+    if out.len() < at {
+        return at;
+    }
+    at + bytes(&mut out[at..], s)
+}

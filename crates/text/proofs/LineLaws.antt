@@ -1,0 +1,209 @@
+-- Laws of parts about a pattern, and of lines.
+use mathlib.Core.Path.{_≡_, refl, sym, ap, subst, _∙_}
+use mathlib.Core.Bool.{Bool, true, false, cond}
+use mathlib.Core.List.{List, [], _∷_, _++_, append-nil, append-assoc}
+use Prim.Native.Nat.{ℕ, zero, suc, _+_, _*_, _-_, _≤_, _<_}
+use native.Mathlib.Nat.{le-of-suc-le-suc, not-suc-le-zero, le-trans}
+use native.Mathlib.Omega.{arith}
+use native.Mathlib.Numerals.{add-one}
+use borrow.Author.Tests.{lt-ltb, le-ltb, eq-eqb, ne-eqb, ltb-true, ltb-false}
+use lib.Dec.{eqb, ltb, leb}
+use lib.Seq.{drop-nil, drop-drop, drop-cons, length-take-le}
+use lib.ListN.{length, take, drop, getD, length-drop, length-take, length-append, take-append-drop, drop-of-length-le}
+use mathlib.Core.Bool.{true≢false}
+use Rattle.base.specs.Width.{byWidth}
+use Rattle.base.proofs.Laws.{yes!, no! }
+use Rattle.text.specs.White.{whiteHead, headFrom, keepFrom, trimHead, trimTail, trim}
+use Rattle.text.specs.declared.decimal.Number.{Number}
+use Rattle.text.specs.declared.decimal.Number.the-variants.{Value, Bad}
+use Rattle.text.specs.Number.{natural, unsigned, number}
+use Rattle.text.specs.Find.{starts, first, contains, upTo, past}
+use Rattle.text.specs.Line.{lineLength, ontoFirst, linesOf, concat, lineCount, terminatorLength, textOf, terminatorOf, isEmpty, blank, endsLine, hasLf}
+
+-- ---- the calls
+pub has-found : (p s : List ℕ) (n : ℕ) → n ≡ first p s → ltb n (length s) ≡ contains p s
+unfolding contains
+has-found p s n e = ap (λ (m : ℕ). ltb m (length s)) e
+
+pub front-found : (p s r : List ℕ) (n : ℕ) → n ≡ first p s → r ≡ take n s → r ≡ upTo p s
+unfolding upTo
+front-found p s r n e f = f ∙ ap (λ (m : ℕ). take m s) e
+
+pub rest-found : (p s t r : List ℕ) (n : ℕ) → n ≡ first p s → t ≡ drop n s → r ≡ drop (length p) t → r ≡ past p s
+unfolding past
+rest-found p s t r n e f g = g ∙ ap (drop (length p)) (f ∙ ap (λ (m : ℕ). drop m s) e) ∙ drop-drop (length p) (first p s) s
+
+pub text-found : (l r : List ℕ) (n m : ℕ) → n ≡ terminatorLength l → m ≡ length l - n → r ≡ take m l → r ≡ textOf l
+unfolding textOf
+text-found l r n m e f g = g ∙ ap (λ (k : ℕ). take k l) (f ∙ ap (λ (k : ℕ). length l - k) e)
+
+pub terminator-found : (l r : List ℕ) (n m : ℕ) → n ≡ terminatorLength l → m ≡ length l - n → r ≡ drop m l → r ≡ terminatorOf l
+unfolding terminatorOf
+terminator-found l r n m e f g = g ∙ ap (λ (k : ℕ). drop k l) (f ∙ ap (λ (k : ℕ). length l - k) e)
+
+module _ (l : List ℕ) (a b i j : ℕ) (ei : i ≡ length l - 1) (ea : a ≡ getD l i 0) (ej : j ≡ length l - 2) (eb : b ≡ getD l j 0) where
+  pub ends-two : a ≡ 10 → b ≡ 13 → 2 ≡ terminatorLength l
+  unfolding terminatorLength
+  ends-two p q = yes! _ (eq-eqb _ _ (ap (λ (k : ℕ). getD l k 0) (sym ei) ∙ sym ea ∙ p)) (yes! _ (eq-eqb _ _ (ap (λ (k : ℕ). getD l k 0) (sym ej) ∙ sym eb ∙ q)) refl)
+
+  pub ends-one : a ≡ 10 → (b ≡ 13 → ⊥) → 1 ≡ terminatorLength l
+  unfolding terminatorLength
+  ends-one p q = yes! _ (eq-eqb _ _ (ap (λ (k : ℕ). getD l k 0) (sym ei) ∙ sym ea ∙ p)) (no! _ (ne-eqb _ _ (λ z. q (eb ∙ ap (λ (k : ℕ). getD l k 0) ej ∙ z))) refl)
+
+pub ends-none : (l : List ℕ) (a i : ℕ) → i ≡ length l - 1 → a ≡ getD l i 0 → (a ≡ 10 → ⊥) → 0 ≡ terminatorLength l
+unfolding terminatorLength
+ends-none l a i ei ea p = no! _ (ne-eqb _ _ (λ z. p (ea ∙ ap (λ (k : ℕ). getD l k 0) ei ∙ z))) refl
+
+empty-zero : (l : List ℕ) → eqb (length l) 0 ≡ isEmpty l
+empty-zero [] = refl
+empty-zero (b ∷ l) = ne-eqb (length (b ∷ l)) 0 (λ e. omega arith)
+
+pub blank-found : (l t : List ℕ) → t ≡ trimHead l → eqb (length t) 0 ≡ blank l
+unfolding blank
+blank-found l t e = ap (λ (x : List ℕ). eqb (length x) 0) e ∙ empty-zero (trimHead l)
+
+-- ---- the length of a line
+pub line-hit : (s : List ℕ) (i : ℕ) → lineLength s ≡ i + lineLength (drop i s) → i < length s → getD s i 0 ≡ 10 → i + 1 ≡ lineLength s
+unfolding lineLength
+line-hit s i inv h e = let z : lineLength (drop i s) ≡ 1 = rw (drop-cons s i 0 h, eq-eqb (getD s i 0) 10 e) in omega arith
+
+pub line-miss : (s : List ℕ) (i : ℕ) → lineLength s ≡ i + lineLength (drop i s) → i < length s → (getD s i 0 ≡ 10 → ⊥) → lineLength s ≡ i + 1 + lineLength (drop (i + 1) s)
+unfolding lineLength
+line-miss s i inv h e = let z : lineLength (drop i s) ≡ suc (lineLength (drop (suc i) s)) = rw (drop-cons s i 0 h, ne-eqb (getD s i 0) 10 e) in rw add-one (omega arith)
+
+pub line-end : (s : List ℕ) (i : ℕ) → lineLength s ≡ i + lineLength (drop i s) → length s ≤ i → i ≡ lineLength s
+unfolding lineLength
+line-end s i inv h = let z : lineLength (drop i s) ≡ 0 = rw (drop-of-length-le s h) in omega arith
+
+-- the first line, and the rest
+pub line-some : (s : List ℕ) → 0 < length s → 0 < lineLength s
+unfolding lineLength
+line-some [] h = absurd (not-suc-le-zero h)
+line-some (b ∷ s) h = go (eqb b 10)
+  where
+    go : (t : Bool) → 0 < cond t 1 (suc (lineLength s))
+    go true = omega arith
+    go false = omega arith
+
+pub line-le : (s : List ℕ) → lineLength s ≤ length s
+unfolding lineLength
+line-le [] = omega arith
+line-le (b ∷ s) = go (eqb b 10) (line-le s)
+  where
+    go : (t : Bool) → lineLength s ≤ length s → cond t 1 (suc (lineLength s)) ≤ suc (length s)
+    go true h = omega arith
+    go false h = omega arith
+
+onto-cut : (b : ℕ) (ls : List (List ℕ)) (s : List ℕ) → (0 < length s → ls ≡ take (lineLength s) s ∷ linesOf (drop (lineLength s) s)) → (length s ≡ 0 → ls ≡ []) → ontoFirst b ls ≡ (b ∷ take (lineLength s) s) ∷ linesOf (drop (lineLength s) s)
+unfolding lineLength linesOf
+onto-cut b ls [] f g = ap (ontoFirst b) (g refl)
+onto-cut b ls (x ∷ s) f g = ap (ontoFirst b) (f (omega arith))
+
+lines-none : (s : List ℕ) → length s ≡ 0 → linesOf s ≡ []
+unfolding linesOf
+lines-none [] h = refl
+lines-none (b ∷ s) h = absurd (omega arith)
+
+pub lines-cut : (s : List ℕ) → 0 < length s → linesOf s ≡ take (lineLength s) s ∷ linesOf (drop (lineLength s) s)
+unfolding linesOf lineLength
+lines-cut [] h = absurd (not-suc-le-zero h)
+lines-cut (b ∷ s) h = go (eqb b 10) (lines-cut s)
+  where
+    go : (t : Bool) → (0 < length s → linesOf s ≡ take (lineLength s) s ∷ linesOf (drop (lineLength s) s))
+        → cond t ((b ∷ []) ∷ linesOf s) (ontoFirst b (linesOf s)) ≡ take (cond t 1 (suc (lineLength s))) (b ∷ s) ∷ linesOf (drop (cond t 1 (suc (lineLength s))) (b ∷ s))
+    go true ih = refl
+    go false ih = onto-cut b (linesOf s) s ih (lines-none s)
+
+pub lines-end : (s : List ℕ) → length s ≤ 0 → linesOf s ≡ []
+lines-end s h = lines-none s (omega arith)
+
+-- text and terminator are the line
+pub text-terminator : (l : List ℕ) → textOf l ++ terminatorOf l ≡ l
+unfolding textOf terminatorOf
+text-terminator l = take-append-drop (length l - terminatorLength l) l
+
+-- a pattern, what is before and what is after it; p not empty: what is after it is empty where it is not there
+pub up-past : (p s : List ℕ) → 0 < length (past p s) → length (upTo p s) + length p + length (past p s) ≡ length s
+unfolding upTo past
+up-past p s h =
+    let a : length (drop (first p s + length p) s) ≡ length s - (first p s + length p) = length-drop (first p s + length p) s in
+    let b : length (take (first p s) s) ≡ first p s = length-take-le (first p s) s (omega arith) in
+    omega arith
+
+pub up-le : (p s : List ℕ) → length (upTo p s) ≤ length s
+unfolding upTo
+up-le p s = simp length-take (omega arith)
+
+-- the lines of s are s
+joined-onto : (b : ℕ) (ls : List (List ℕ)) → concat (ontoFirst b ls) ≡ b ∷ concat ls
+joined-onto b [] = refl
+joined-onto b (l ∷ ls) = refl
+
+pub lines-joined : (s : List ℕ) → concat (linesOf s) ≡ s
+unfolding linesOf
+lines-joined [] = refl
+lines-joined (b ∷ s) = go (eqb b 10) (lines-joined s)
+  where
+    go : (t : Bool) → concat (linesOf s) ≡ s → concat (cond t ((b ∷ []) ∷ linesOf s) (ontoFirst b (linesOf s))) ≡ b ∷ s
+    go true ih = ap (λ (x : List ℕ). b ∷ x) ih
+    go false ih = joined-onto b (linesOf s) ∙ ap (λ (x : List ℕ). b ∷ x) ih
+
+-- trimming makes nothing longer
+head-from : (s : List ℕ) (k : ℕ) → length (headFrom s k) ≤ length s
+unfolding headFrom
+head-from [] k = omega arith
+head-from (b ∷ r) (suc k) = omega (arith, head-from r k)
+head-from (b ∷ r) zero = go (whiteHead (b ∷ r)) (λ k. head-from r k)
+  where
+    go : (w : ℕ) → ((k : ℕ) → length (headFrom r k) ≤ length r) → length (byWidth w (b ∷ r) (λ k. headFrom r k)) ≤ suc (length r)
+    go zero ih = omega arith
+    go (suc k) ih = omega (arith, ih k)
+
+pub trim-head-length : (s : List ℕ) → length (trimHead s) ≤ length s
+unfolding trimHead
+trim-head-length s = head-from s 0
+
+pub trim-length : (s : List ℕ) → length (trim s) ≤ length s
+unfolding trim trimTail
+trim-length s =
+    let a : length (take (keepFrom (trimHead s) (length (trimHead s)) 0) (trimHead s)) ≤ length (trimHead s) = simp length-take (omega arith) in
+    omega (arith, trim-head-length s)
+
+-- a number that is read has a byte
+pub number-some : (most v : ℕ) (s : List ℕ) → number most s ≡ Value v → 0 < length s
+unfolding number natural unsigned
+number-some most v [] e = absurd (let z : _≡_ {A = ℕ} 0 1 = ap (λ (x : Number). elim x [ Value k ↦ 1 | Bad ↦ 0 ]) e in omega arith)
+number-some most v (b ∷ s) e = omega arith
+
+-- ---- what a session needs: lines put one behind the other are those lines
+pub line-then : (l s : List ℕ) → endsLine l ≡ true → linesOf (l ++ s) ≡ l ∷ linesOf s
+unfolding linesOf endsLine
+line-then [] s e = absurd (true≢false (sym e))
+line-then (b ∷ l) s e = go (eqb b 10) l e (line-then l s)
+  where
+    go : (t : Bool) (l : List ℕ) → cond t (isEmpty l) (endsLine l) ≡ true → (endsLine l ≡ true → linesOf (l ++ s) ≡ l ∷ linesOf s)
+        → cond t ((b ∷ []) ∷ linesOf (l ++ s)) (ontoFirst b (linesOf (l ++ s))) ≡ (b ∷ l) ∷ linesOf s
+    go true [] q ih = refl
+    go true (c ∷ l) q ih = absurd (true≢false (sym q))
+    go false l q ih = ap (ontoFirst b) (ih q)
+
+pub line-last : (l : List ℕ) → 0 < length l → hasLf l ≡ false → linesOf l ≡ l ∷ []
+unfolding linesOf hasLf
+line-last [] h e = absurd (not-suc-le-zero h)
+line-last (b ∷ l) h e = go (eqb b 10) l e (line-last l)
+  where
+    go : (t : Bool) (l : List ℕ) → cond t true (hasLf l) ≡ false → (0 < length l → hasLf l ≡ false → linesOf l ≡ l ∷ [])
+        → cond t ((b ∷ []) ∷ linesOf l) (ontoFirst b (linesOf l)) ≡ (b ∷ l) ∷ []
+    go true l q ih = absurd (true≢false q)
+    go false [] q ih = refl
+    go false (c ∷ l) q ih = ap (ontoFirst b) (ih (omega arith) q)
+
+-- finished lines, each with its LF
+abbrev pub Finished : List (List ℕ) → Type 0
+Finished [] = Unit
+Finished (l ∷ ls) = (endsLine l ≡ true) × Finished ls
+
+pub lines-back : (ls : List (List ℕ)) (r : List ℕ) → Finished ls → linesOf (concat ls ++ r) ≡ ls ++ linesOf r
+lines-back [] r f = refl
+lines-back (l ∷ ls) r f =
+    ap linesOf (append-assoc l (concat ls) r) ∙ line-then l (concat ls ++ r) (f .0) ∙ ap (λ (x : List (List ℕ)). l ∷ x) (lines-back ls r (f .1))

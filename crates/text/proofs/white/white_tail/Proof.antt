@@ -1,0 +1,42 @@
+use Rattle.base.proofs.Laws.{calls}
+use Rattle.text.specs.White.{whiteTail}
+use borrow.Author.Needs.{needs}
+use Rattle.text.proofs.white.white_tail.Statement.{statement}
+use Rattle.text.proofs.white.white_tail.Tie as tie
+
+ends-white-requires : tie.Need-ends-white-requires
+ends-white-requires c κs = search needs
+
+returns : tie.Need-returns
+unfolding whiteTail
+returns c = search calls depth 12
+
+ends-white-requires-2 : tie.Need-ends-white-requires-2
+ends-white-requires-2 c κs = search needs
+
+returns-2 : tie.Need-returns-2
+unfolding whiteTail
+returns-2 c = search calls depth 12
+
+ends-white-requires-3 : tie.Need-ends-white-requires-3
+ends-white-requires-3 c κs = search needs
+
+returns-3 : tie.Need-returns-3
+unfolding whiteTail
+returns-3 c = search calls depth 12
+
+returns-4 : tie.Need-returns-4
+unfolding whiteTail
+returns-4 c = search calls depth 12
+
+pub white-tail-spec : {M : Type 1} → statement M
+white-tail-spec =
+    tie.close
+    (tie.spec
+    ends-white-requires
+    returns
+    ends-white-requires-2
+    returns-2
+    ends-white-requires-3
+    returns-3
+    returns-4)
