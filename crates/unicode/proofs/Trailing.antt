@@ -12,13 +12,13 @@ use lib.ListN.{length, take, drop, getD, length-append, length-drop}
 use lib.Seq.{getD-drop, getD-append-add, drop-append-add, take-append-le, take-append-seam, take-length}
 use mathlib.Core.Bool.{cond}
 use Rattle.base.specs.Width.{byWidth}
 use Rattle.text.specs.Utf8.{leadLen, secondLow, secondHigh, tail, widthBy, charWidth, codeHead}
 use Rattle.base.specs.Part.{last}
 use Rattle.text.specs.White.{white, whiteHigh, whiteHead, endsWhite, whiteTail, keepFrom, trimTail}
-use Rattle.text.specs.Encode.{encode, Scalar}
+use Rattle.unicode.specs.Encode.{encode, Scalar}
 use Rattle.base.proofs.Laws.{yes!, no! }
 use Rattle.text.proofs.Laws.{keep-step, keep-none}
-use Rattle.text.proofs.Encoding.{encoded, encode-long, white-encoded}
+use Rattle.unicode.proofs.Encoding.{encoded, encode-long, white-encoded}
 
 -- ---- bounds on a character's width
 -- no character begins with a continuation byte

@@ -10,12 +10,12 @@ use borrow.Author.Tests.{lt-ltb, le-ltb, eq-eqb, ne-eqb, ltb-true, ltb-false, eq
 use lib.Dec.{eqb, ltb, leb}
 use lib.ListN.{length, take, drop, getD}
 use mathlib.Core.Bool.{cond}
 use Rattle.text.specs.Utf8.{leadLen, secondLow, secondHigh, tail, widthBy, charWidth, utf8, codeBy, codeHead}
-use Rattle.text.specs.Encode.{encode, Scalar}
+use Rattle.unicode.specs.Encode.{encode, Scalar, encodeAll, Scalars, none, more}
 use Rattle.base.proofs.Laws.{yes!, no!, drop-less}
 use Rattle.text.proofs.Laws.{utf8-end, utf8-bad, utf8-step}
-use Rattle.text.proofs.Encoding.{utf8-encoded}
-use Rattle.text.proofs.Trailing.{low-least, high-most, enc-1, enc-2, enc-3, enc-4}
+use Rattle.unicode.proofs.Encoding.{utf8-encoded}
+use Rattle.unicode.proofs.Trailing.{low-least, high-most, enc-1, enc-2, enc-3, enc-4}
 
 -- what the bytes of a character of width w are known to be
 data Form : ℕ → ℕ → ℕ → ℕ → ℕ → Type 0 where
@@ -245,14 +245,6 @@ unfolding charWidth codeHead
 decoded s l n = by-shape (shape (getD s 0 0) (getD s 1 0) (getD s 2 0) (getD s 3 0) (charWidth s) refl n) s l refl refl refl refl
 
 -- ---- UTF-8 is exactly the rows of encodings
-unfoldable pub encodeAll : List ℕ → List ℕ
-encodeAll [] = []
-encodeAll (u ∷ us) = encode u ++ encodeAll us
-
-pub data Scalars : List ℕ → Type 0 where
-  none : Scalars []
-  more : {u : ℕ} {us : List ℕ} → Scalar u → Scalars us → Scalars (u ∷ us)
-
 pub all-taken : (us : List ℕ) → Scalars us → utf8 (encodeAll us) ≡ true
 unfolding encodeAll
 all-taken us none = sym (utf8-end [] (omega arith))

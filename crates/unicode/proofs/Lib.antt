@@ -1,0 +1,5 @@
+pub mod Encoding
+pub mod Trailing
+pub mod Decoding
+pub mod Trimming
+pub mod Vectors
