@@ -1,0 +1,35 @@
+/* The retimer's C functions: frame sheet check, trim list check, time conversions.
+ * They keep no state, write nothing and return on every input. Numbers: docs/NUMBERS.md. */
+#ifndef RETIMER_H
+#define RETIMER_H
+
+#include <stddef.h>
+#include <stdint.h>
+
+#ifdef __cplusplus
+extern "C" {
+#endif
+
+/* Bytes are given as a pointer that is not NULL and a length in bytes, which may be 0. */
+
+/* 0 for a sound frame sheet, else 11, 12, 13 or 14. */
+uint32_t retimer_sheet_check(const uint8_t *sheet, size_t length);
+
+/* 0 for a good trim list, else 1 to 7, or 20 for bytes that are not UTF-8. */
+uint32_t retimer_list_check(const uint8_t *list, size_t length);
+
+/* Conversions. kind: 0 ASS (hundredths), 1 SRT (thousandths); timescale: ticks a second, 1 to 1000000.
+ * A value of units is at most 2^36, one of ticks at most 2^52. Refused, they return 0; the number says so. */
+uint64_t retimer_units_to_ticks(uint64_t value, uint32_t timescale, uint32_t kind);
+uint64_t retimer_ticks_to_units_floor(uint64_t value, uint32_t timescale, uint32_t kind);
+uint64_t retimer_ticks_to_units_ceil(uint64_t value, uint32_t timescale, uint32_t kind);
+
+/* The number of a conversion from units, and of one from ticks: 0, 15 (timescale) or 16 (kind or value). */
+uint32_t retimer_units_number(uint64_t value, uint32_t timescale, uint32_t kind);
+uint32_t retimer_ticks_number(uint64_t value, uint32_t timescale, uint32_t kind);
+
+#ifdef __cplusplus
+}
+#endif
+
+#endif
