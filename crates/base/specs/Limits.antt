@@ -31,3 +31,7 @@ mostUnits = 2 ^ 36
 
 abbrev pub mostTicks : ℕ
 mostTicks = 2 ^ 52
+
+-- ---- the map (15, and 16 for the lent records)
+abbrev pub mostSegments : ℕ
+mostSegments = 1024

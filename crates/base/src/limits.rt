@@ -19,3 +19,6 @@ pub const MOST_TIMESCALE: u32 = 1000000;
 pub const MOST_UNITS: u64 = 68719476736;
 
 pub const MOST_TICKS: u64 = 4503599627370496;
+
+// Segments of a map.
+pub const MOST_SEGMENTS: usize = 1024;

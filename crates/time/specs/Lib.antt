@@ -1,0 +1,4 @@
+-- Caption times: the kinds, units and ticks, and how far a written time may lie from where it belongs.
+pub mod Kind
+pub mod Convert
+pub mod Near

@@ -1,0 +1,29 @@
+// The kinds of captions, 0 ASS and 1 SRT, and what each of them fixes about times.
+ghost use mathlib.Core.Path.{_≡_};
+ghost use Rattle.time.specs.Kind.{kindBad, unitsOf};
+
+// Whether there is no such kind.
+pub fn kind_bad(kind: u32) -> bool
+    ensures { λ r. ⌜ r ≡ kindBad kind ⌝ }
+{
+    if kind == 0 {
+        return false;
+    }
+    if kind == 1 {
+        return false;
+    }
+    true
+}
+
+// U, the units of a second; 0 where there is no such kind.
+pub fn units_of(kind: u32) -> u32
+    ensures { λ r. ⌜ r ≡ unitsOf kind ⌝ }
+{
+    if kind == 0 {
+        return 100;
+    }
+    if kind == 1 {
+        return 1000;
+    }
+    0
+}
