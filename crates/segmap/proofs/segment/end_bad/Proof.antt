@@ -1,0 +1,15 @@
+use Rattle.segmap.proofs.SegmentLaws.{end-past, end-within}
+use borrow.Author.Needs.{needs}
+use Rattle.segmap.proofs.segment.end_bad.Statement.{statement}
+use Rattle.segmap.proofs.segment.end_bad.Tie as tie
+use Rattle.segmap.proofs.segment.end_bad.Reads as reads
+use Rattle.segmap.proofs.segment.end_bad.Lts as lts
+
+returns : tie.Need-returns
+returns c = search end-past
+
+returns-2 : tie.Need-returns-2
+returns-2 c = search end-within
+
+pub end-bad-spec : {M : Type 1} → statement M
+end-bad-spec = tie.close (tie.spec returns returns-2)

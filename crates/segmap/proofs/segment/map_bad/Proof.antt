@@ -1,0 +1,88 @@
+use mathlib.Core.Path.{refl}
+use lib.ListN.{length}
+use Rattle.segmap.proofs.SegmentLaws.{Left, left-parts, left-many, left-start, left-found, left-again, left-less, left-none}
+use borrow.Author.Needs.{needs}
+use Rattle.segmap.proofs.segment.map_bad.Statement.{statement}
+use Rattle.segmap.proofs.segment.map_bad.Tie as tie
+use Rattle.segmap.proofs.segment.map_bad.Reads as reads
+use Rattle.segmap.proofs.segment.map_bad.Lts as lts
+use Rattle.base.proofs.word.Reads as word-reads
+use Rattle.base.proofs.words_rest.Reads as words-rest-reads
+use Rattle.segmap.proofs.segment.segment_bad.Reads as segment-bad-reads
+
+abbrev Inv-loop : tie.InvT-loop
+Inv-loop map parts t₀ t = Left map t
+
+abbrev μ-loop : tie.MeasureT-loop
+μ-loop map parts t₀ t = length t
+
+returns : tie.Need-returns Inv-loop μ-loop
+returns c = left-parts _ _ refl (c .if1 .taken)
+
+mul-if2 : tie.Need-mul-if2 Inv-loop μ-loop
+mul-if2 c = search needs
+
+returns-2 : tie.Need-returns-2 Inv-loop μ-loop
+returns-2 c = search left-many
+
+loop-holds : tie.Need-loop-holds Inv-loop μ-loop
+loop-holds c = search left-start
+
+word-requires : tie.Need-word-requires Inv-loop μ-loop
+word-requires c κs = search needs
+
+word-requires-2 : tie.Need-word-requires-2 Inv-loop μ-loop
+word-requires-2 c κs = search needs
+
+word-requires-3 : tie.Need-word-requires-3 Inv-loop μ-loop
+word-requires-3 c κs = search needs
+
+word-requires-4 : tie.Need-word-requires-4 Inv-loop μ-loop
+word-requires-4 c κs = search needs
+
+word-requires-5 : tie.Need-word-requires-5 Inv-loop μ-loop
+word-requires-5 c κs = search needs
+
+word-requires-6 : tie.Need-word-requires-6 Inv-loop μ-loop
+word-requires-6 c κs = search needs
+
+segment-bad-requires : tie.Need-segment-bad-requires Inv-loop μ-loop
+segment-bad-requires c κs = search needs
+
+returns-3 : tie.Need-returns-3 Inv-loop μ-loop
+returns-3 c = search left-found depth 16
+
+words-rest-requires : tie.Need-words-rest-requires Inv-loop μ-loop
+words-rest-requires c κs = search needs
+
+loop-less : tie.Need-loop-less Inv-loop μ-loop
+loop-less c = search left-less
+
+loop-again : tie.Need-loop-again Inv-loop μ-loop
+loop-again c = search left-again depth 16
+
+returns-4 : tie.Need-returns-4 Inv-loop μ-loop
+returns-4 c = search left-none
+
+pub map-bad-spec : {M : Type 1} → statement M
+map-bad-spec =
+    tie.close
+    (tie.spec
+    Inv-loop
+    μ-loop
+    returns
+    mul-if2
+    returns-2
+    loop-holds
+    word-requires
+    word-requires-2
+    word-requires-3
+    word-requires-4
+    word-requires-5
+    word-requires-6
+    segment-bad-requires
+    returns-3
+    words-rest-requires
+    loop-less
+    loop-again
+    returns-4)

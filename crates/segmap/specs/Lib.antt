@@ -1,0 +1,2 @@
+-- The segment map.
+pub mod Segment
