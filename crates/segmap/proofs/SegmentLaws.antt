@@ -8,9 +8,9 @@ use borrow.Author.Tests.{lt-ltb, le-ltb, eq-eqb, ne-eqb, ltb-true, ltb-false}
 use lib.Dec.{ltb, eqb}
 use lib.ListN.{length, drop, getD, length-drop}
 use Rattle.base.specs.Limits.{mostFrame, mostTicks, mostSegments}
-use Rattle.base.proofs.Laws.{yes!, no!}
+use Rattle.base.proofs.Laws.{yes!, no! }
 use Rattle.segmap.specs.declared.segment.Segment.{Segment}
-use Rattle.segmap.specs.Segment.{flatOf, segmentsOf, endBad, segmentBad, anyBad, mapBad}
+use Rattle.segmap.specs.Segment.{flatOf, segment, segmentsOf, endBad, segmentBad, anyBad, mapBad}
 
 -- ---- a start and a duration against the limit, without their sum
 pub end-past : (a d : ℕ) → mostTicks < a → true ≡ endBad a d
@@ -25,18 +25,37 @@ end-within a d h = go (ltb (mostTicks - a) d) refl
     go true e = sym (lt-ltb mostTicks (a + d) (omega (arith, ltb-true (mostTicks - a) d e)))
     go false e = sym (le-ltb mostTicks (a + d) (omega (arith, ltb-false (mostTicks - a) d e)))
 
+-- ---- the first segment of flat numbers
+pub segments-cut : (t : List ℕ) → 6 ≤ length t
+    → segmentsOf t ≡ segment (getD t 0 0) (getD t 1 0) (getD t 2 0) (getD t 3 0) (getD t 4 0) (getD t 5 0) ∷ segmentsOf (drop 6 t)
+unfolding segmentsOf
+segments-cut [] h = absurd (omega arith)
+segments-cut (a ∷ []) h = absurd (omega arith)
+segments-cut (a ∷ b ∷ []) h = absurd (omega arith)
+segments-cut (a ∷ b ∷ c ∷ []) h = absurd (omega arith)
+segments-cut (a ∷ b ∷ c ∷ d ∷ []) h = absurd (omega arith)
+segments-cut (a ∷ b ∷ c ∷ d ∷ e ∷ []) h = absurd (omega arith)
+segments-cut (a ∷ b ∷ c ∷ d ∷ e ∷ f ∷ r) h = refl
+
+pub segments-short : (t : List ℕ) → length t < 6 → segmentsOf t ≡ []
+unfolding segmentsOf
+segments-short [] h = refl
+segments-short (a ∷ []) h = refl
+segments-short (a ∷ b ∷ []) h = refl
+segments-short (a ∷ b ∷ c ∷ []) h = refl
+segments-short (a ∷ b ∷ c ∷ d ∷ []) h = refl
+segments-short (a ∷ b ∷ c ∷ d ∷ e ∷ []) h = refl
+segments-short (a ∷ b ∷ c ∷ d ∷ e ∷ f ∷ r) h = absurd (omega arith)
+
+pub six-less : (t u : List ℕ) → u ≡ drop 6 t → 6 ≤ length t → length u < length t
+six-less t u e h = subst (λ (x : List ℕ). length x < length t) (sym e) (simp length-drop (omega arith))
+
 -- ---- a map segment by segment
 six : (t : List ℕ) → 6 ≤ length t
     → anyBad (segmentsOf t)
     ≡ cond (segmentBad (getD t 0 0) (getD t 1 0) (getD t 2 0) (getD t 3 0) (getD t 4 0) (getD t 5 0)) true (anyBad (segmentsOf (drop 6 t)))
-unfolding segmentsOf anyBad
-six [] h = absurd (omega arith)
-six (a ∷ []) h = absurd (omega arith)
-six (a ∷ b ∷ []) h = absurd (omega arith)
-six (a ∷ b ∷ c ∷ []) h = absurd (omega arith)
-six (a ∷ b ∷ c ∷ d ∷ []) h = absurd (omega arith)
-six (a ∷ b ∷ c ∷ d ∷ e ∷ []) h = absurd (omega arith)
-six (a ∷ b ∷ c ∷ d ∷ e ∷ f ∷ r) h = refl
+unfolding anyBad
+six t h = ap anyBad (segments-cut t h)
 
 -- the call's answer x on the numbers read from t
 read-six : (t : List ℕ) (a b q k o d : ℕ) (x : Bool) → 6 ≤ length t
@@ -105,3 +124,8 @@ pub flat-back : (xs : List Segment) → segmentsOf (flatOf xs) ≡ xs
 unfolding flatOf segmentsOf
 flat-back [] = refl
 flat-back (x ∷ xs) = ap (λ (ys : List Segment). x ∷ ys) (flat-back xs)
+
+-- ---- within the limits
+pub end-good : (a d : ℕ) → endBad a d ≡ false → a + d ≤ mostTicks
+unfolding endBad
+end-good a d e = ltb-false mostTicks (a + d) e

@@ -2,4 +2,5 @@
 mod segment;
 
 pub use segment::Segment;
+pub use segment::end_bad;
 pub use segment::map_bad;

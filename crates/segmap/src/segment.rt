@@ -13,7 +13,7 @@ pub struct Segment {
 }
 
 // Whether a start and a duration pass the tick limit together.
-fn end_bad(start: u64, duration: u64) -> bool
+pub fn end_bad(start: u64, duration: u64) -> bool
     ensures { λ r. ⌜ r ≡ endBad start duration ⌝ }
 {
     if base::MOST_TICKS < start {

@@ -1,0 +1,75 @@
+use Rattle.event.proofs.HitLaws.{place-again}
+use mathlib.Core.Path.{_≡_, refl}
+use Prim.Native.Nat.{_+_, _*_, _≤_}
+use lib.ListN.{length}
+use native.Mathlib.Omega.{arith}
+use Rattle.segmap.specs.Segment.{segmentsOf}
+use Rattle.segmap.proofs.SegmentLaws.{six-less}
+use Rattle.event.specs.Hit.{findHit, findFrom}
+use Rattle.event.proofs.HitLaws.{hit-found, hit-again, hit-none}
+use borrow.Author.Needs.{needs}
+use Rattle.event.proofs.meeting.find_hit.Statement.{statement}
+use Rattle.event.proofs.meeting.find_hit.Tie as tie
+use Rattle.event.proofs.meeting.find_hit.Reads as reads
+use Rattle.event.proofs.meeting.find_hit.Lts as lts
+use Rattle.base.proofs.word.Reads as word-reads
+use Rattle.base.proofs.words_rest.Reads as words-rest-reads
+use Rattle.event.proofs.meeting.meets.Reads as meets-reads
+use Rattle.event.proofs.meeting.met_at.Reads as met-at-reads
+
+abbrev Inv-loop : tie.InvT-loop
+Inv-loop map a b t₀ place₀ t place = (findHit (segmentsOf map) a b ≡ findFrom place (segmentsOf t) a b) × (place + length t ≤ length map)
+
+abbrev μ-loop : tie.MeasureT-loop
+μ-loop map a b t₀ place₀ t place = length t
+
+loop-holds : tie.Need-loop-holds Inv-loop μ-loop
+loop-holds c = (refl, omega arith)
+
+word-requires : tie.Need-word-requires Inv-loop μ-loop
+word-requires c κs = search needs
+
+word-requires-2 : tie.Need-word-requires-2 Inv-loop μ-loop
+word-requires-2 c κs = search needs
+
+meets-requires : tie.Need-meets-requires Inv-loop μ-loop
+meets-requires c κs = search needs
+
+met-at-requires : tie.Need-met-at-requires Inv-loop μ-loop
+met-at-requires c κs = search needs
+
+returns : tie.Need-returns Inv-loop μ-loop
+returns c = search hit-found depth 12
+
+words-rest-requires : tie.Need-words-rest-requires Inv-loop μ-loop
+words-rest-requires c κs = search needs
+
+add-place : tie.Need-add-place Inv-loop μ-loop
+add-place c = search needs
+
+loop-less : tie.Need-loop-less Inv-loop μ-loop
+loop-less c = search six-less
+
+loop-again : tie.Need-loop-again Inv-loop μ-loop
+loop-again c = (search hit-again depth 12, search place-again)
+
+returns-2 : tie.Need-returns-2 Inv-loop μ-loop
+returns-2 c = search hit-none
+
+pub find-hit-spec : {M : Type 1} → statement M
+find-hit-spec =
+    tie.close
+    (tie.spec
+    Inv-loop
+    μ-loop
+    loop-holds
+    word-requires
+    word-requires-2
+    meets-requires
+    met-at-requires
+    returns
+    words-rest-requires
+    add-place
+    loop-less
+    loop-again
+    returns-2)

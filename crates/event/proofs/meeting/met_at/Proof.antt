@@ -1,0 +1,40 @@
+use Rattle.event.proofs.HitLaws.{met-short, met-long}
+use borrow.Author.Needs.{needs}
+use Rattle.event.proofs.meeting.met_at.Statement.{statement}
+use Rattle.event.proofs.meeting.met_at.Tie as tie
+use Rattle.event.proofs.meeting.met_at.Reads as reads
+use Rattle.event.proofs.meeting.met_at.Lts as lts
+use Rattle.base.proofs.word.Reads as word-reads
+
+word-requires : tie.Need-word-requires
+word-requires c κs = search needs
+
+word-requires-2 : tie.Need-word-requires-2
+word-requires-2 c κs = search needs
+
+word-requires-3 : tie.Need-word-requires-3
+word-requires-3 c κs = search needs
+
+returns : tie.Need-returns
+returns c = search met-short
+
+word-requires-4 : tie.Need-word-requires-4
+word-requires-4 c κs = search needs
+
+word-requires-5 : tie.Need-word-requires-5
+word-requires-5 c κs = search needs
+
+returns-2 : tie.Need-returns-2
+returns-2 c = search met-long
+
+pub met-at-spec : {M : Type 1} → statement M
+met-at-spec =
+    tie.close
+    (tie.spec
+    word-requires
+    word-requires-2
+    word-requires-3
+    returns
+    word-requires-4
+    word-requires-5
+    returns-2)

@@ -1,0 +1,74 @@
+-- The segment that a caption meets: document 01's hit. a and b are the ticks of the caption's start and end.
+use mathlib.Core.Bool.{Bool, true, false, _&&_, cond}
+use mathlib.Core.List.{List, [], _∷_}
+use Prim.Native.Nat.{ℕ, suc, _+_}
+use lib.Dec.{ltb}
+use lib.ListN.{length, getD}
+use Rattle.segmap.specs.declared.segment.Segment.{Segment}
+use Rattle.segmap.specs.Segment.{sourceOf, outputOf}
+use Rattle.event.specs.declared.meeting.Met.{Met}
+use Rattle.event.specs.declared.meeting.Hit.{Hit}
+use Rattle.event.specs.declared.meeting.Hit.the-variants.{Miss, At}
+
+-- of positive length, ends after tick a and starts before tick b
+unfoldable pub meetsParts : (source duration a b : ℕ) → Bool
+meetsParts q d a b = ltb 0 d && (ltb a (q + d) && ltb q b)
+
+abbrev pub meets : Segment → (a b : ℕ) → Bool
+meets x a b = meetsParts (sourceOf x) (x .duration) a b
+
+-- the first segment that meets a caption, its place in the list from 0, and the segments after it
+pub data Found : Type 0 where
+  miss : Found
+  hit : (place : ℕ) → Segment → (others : List Segment) → Found
+
+-- the same in a list whose first segment has the place i
+unfoldable pub findFrom : (i : ℕ) → List Segment → (a b : ℕ) → Found
+findFrom i [] a b = miss
+findFrom i (x ∷ xs) a b = cond (meets x a b) (hit i x xs) (findFrom (suc i) xs a b)
+
+abbrev pub findHit : List Segment → (a b : ℕ) → Found
+findHit m a b = findFrom 0 m a b
+
+-- ---- as numbers
+-- the very next segment: its source start and its duration, 0 where there is none
+abbrev pub nextSource : List Segment → ℕ
+nextSource [] = 0
+nextSource (x ∷ xs) = sourceOf x
+
+abbrev pub nextDuration : List Segment → ℕ
+nextDuration [] = 0
+nextDuration (x ∷ xs) = x .duration
+
+abbrev pub metOf : (place : ℕ) → Segment → List Segment → Met
+metOf i x xs =
+    record {
+      place = i;
+      source = sourceOf x;
+      output = outputOf x;
+      duration = x .duration;
+      later = nextSource xs;
+      span = nextDuration xs;
+    }
+
+-- what the code answers
+abbrev pub hitOf : Found → Hit
+hitOf miss = Miss
+hitOf (hit i x xs) = At (metOf i x xs)
+
+-- the segment at the head of a row of flat numbers, with the one behind it
+unfoldable pub metAt : (place : ℕ) → List ℕ → Met
+metAt i t =
+    record {
+      place = i;
+      source = getD t 2 0;
+      output = getD t 4 0;
+      duration = getD t 5 0;
+      later = cond (ltb (length t) 12) 0 (getD t 8 0);
+      span = cond (ltb (length t) 12) 0 (getD t 11 0);
+    }
+
+-- ---- document 01's part-lost rule: the very next segment has a positive duration and starts before the end.
+-- It is given both ticks; `later` and `span` are the next segment's source start and duration.
+unfoldable pub lostRule : (later span a b : ℕ) → Bool
+lostRule later span a b = ltb 0 span && ltb later b

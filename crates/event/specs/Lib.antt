@@ -1,0 +1,4 @@
+-- One caption against the map, and what a text's parts become through it.
+pub mod Hit
+pub mod Decide
+pub mod Fates

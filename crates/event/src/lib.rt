@@ -1,0 +1,12 @@
+// One caption against the map (the Rust's map_event).
+mod meeting;
+mod retiming;
+mod setting;
+
+pub use meeting::Hit;
+pub use meeting::Met;
+pub use meeting::find_hit;
+pub use retiming::Decision;
+pub use retiming::Retimed;
+pub use retiming::decide;
+pub use setting::Config;
