@@ -1,2 +1,4 @@
 pub mod HitLaws
 pub mod DecideLaws
+pub mod FateLaws
+pub mod FineLaws
