@@ -175,3 +175,25 @@ placed-room v l n e = go (leb (length v) (length l)) refl e
 
 pub none-placed : (l : List ℕ) → (0 ≡ placedLength [] l) × (l ≡ placed [] l)
 none-placed l = (sym (length-yes [] l (omega arith)), sym (placed-yes [] l (omega arith) ∙ put-nil l))
+
+-- two numbers stored at a place
+set-two : (l : List ℕ) (at a b : ℕ) → at + 2 ≤ length l → set (set l at a) (suc at) b ≡ putAt at (a ∷ b ∷ []) l
+unfolding putAt put
+set-two [] at a b h = absurd (omega arith)
+set-two (x ∷ []) at a b h = absurd (omega arith)
+set-two (x ∷ y ∷ l) zero a b h = refl
+set-two (x ∷ y ∷ l) (suc at) a b h = ap (λ (t : List ℕ). x ∷ t) (set-two (y ∷ l) at a b (omega arith))
+
+pub set-pair : (l : List ℕ) (at a b : ℕ) → at + 2 ≤ length l → set (set l at a) (at + 1) b ≡ putAt at (a ∷ b ∷ []) l
+set-pair l at a b h = rw add-one (set-two l at a b h)
+
+pub pair-stored : (l : List ℕ) (at a b : ℕ) → at ≤ length l → 2 ≤ length l - at
+    → (at + 2 ≡ placeAfter at (a ∷ b ∷ []) l) × (set (set l at a) (at + 1) b ≡ placedAt at (a ∷ b ∷ []) l)
+pair-stored l at a b h k =
+    let f : at + 2 ≤ length l = omega arith in
+    (sym (after-yes at (a ∷ b ∷ []) l f), set-pair l at a b f ∙ sym (at-yes at (a ∷ b ∷ []) l f))
+
+pub pair-short : (l : List ℕ) (at a b : ℕ) → at ≤ length l → length l - at < 2 → (at ≡ placeAfter at (a ∷ b ∷ []) l) × (l ≡ placedAt at (a ∷ b ∷ []) l)
+pair-short l at a b h k =
+    let f : length l < at + 2 = omega arith in
+    (sym (after-no at (a ∷ b ∷ []) l f), sym (at-no at (a ∷ b ∷ []) l f))

@@ -21,3 +21,4 @@ pub use part::word;
 pub use part::words_rest;
 pub use write::bytes;
 pub use write::bytes_at;
+pub use write::pair_at;

@@ -1,5 +1,6 @@
 // Writers that lend the tail of an output on: the whole piece, or nothing and the place unchanged.
 ghost use mathlib.Core.Path.{_≡_};
+ghost use mathlib.Core.List.{[], _∷_};
 ghost use Rattle.base.specs.Put.{placed, placedLength, placedAt, placeAfter};
 
 // Writes `s` to the start of `out`, the rest of the output, and answers its length; where it does not fit, nothing and 0.
@@ -25,4 +26,19 @@ pub fn bytes_at(out: &mut [u8], at: usize, s: &[u8]) -> usize
         return at;
     }
     at + bytes(&mut out[at..], s)
+}
+
+// Writes two numbers from the place `at` on, and answers the place after them; where they do not fit, nothing and `at`.
+pub fn pair_at(out: &mut [u64], at: usize, a: u64, b: u64) -> usize
+    ensures { λ r. ⌜ (r ≡ placeAfter at (a ∷ b ∷ []) (now (out .entry))) × (now (out .exit) ≡ placedAt at (a ∷ b ∷ []) (now (out .entry))) ⌝ }
+{
+    if out.len() < at {
+        return at;
+    }
+    if out.len() - at < 2 {
+        return at;
+    }
+    out[at] = a;
+    out[at + 1] = b;
+    at + 2
 }
