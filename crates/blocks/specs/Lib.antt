@@ -1,0 +1,2 @@
+-- Blocks of 512 bytes.
+pub mod Block

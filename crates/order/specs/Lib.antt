@@ -1,0 +1,2 @@
+-- Display indices and their frame count.
+pub mod Count

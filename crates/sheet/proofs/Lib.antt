@@ -1,0 +1,3 @@
+pub mod RefusalNumbers
+pub mod FaultLaws
+pub mod SheetLaws

@@ -1,0 +1,204 @@
+-- Laws of the frame sheet that crates above cite.
+use Prim.Native.Nat.{ℕ, zero, suc, _+_, _-_, _*_, _/_, _%_, _^_, _≤_, _<_}
+use mathlib.Core.Bool.{Bool}
+use mathlib.Core.List.{List, [], _∷_}
+use mathlib.Core.Logic.{_⊎_, inl, inr}
+use mathlib.Core.Path.{_≡_, refl, sym, ap, subst, _∙_}
+use native.Mathlib.Omega.{arith}
+use lib.Dec.{ltb}
+use lib.ListN.{length, getD}
+use borrow.Author.Tests.{lt-ltb, ltb-true, leb-true, eqb-true}
+use Rattle.base.specs.Limits.{mostSheetTimescale, mostFrames}
+use Rattle.base.specs.Refusal.{_orElse_, faultUnless, firstOf}
+use Rattle.base.proofs.RefusalLaws.{held, else-zero, first-zero}
+use Rattle.blocks.proofs.WordLaws.{word-below}
+use Rattle.sheet.specs.Sheet.{timescaleOf, framesOf, rateNumOf, rateDenOf, decodeOf, durationOf, sheetFault, sheetOf, numberOf, valuesOf}
+use Rattle.sheet.specs.Sheet.{spareFault, headFault, recordWord, recordFault, checkFault, blockFault, recordBlocks, headOf, answer}
+use Rattle.sheet.specs.declared.answer.Head.{Head}
+use Rattle.sheet.specs.declared.answer.Sheet.{Sheet}
+use Rattle.sheet.specs.declared.answer.Sheet.the-variants.{Sound, Refused}
+use Rattle.sheet.proofs.RefusalNumbers.{else-numbers, cond-numbers, unless-numbers, first-numbers}
+
+-- ---- a sheet without a fault
+record SoundParts (s : List ℕ) : Type 0 where
+  pub head : headFault s ≡ 0
+  pub long : length s ≡ 512 * (1 + recordBlocks (framesOf s))
+  pub blocks : firstOf (blockFault s (framesOf s)) 1 (recordBlocks (framesOf s)) ≡ 0
+
+sound-parts : (s : List ℕ) → sheetFault s ≡ 0 → SoundParts s
+unfolding sheetFault
+sound-parts s e =
+    let b = else-zero _ _ (else-zero _ _ (else-zero _ _ e .1) .1) in
+    let h = else-zero _ _ (b .1) in
+    let l = else-zero _ _ (h .1) in
+    record { head = h .0; long = eqb-true _ _ (held _ 11 (omega arith) (l .0)); blocks = l .1 }
+
+-- what its head has
+pub record SoundHead (s : List ℕ) : Type 0 where
+  pub timescale-low : 0 < timescaleOf s
+  pub timescale-high : timescaleOf s ≤ mostSheetTimescale
+  pub frames-low : 0 < framesOf s
+  pub frames-high : framesOf s ≤ mostFrames
+
+head-parts : (s : List ℕ) → headFault s ≡ 0 → SoundHead s
+unfolding headFault
+head-parts s e =
+    let t = else-zero _ _ e in
+    let u = else-zero _ _ (t .1) in
+    let v = else-zero _ _ (u .1) in
+    let w = else-zero _ _ (v .1) in
+    record {
+      timescale-low = ltb-true _ _ (held _ 13 (omega arith) (t .0));
+      timescale-high = leb-true _ _ (held _ 13 (omega arith) (u .0));
+      frames-low = ltb-true _ _ (held _ 13 (omega arith) (v .0));
+      frames-high = leb-true _ _ (held _ 13 (omega arith) (w .0));
+    }
+
+pub sound-head : (s : List ℕ) → sheetFault s ≡ 0 → SoundHead s
+sound-head s e = head-parts s (sound-parts s e .head)
+
+-- its length
+pub sound-length : (s : List ℕ) → sheetFault s ≡ 0 → length s ≡ 512 * (1 + recordBlocks (framesOf s))
+sound-length s e = sound-parts s e .long
+
+record-inside : (s : List ℕ) (n i : ℕ) → i < n → recordFault s n i ≡ faultUnless (ltb (decodeOf s i) n) 14
+unfolding recordFault
+record-inside s n i l = rw (lt-ltb i n l)
+
+-- the decode index of a frame is below the frame count
+pub sound-decode : (s : List ℕ) (i : ℕ) → sheetFault s ≡ 0 → i < framesOf s → decodeOf s i < framesOf s
+unfolding recordBlocks blockFault
+sound-decode s i e l =
+    let b : blockFault s (framesOf s) (1 + i / 63) ≡ 0 = first-zero _ _ _ (sound-parts s e .blocks) (1 + i / 63) (omega arith) (omega arith) in
+    let r : recordFault s (framesOf s) i ≡ 0 = first-zero _ _ _ (else-zero _ _ b .1) i (omega arith) (omega arith) in
+    ltb-true _ _ (held _ 14 (omega arith) (sym (record-inside s (framesOf s) i l) ∙ r))
+
+-- ---- sizes of what any bytes say
+module _ (s : List ℕ) (bytes : (j : ℕ) → getD s j 0 < 256) where
+  pub timescale-word : timescaleOf s < 2 ^ 32
+  unfolding timescaleOf
+  timescale-word = word-below s 1 bytes
+
+  pub frames-word : framesOf s < 2 ^ 32
+  unfolding framesOf
+  frames-word = word-below s 2 bytes
+
+  pub duration-word : (i : ℕ) → durationOf s i < 2 ^ 32
+  unfolding durationOf
+  duration-word i = word-below s (recordWord i + 1) bytes
+
+pub decode-word : (s : List ℕ) (i : ℕ) → decodeOf s i < 2 ^ 31
+unfolding decodeOf
+decode-word s i = omega arith
+
+-- ---- the numbers of document 01's table: 0 and 11 to 14
+abbrev pub SheetNumber : ℕ → Type 0
+SheetNumber k = (k ≡ 0) ⊎ ((11 ≤ k) × (k ≤ 14))
+
+none : SheetNumber 0
+none = inl refl
+
+within : (k : ℕ) → 11 ≤ k → k ≤ 14 → SheetNumber k
+within k a b = inr (a, b)
+
+spare-number : (s : List ℕ) (k i : ℕ) → SheetNumber k → SheetNumber (spareFault s k i)
+unfolding spareFault
+spare-number s k i p = unless-numbers SheetNumber none _ k p
+
+test : (t : Bool) (k : ℕ) → 11 ≤ k → k ≤ 14 → SheetNumber (faultUnless t k)
+test t k a b = unless-numbers SheetNumber none t k (within k a b)
+
+or-else : {a b : ℕ} → SheetNumber a → SheetNumber b → SheetNumber (a orElse b)
+or-else {a} {b} p q = else-numbers SheetNumber a b p q
+
+head-number : (s : List ℕ) → SheetNumber (headFault s)
+unfolding headFault
+head-number s =
+    or-else (test _ 13 (omega arith) (omega arith))
+    (or-else (test _ 13 (omega arith) (omega arith))
+    (or-else (test _ 13 (omega arith) (omega arith))
+    (or-else (test _ 13 (omega arith) (omega arith))
+    (first-numbers SheetNumber none _ (λ i. spare-number s 13 i (within 13 (omega arith) (omega arith))) 5 122))))
+
+record-number : (s : List ℕ) (n i : ℕ) → SheetNumber (recordFault s n i)
+unfolding recordFault
+record-number s n i =
+    let p : SheetNumber 14 = within 14 (omega arith) (omega arith) in
+    cond-numbers SheetNumber (ltb i n) (faultUnless (ltb (decodeOf s i) n) 14) (spareFault s 14 (recordWord i) orElse spareFault s 14 (recordWord i + 1))
+    (unless-numbers SheetNumber none _ 14 p)
+    (or-else (spare-number s 14 _ p) (spare-number s 14 _ p))
+
+check-number : (s : List ℕ) (b : ℕ) → SheetNumber (checkFault s b)
+unfolding checkFault
+check-number s b = test _ 12 (omega arith) (omega arith)
+
+block-number : (s : List ℕ) (n b : ℕ) → SheetNumber (blockFault s n b)
+unfolding blockFault
+block-number s n b = or-else (check-number s b) (first-numbers SheetNumber none _ (record-number s n) _ 63)
+
+pub sheet-numbers : (s : List ℕ) → SheetNumber (sheetFault s)
+unfolding sheetFault
+sheet-numbers s =
+    or-else (test _ 11 (omega arith) (omega arith))
+    (or-else (test _ 11 (omega arith) (omega arith))
+    (or-else (check-number s 0)
+    (or-else (head-number s)
+    (or-else (test _ 11 (omega arith) (omega arith))
+    (first-numbers SheetNumber none _ (block-number s (framesOf s)) 1 _)))))
+
+-- ---- the answer of `check`
+-- its number is the first fault
+number-by : (k : ℕ) (h : Head) → numberOf (answer k h) ≡ k
+unfolding answer
+number-by zero h = refl
+number-by (suc k) h = refl
+
+pub number-is : (s : List ℕ) → numberOf (sheetOf s) ≡ sheetFault s
+unfolding sheetOf
+number-is s = number-by _ _
+
+-- its values are the head's where it is 0
+pub values-are : (s : List ℕ) → sheetFault s ≡ 0 → valuesOf (sheetOf s) ≡ timescaleOf s ∷ framesOf s ∷ rateNumOf s ∷ rateDenOf s ∷ []
+unfolding sheetOf headOf answer
+values-are s e = rw e
+
+-- what a caller learns from `Sound h`
+pub record Answered (s : List ℕ) (h : Head) : Type 0 where
+  pub fault : sheetFault s ≡ 0
+  pub timescale-is : h .timescale ≡ timescaleOf s
+  pub frames-is : h .frames ≡ framesOf s
+  pub num-is : h .«rate_num» ≡ rateNumOf s
+  pub den-is : h .«rate_den» ≡ rateDenOf s
+
+sound-by : (k : ℕ) (g h : Head) → answer k g ≡ Sound h → (k ≡ 0) × (h ≡ g)
+unfolding answer
+sound-by zero g h e = (refl, cc)
+sound-by (suc k) g h e =
+    let z : _≡_ {A = ℕ} 0 1 = cc in
+    absurd (omega arith)
+
+pub sound-answer : (s : List ℕ) (h : Head) (a : Sheet) → a ≡ sheetOf s → a ≡ Sound h → Answered s h
+unfolding sheetOf headOf
+sound-answer s h a e f =
+    let p = sound-by (sheetFault s) (headOf s) h (sym e ∙ f) in
+    record {
+      fault = p .0;
+      timescale-is = ap (λ (x : Head). x .timescale) (p .1);
+      frames-is = ap (λ (x : Head). x .frames) (p .1);
+      num-is = ap (λ (x : Head). x .«rate_num») (p .1);
+      den-is = ap (λ (x : Head). x .«rate_den») (p .1);
+    }
+
+-- and from `Refused j`
+refused-by : (k j : ℕ) (g : Head) → answer k g ≡ Refused j → (j ≡ k) × (j ≡ 0 → ⊥)
+unfolding answer
+refused-by zero j g e =
+    let z : _≡_ {A = ℕ} 0 1 = cc in
+    absurd (omega arith)
+refused-by (suc k) j g e =
+    let q : j ≡ suc k = cc in
+    (q, omega arith)
+
+pub refused-answer : (s : List ℕ) (j : ℕ) (a : Sheet) → a ≡ sheetOf s → a ≡ Refused j → (j ≡ sheetFault s) × (j ≡ 0 → ⊥)
+unfolding sheetOf
+refused-answer s j a e f = refused-by _ _ _ (sym e ∙ f)

@@ -1,0 +1,20 @@
+use Rattle.sheet.proofs.FaultLaws.{decode-is}
+use borrow.Author.Needs.{needs}
+use Rattle.sheet.proofs.access.decode_at.Statement.{statement}
+use Rattle.sheet.proofs.access.decode_at.Tie as tie
+use Rattle.sheet.proofs.access.decode_at.Reads as reads
+use Rattle.sheet.proofs.access.decode_at.Lts as lts
+use Rattle.blocks.proofs.word.Reads as word-reads
+use Rattle.sheet.proofs.access.record_word.Reads as record-word-reads
+
+record-word-requires : tie.Need-record-word-requires
+record-word-requires c κs = search needs
+
+word-requires : tie.Need-word-requires
+word-requires c κs = search needs
+
+returns : tie.Need-returns
+returns c = search decode-is
+
+pub decode-at-spec : {M : Type 1} → statement M
+decode-at-spec = tie.close (tie.spec record-word-requires word-requires returns)

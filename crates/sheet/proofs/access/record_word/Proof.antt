@@ -1,0 +1,29 @@
+use Rattle.sheet.specs.Sheet.{recordWord}
+use borrow.Author.Needs.{needs}
+use Rattle.sheet.proofs.access.record_word.Statement.{statement}
+use Rattle.sheet.proofs.access.record_word.Tie as tie
+use Rattle.sheet.proofs.access.record_word.Reads as reads
+use Rattle.sheet.proofs.access.record_word.Lts as lts
+
+add-result : tie.Need-add-result
+add-result c = search needs
+
+mul-result : tie.Need-mul-result
+mul-result c = search needs
+
+add-result-2 : tie.Need-add-result-2
+add-result-2 c = search needs
+
+mul-result-2 : tie.Need-mul-result-2
+mul-result-2 c = search needs
+
+add-result-3 : tie.Need-add-result-3
+add-result-3 c = search needs
+
+returns : tie.Need-returns
+unfolding recordWord
+returns c = search needs
+
+pub record-word-spec : {M : Type 1} → statement M
+record-word-spec =
+    tie.close (tie.spec add-result mul-result add-result-2 mul-result-2 add-result-3 returns)

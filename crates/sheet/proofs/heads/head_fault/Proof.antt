@@ -1,0 +1,46 @@
+use Rattle.sheet.proofs.FaultLaws.{head-none, head-fast, head-empty, head-long, head-rest}
+use borrow.Author.Needs.{needs}
+use Rattle.sheet.proofs.heads.head_fault.Statement.{statement}
+use Rattle.sheet.proofs.heads.head_fault.Tie as tie
+use Rattle.sheet.proofs.heads.head_fault.Reads as reads
+use Rattle.sheet.proofs.heads.head_fault.Lts as lts
+use Rattle.sheet.proofs.access.frames.Reads as frames-reads
+use Rattle.sheet.proofs.access.timescale.Reads as timescale-reads
+use Rattle.sheet.proofs.heads.spare_fault.Reads as spare-fault-reads
+
+timescale-requires : tie.Need-timescale-requires
+timescale-requires c κs = search needs
+
+returns : tie.Need-returns
+returns c = search head-none
+
+returns-2 : tie.Need-returns-2
+returns-2 c = search head-fast
+
+frames-requires : tie.Need-frames-requires
+frames-requires c κs = search needs
+
+returns-3 : tie.Need-returns-3
+returns-3 c = search head-empty
+
+returns-4 : tie.Need-returns-4
+returns-4 c = search head-long
+
+spare-fault-requires : tie.Need-spare-fault-requires
+spare-fault-requires c κs = search needs
+
+returns-5 : tie.Need-returns-5
+returns-5 c = search head-rest
+
+pub head-fault-spec : {M : Type 1} → statement M
+head-fault-spec =
+    tie.close
+    (tie.spec
+    timescale-requires
+    returns
+    returns-2
+    frames-requires
+    returns-3
+    returns-4
+    spare-fault-requires
+    returns-5)

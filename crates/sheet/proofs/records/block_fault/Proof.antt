@@ -1,0 +1,24 @@
+use Rattle.sheet.proofs.FaultLaws.{block-check, block-records}
+use borrow.Author.Needs.{needs}
+use Rattle.sheet.proofs.records.block_fault.Statement.{statement}
+use Rattle.sheet.proofs.records.block_fault.Tie as tie
+use Rattle.sheet.proofs.records.block_fault.Reads as reads
+use Rattle.sheet.proofs.records.block_fault.Lts as lts
+use Rattle.sheet.proofs.records.check_fault.Reads as check-fault-reads
+use Rattle.sheet.proofs.records.records_fault.Reads as records-fault-reads
+
+check-fault-requires : tie.Need-check-fault-requires
+check-fault-requires c κs = search needs
+
+returns : tie.Need-returns
+returns c = search block-check
+
+records-fault-requires : tie.Need-records-fault-requires
+records-fault-requires c κs = search needs
+
+returns-2 : tie.Need-returns-2
+returns-2 c = search block-records
+
+pub block-fault-spec : {M : Type 1} → statement M
+block-fault-spec =
+    tie.close (tie.spec check-fault-requires returns records-fault-requires returns-2)

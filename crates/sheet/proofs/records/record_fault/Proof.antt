@@ -1,0 +1,48 @@
+use Rattle.sheet.proofs.FaultLaws.{record-high, record-good, record-first, record-second, record-clear}
+use borrow.Author.Needs.{needs}
+use Rattle.sheet.proofs.records.record_fault.Statement.{statement}
+use Rattle.sheet.proofs.records.record_fault.Tie as tie
+use Rattle.sheet.proofs.records.record_fault.Reads as reads
+use Rattle.sheet.proofs.records.record_fault.Lts as lts
+use Rattle.blocks.proofs.word.Reads as word-reads
+
+word-requires : tie.Need-word-requires
+word-requires c κs = search needs
+
+cast-decode : tie.Need-cast-decode
+cast-decode c = search needs
+
+returns : tie.Need-returns
+returns c = search record-high
+
+returns-2 : tie.Need-returns-2
+returns-2 c = search record-good
+
+returns-3 : tie.Need-returns-3
+returns-3 c = search record-first
+
+add-word : tie.Need-add-word
+add-word c = search needs
+
+word-requires-2 : tie.Need-word-requires-2
+word-requires-2 c κs = search needs
+
+returns-4 : tie.Need-returns-4
+returns-4 c = search record-second
+
+returns-5 : tie.Need-returns-5
+returns-5 c = search record-clear
+
+pub record-fault-spec : {M : Type 1} → statement M
+record-fault-spec =
+    tie.close
+    (tie.spec
+    word-requires
+    cast-decode
+    returns
+    returns-2
+    returns-3
+    add-word
+    word-requires-2
+    returns-4
+    returns-5)

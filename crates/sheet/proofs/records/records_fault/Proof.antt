@@ -1,0 +1,79 @@
+use Prim.Native.Nat.{_+_, _-_, _*_, _≤_}
+use mathlib.Core.Path.{_≡_}
+use native.Mathlib.Omega.{arith}
+use Rattle.base.specs.Refusal.{firstOf}
+use Rattle.base.proofs.RefusalLaws.{left-start, left-here, left-done}
+use Rattle.sheet.specs.Sheet.{recordFault, recordWord}
+use Rattle.sheet.proofs.FaultLaws.{left-pass}
+use borrow.Author.Needs.{needs}
+use Rattle.sheet.proofs.records.records_fault.Statement.{statement}
+use Rattle.sheet.proofs.records.records_fault.Tie as tie
+use Rattle.sheet.proofs.records.records_fault.Reads as reads
+use Rattle.sheet.proofs.records.records_fault.Lts as lts
+use Rattle.sheet.proofs.records.record_fault.Reads as record-fault-reads
+
+abbrev Inv-loop : tie.InvT-loop
+Inv-loop s n b start end i₀ w₀ i w = (i ≤ end) × (start ≤ i) × (w ≡ 128 * b + 1 + 2 * (i - start)) × (firstOf (recordFault s n) i (end - i) ≡ firstOf (recordFault s n) (63 * (b - 1)) 63)
+
+abbrev μ-loop : tie.MeasureT-loop
+μ-loop s n b start end i₀ w₀ i w = end - i
+
+sub-start : tie.Need-sub-start Inv-loop μ-loop
+sub-start c = search needs
+
+mul-start : tie.Need-mul-start Inv-loop μ-loop
+mul-start c = search needs
+
+add-end : tie.Need-add-end Inv-loop μ-loop
+add-end c = search needs
+
+mul-w : tie.Need-mul-w Inv-loop μ-loop
+mul-w c = search needs
+
+add-w : tie.Need-add-w Inv-loop μ-loop
+add-w c = search needs
+
+loop-holds : tie.Need-loop-holds Inv-loop μ-loop
+loop-holds c = (search needs, search needs, search needs, left-start _ _ 63 _ (omega arith))
+
+record-fault-requires : tie.Need-record-fault-requires Inv-loop μ-loop
+unfolding recordWord
+record-fault-requires c κs = search needs
+
+returns : tie.Need-returns Inv-loop μ-loop
+returns c = search left-here
+
+add-i : tie.Need-add-i Inv-loop μ-loop
+add-i c = search needs
+
+add-w-2 : tie.Need-add-w-2 Inv-loop μ-loop
+add-w-2 c = search needs
+
+loop-less : tie.Need-loop-less Inv-loop μ-loop
+loop-less c = search needs
+
+loop-again : tie.Need-loop-again Inv-loop μ-loop
+loop-again c = (search needs, search needs, search needs, search left-pass)
+
+returns-2 : tie.Need-returns-2 Inv-loop μ-loop
+returns-2 c = search left-done
+
+pub records-fault-spec : {M : Type 1} → statement M
+records-fault-spec =
+    tie.close
+    (tie.spec
+    Inv-loop
+    μ-loop
+    sub-start
+    mul-start
+    add-end
+    mul-w
+    add-w
+    loop-holds
+    record-fault-requires
+    returns
+    add-i
+    add-w-2
+    loop-less
+    loop-again
+    returns-2)

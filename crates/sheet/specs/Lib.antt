@@ -1,0 +1,2 @@
+-- The frame sheet: what it says, its faults, and the answer of its check.
+pub mod Sheet

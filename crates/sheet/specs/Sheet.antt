@@ -1,0 +1,115 @@
+-- The frame sheet (document 01, "The frame sheet"). s is the sheet's bytes; word j of block b is word 128 * b + j.
+-- Crates above name the sheet by sheetFault, timescaleOf, framesOf, rateNumOf, rateDenOf, decodeOf, syncOf and durationOf alone.
+use Prim.Native.Nat.{ℕ, zero, suc, _+_, _-_, _*_, _/_, _%_, _^_}
+use mathlib.Core.Bool.{Bool, cond}
+use mathlib.Core.List.{List, [], _∷_}
+use lib.ListN.{length}
+use lib.Dec.{ltb, leb, eqb}
+use Rattle.base.specs.Limits.{mostSheetTimescale, mostFrames}
+use Rattle.base.specs.Refusal.{_orElse_, faultUnless, firstOf}
+use Rattle.blocks.specs.Block.{wordAt, blockHolds}
+use Rattle.sheet.specs.declared.answer.Head.{Head}
+use Rattle.sheet.specs.declared.answer.Sheet.{Sheet}
+use Rattle.sheet.specs.declared.answer.Sheet.the-variants.{Sound, Refused}
+
+-- ---- block 0
+
+-- T, ticks a second
+unfoldable pub timescaleOf : List ℕ → ℕ
+timescaleOf s = wordAt s 1
+
+-- n, the frame count
+unfoldable pub framesOf : List ℕ → ℕ
+framesOf s = wordAt s 2
+
+-- the frame rate, of any value
+unfoldable pub rateNumOf : List ℕ → ℕ
+rateNumOf s = wordAt s 3
+
+unfoldable pub rateDenOf : List ℕ → ℕ
+rateDenOf s = wordAt s 4
+
+-- the fault k, unless word i is zero
+unfoldable pub spareFault : List ℕ → ℕ → ℕ → ℕ
+spareFault s k i = faultUnless (eqb (wordAt s i) 0) k
+
+-- head (13): T and n within their limits, and words 5 to 126 zero
+unfoldable pub headFault : List ℕ → ℕ
+headFault s =
+    faultUnless (ltb 0 (timescaleOf s)) 13 orElse
+    faultUnless (leb (timescaleOf s) mostSheetTimescale) 13 orElse
+    faultUnless (ltb 0 (framesOf s)) 13 orElse
+    faultUnless (leb (framesOf s) mostFrames) 13 orElse
+    firstOf (spareFault s 13) 5 122
+
+-- ---- records: 63 to a block from block 1 on, two words each from word 1 on
+
+-- where record i starts
+unfoldable pub recordWord : ℕ → ℕ
+recordWord i = 128 * (1 + i / 63) + 1 + 2 * (i % 63)
+
+-- bits 0 to 30: the decode index of display frame i
+unfoldable pub decodeOf : List ℕ → ℕ → ℕ
+decodeOf s i = wordAt s (recordWord i) % 2 ^ 31
+
+-- bit 31: display frame i is a sync frame
+unfoldable pub syncOf : List ℕ → ℕ → Bool
+syncOf s i = leb (2 ^ 31) (wordAt s (recordWord i))
+
+-- the second word: the duration in ticks of the sample with decode index i
+unfoldable pub durationOf : List ℕ → ℕ → ℕ
+durationOf s i = wordAt s (recordWord i + 1)
+
+-- record i of n (14): its decode index is below n; past n both words are zero
+unfoldable pub recordFault : List ℕ → ℕ → ℕ → ℕ
+recordFault s n i =
+    cond (ltb i n)
+    (faultUnless (ltb (decodeOf s i) n) 14)
+    (spareFault s 14 (recordWord i) orElse spareFault s 14 (recordWord i + 1))
+
+-- ---- blocks
+
+-- number and check of block b (12)
+unfoldable pub checkFault : List ℕ → ℕ → ℕ
+checkFault s b = faultUnless (blockHolds s b) 12
+
+-- block b, from 1 on, of n frames: number and check before records
+unfoldable pub blockFault : List ℕ → ℕ → ℕ → ℕ
+blockFault s n b = checkFault s b orElse firstOf (recordFault s n) (63 * (b - 1)) 63
+
+-- how many blocks hold the records of n frames: n / 63, rounded up
+unfoldable pub recordBlocks : ℕ → ℕ
+recordBlocks n = (n + 62) / 63
+
+-- ---- the sheet
+
+-- the first fault, in document 01's order; 0 is none
+unfoldable pub sheetFault : List ℕ → ℕ
+sheetFault s =
+    faultUnless (ltb 0 (length s)) 11 orElse
+    faultUnless (eqb (length s % 512) 0) 11 orElse
+    checkFault s 0 orElse
+    headFault s orElse
+    faultUnless (eqb (length s) (512 * (1 + recordBlocks (framesOf s)))) 11 orElse
+    firstOf (blockFault s (framesOf s)) 1 (recordBlocks (framesOf s))
+
+-- block 0's values
+unfoldable pub headOf : List ℕ → Head
+headOf s = record { timescale = timescaleOf s; frames = framesOf s; «rate_num» = rateNumOf s; «rate_den» = rateDenOf s }
+
+-- the answer: the head where there is no fault, else the fault
+unfoldable pub answer : ℕ → Head → Sheet
+answer zero h = Sound h
+answer (suc k) h = Refused (suc k)
+
+unfoldable pub sheetOf : List ℕ → Sheet
+sheetOf s = answer (sheetFault s) (headOf s)
+
+-- an answer's number in document 01's table, and its values
+abbrev pub numberOf : Sheet → ℕ
+numberOf (Sound h) = 0
+numberOf (Refused k) = k
+
+abbrev pub valuesOf : Sheet → List ℕ
+valuesOf (Sound h) = h .timescale ∷ h .frames ∷ h .«rate_num» ∷ h .«rate_den» ∷ []
+valuesOf (Refused k) = []
