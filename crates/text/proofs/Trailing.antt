@@ -9,15 +9,15 @@ use native.Mathlib.Omega.{arith}
 use borrow.Author.Tests.{lt-ltb, le-ltb, le-leb, lt-leb, eq-eqb, ne-eqb, ltb-true, ltb-false, eqb-true, eqb-false}
 use lib.Dec.{eqb, ltb, leb}
 use lib.ListN.{length, take, drop, getD, length-append, length-drop}
-use lib.Seq.{getD-drop, getD-append-add, drop-append-add, take-append-le, take-append-seam, take-length}
+use lib.Seq.{take-suc, getD-drop, getD-append-add, drop-append-add, take-append-le, take-append-seam, take-length}
 use mathlib.Core.Bool.{cond}
 use Rattle.base.specs.Width.{byWidth}
-use Rattle.text.specs.Utf8.{leadLen, secondLow, secondHigh, tail, widthBy, charWidth, codeHead}
+use Rattle.text.specs.Utf8.{leadLen, secondLow, secondHigh, tail, widthBy, charWidth, codeBy, codeHead}
 use Rattle.base.specs.Part.{last}
 use Rattle.text.specs.White.{white, whiteHigh, whiteHead, endsWhite, whiteTail, keepFrom, trimTail}
 use Rattle.text.specs.Encode.{encode, Scalar}
 use Rattle.base.proofs.Laws.{yes!, no! }
-use Rattle.text.proofs.Laws.{keep-step, keep-none}
+use Rattle.text.proofs.Laws.{keep-step, keep-none, white-ascii}
 use Rattle.text.proofs.Encoding.{encoded, encode-long, white-encoded}
 
 -- ---- bounds on a character's width
@@ -166,6 +166,17 @@ case-1 u w h e s =
     tail-1 (s ++ (u ∷ [])) w (own s (u ∷ []) w e refl)
     (not-ends _ 2 1 (width-low _ (second-1 u h s)) (omega arith))
     (not-ends _ 3 2 (width-third _ (third-1 u h s)) (omega arith))
+
+-- a last byte below 80 is told by itself
+pub tail-ascii : (s : List ℕ) (n a w : ℕ) → n ≡ length s - 1 → a ≡ getD s n 0 → a < 0x80 → w ≡ cond (white a) 1 0 → w ≡ whiteTail s
+unfolding whiteTail endsWhite last whiteHead white codeHead codeBy charWidth widthBy leadLen
+tail-ascii [] n a w en ea h e = e ∙ ap (λ (u : ℕ). cond (white u) 1 0) ea
+tail-ascii (x ∷ s) n a w en ea h e =
+    let k : n ≡ length s = omega arith in
+    let f : getD (x ∷ s) (length s) 0 ≡ a = ap (λ (m : ℕ). getD (x ∷ s) m 0) (sym k) ∙ sym ea in
+    let q : (x ∷ s) ≡ take (length s) (x ∷ s) ++ (a ∷ []) =
+    sym (take-length (x ∷ s)) ∙ take-suc (x ∷ s) (length s) 0 (omega arith) ∙ ap (λ (b : ℕ). take (length s) (x ∷ s) ++ (b ∷ [])) f in
+    e ∙ sym (ap whiteTail q ∙ case-1 a (white a) h (sym (white-ascii (a ∷ []) a _ refl h refl)) (take (length s) (x ∷ s)))
 
 -- ---- two bytes
 third-2 : (a b : ℕ) → 0xBF < a → 2 ≡ charWidth (a ∷ b ∷ []) → (s : List ℕ) → endsWhite (s ++ (a ∷ b ∷ [])) 3 ≡ false
