@@ -6,10 +6,10 @@ use mathlib.Core.Path.{_≡_, refl, sym, ap, _∙_}
 use mathlib.Core.List.{List, [], _∷_, _++_, append-assoc, append-nil}
 use Prim.Native.Nat.{ℕ, zero, suc, _+_, _-_, _≤_, _<_}
 use native.Mathlib.Omega.{arith}
-use native.Mathlib.Nat.{le-refl, le-of-eq, not-suc-le-zero}
+use native.Mathlib.Nat.{le-refl, le-of-eq, not-suc-le-zero, zero-add}
 use native.Mathlib.Numerals.{add-one}
 use lib.ListN.{length, take, drop, getD, set, length-append, length-drop, length-take, drop-of-length-le, take-append-drop}
-use lib.Seq.{take-all, take-at, drop-at, take-suc, drop-drop, drop-cons, set-at, length-take-le, take-append-seam, drop-append-seam}
+use lib.Seq.{sets, sets-eq, take-all, take-at, drop-at, take-suc, drop-drop, drop-cons, set-at, length-take-le, take-append-seam, drop-append-seam}
 use Rattle.base.specs.Put.{put, putAt, placed, placedLength, placedAt, placeAfter}
 
 pub put-nil : (l : List ℕ) → put [] l ≡ l
@@ -175,3 +175,8 @@ placed-room v l n e = go (leb (length v) (length l)) refl e
 
 pub none-placed : (l : List ℕ) → (0 ≡ placedLength [] l) × (l ≡ placed [] l)
 none-placed l = (sym (length-yes [] l (omega arith)), sym (placed-yes [] l (omega arith) ∙ put-nil l))
+
+-- a run of stores from the first place on is a piece at the start
+pub sets-put : (v l : List ℕ) → length v ≤ length l → sets l 0 v ≡ put v l
+unfolding put
+sets-put v l h = rw (sets-eq v l 0 (omega arith), zero-add)

@@ -5,7 +5,10 @@ use mathlib.Core.List.{List, [], _∷_}
 use Prim.Native.Nat.{ℕ, zero, suc, _+_, _-_, _≤_, _<_}
 use native.Mathlib.Nat.{not-suc-le-zero, le-of-suc-le-suc}
 use native.Mathlib.Omega.{arith}
+use borrow.Author.Tests.{ltb-true, ltb-false}
+use lib.Dec.{ltb}
 use lib.ListN.{length, take, drop}
+use lib.Seq.{take-all}
 use Rattle.text.specs.Find.{starts, first}
 use Rattle.text.specs.Line.{ontoFirst}
 use Rattle.text.specs.Piece.{piecesFrom, pieces}
@@ -43,6 +46,17 @@ pieces-some p (b ∷ s) n h = go (starts p (b ∷ s)) h (pieces-some p s n)
     go false l ih =
         let q : suc (first p s) + length p ≡ suc (first p s + length p) = omega arith in
         ap (ontoFirst b) (ih (le-of-suc-le-suc l)) ∙ ap (λ (k : ℕ). (b ∷ take (first p s) s) ∷ piecesFrom p (drop k (b ∷ s)) 0) (sym q)
+
+-- the first piece ends at k, the first place of p; where that is the end, it is the only one
+pub pieces-head : (p s : List ℕ) (k : ℕ) → 0 < length p → k ≡ first p s → pieces p s ≡ take k s ∷ cond (ltb k (length s)) (pieces p (drop (k + length p) s)) []
+pieces-head p s k n e = go (ltb k (length s)) refl
+  where
+    go : (t : Bool) → ltb k (length s) ≡ t → pieces p s ≡ take k s ∷ cond t (pieces p (drop (k + length p) s)) []
+    go true q =
+        subst (λ (j : ℕ). pieces p s ≡ take j s ∷ pieces p (drop (j + length p) s)) (sym e) (pieces-some p s n (subst (λ (j : ℕ). j < length s) e (ltb-true k (length s) q)))
+    go false q =
+        let l : length s ≤ k = ltb-false k (length s) q in
+        pieces-none p s (subst (λ (j : ℕ). length s ≤ j) e l) ∙ ap (λ (x : List ℕ). x ∷ []) (sym (take-all k s l))
 
 -- there is always one
 pub pieces-one : (p s : List ℕ) → 0 < length (pieces p s)
