@@ -6,10 +6,10 @@ use mathlib.Core.Path.{_≡_, refl, sym, ap, _∙_}
 use mathlib.Core.List.{List, [], _∷_, _++_, append-assoc, append-nil}
 use Prim.Native.Nat.{ℕ, zero, suc, _+_, _-_, _≤_, _<_}
 use native.Mathlib.Omega.{arith}
-use native.Mathlib.Nat.{le-refl, le-of-eq, not-suc-le-zero}
+use native.Mathlib.Nat.{le-refl, le-of-eq, not-suc-le-zero, zero-add}
 use native.Mathlib.Numerals.{add-one}
 use lib.ListN.{length, take, drop, getD, set, length-append, length-drop, length-take, drop-of-length-le, take-append-drop}
-use lib.Seq.{take-all, take-at, drop-at, take-suc, drop-drop, drop-cons, set-at, length-take-le, take-append-seam, drop-append-seam}
+use lib.Seq.{sets, sets-eq, take-all, take-at, drop-at, take-suc, drop-drop, drop-cons, set-at, length-take-le, take-append-seam, drop-append-seam}
 use Rattle.base.specs.Put.{put, putAt, placed, placedLength, placedAt, placeAfter}
 
 pub put-nil : (l : List ℕ) → put [] l ≡ l
@@ -197,3 +197,8 @@ pub pair-short : (l : List ℕ) (at a b : ℕ) → at ≤ length l → length l 
 pair-short l at a b h k =
     let f : length l < at + 2 = omega arith in
     (sym (after-no at (a ∷ b ∷ []) l f), sym (at-no at (a ∷ b ∷ []) l f))
+
+-- a run of stores from the first place on is a piece at the start
+pub sets-put : (v l : List ℕ) → length v ≤ length l → sets l 0 v ≡ put v l
+unfolding put
+sets-put v l h = rw (sets-eq v l 0 (omega arith), zero-add)

@@ -17,6 +17,10 @@ mostListBytes = 65536
 abbrev pub mostTrims : ℕ
 mostTrims = 1024
 
+-- the lent places for a list's ranges, two numbers each
+abbrev pub mostPlaces : ℕ
+mostPlaces = 2 * mostTrims
+
 -- the largest frame number, and number of a frame that is read: 2^32 - 1
 abbrev pub mostFrame : ℕ
 mostFrame = 4294967295

@@ -6,10 +6,12 @@ pub const MOST_SHEET_TIMESCALE: u32 = 1000000;
 // Frames of a sheet.
 pub const MOST_FRAMES: u32 = 1048576;
 
-// Bytes and trims of a trim list, and the largest number in one.
+// Bytes and trims of a trim list, the places for its ranges, and the largest number in one.
 pub const MOST_LIST_BYTES: usize = 65536;
 
 pub const MOST_TRIMS: usize = 1024;
+
+pub const MOST_PLACES: usize = 2048;
 
 pub const MOST_FRAME: u32 = 4294967295;
 

@@ -6,16 +6,16 @@ use Prim.Native.Nat.{ℕ, zero, suc, _+_, _*_, _-_, _≤_, _<_}
 use native.Mathlib.Nat.{le-of-suc-le-suc, not-suc-le-zero, zero-sub, sub-zero, suc-sub-suc, le-trans}
 use native.Mathlib.Omega.{arith}
 use native.Mathlib.Numerals.{add-one}
-use borrow.Author.Tests.{lt-ltb, le-ltb, le-leb, lt-leb, eq-eqb, ne-eqb, ltb-true}
+use borrow.Author.Tests.{lt-ltb, le-ltb, le-leb, lt-leb, eq-eqb, ne-eqb, ltb-true, eqb-true}
 use lib.Dec.{eqb, ltb, leb}
 use lib.Seq.{drop-nil}
 use lib.ListN.{length, take, drop, getD, length-drop}
-use mathlib.Core.Bool.{cond}
+use mathlib.Core.Bool.{cond, true≢false}
 use Rattle.base.specs.Width.{byWidth}
 use Rattle.base.proofs.Laws.{yes!, no!, drop-less, less-less}
-use Rattle.text.specs.Utf8.{leadLen, widthBy, charWidth, utf8From, utf8, codeHead, asciiRun}
+use Rattle.text.specs.Utf8.{leadLen, widthBy, charWidth, utf8From, utf8, codeBy, codeHead, asciiRun}
 use Rattle.text.specs.White.{white, whiteHead, whiteTail, headFrom, keepFrom, trimHead, trimTail}
-use Rattle.text.specs.Find.{starts, first}
+use Rattle.text.specs.Find.{starts, equals, first}
 use Rattle.text.specs.declared.decimal.Number.{Number}
 use Rattle.text.specs.declared.decimal.Number.the-variants.{Value, Bad}
 use Rattle.text.specs.Number.{digit, digits, valueFrom, natural, unsigned, number}
@@ -121,6 +121,16 @@ pub white-none : (s : List ℕ) (u : ℕ) (t : Bool) → u ≡ codeHead s → t 
 unfolding whiteHead
 white-none s u t e f p = no! _ (ap white (sym e) ∙ sym f ∙ p) refl
 
+-- a byte below 80 at the head is a code point by itself
+code-one : (s : List ℕ) (a : ℕ) → a ≡ getD s 0 0 → a < 0x80 → a ≡ codeHead s
+unfolding codeHead codeBy
+code-one s a e h = subst (λ (n : ℕ). a ≡ codeBy n (getD s 0 0) (getD s 1 0) (getD s 2 0) (getD s 3 0)) (width-one s a e h) e
+
+pub white-ascii : (s : List ℕ) (a w : ℕ) → a ≡ getD s 0 0 → a < 0x80 → w ≡ cond (white a) 1 0 → w ≡ whiteHead s
+unfolding whiteHead
+white-ascii s a w e h d =
+    d ∙ ap (λ (u : ℕ). cond (white u) 1 0) (code-one s a e h) ∙ ap (λ (n : ℕ). cond (white (codeHead s)) n 0) (width-one s a e h)
+
 -- ---- white space at the head
 skip-head : (s : List ℕ) (k : ℕ) → headFrom s k ≡ headFrom (drop k s) 0
 unfolding headFrom
@@ -215,6 +225,60 @@ starts-same (a ∷ p) [] i h k e = absurd (not-suc-le-zero k)
 starts-same (a ∷ p) (b ∷ s) zero h k e = ap (λ (t : Bool). cond t (starts p s) false) (eq-eqb a b e)
 starts-same (a ∷ p) (b ∷ s) (suc i) h k e = starts-same p s i (le-of-suc-le-suc h) (le-of-suc-le-suc k) e
 
+-- p stands in s from i on, or its first byte is another
+pub stands-none : (p s : List ℕ) (i : ℕ) → length p ≡ 0 → true ≡ starts p (drop i s)
+unfolding starts
+stands-none [] s i h = refl
+stands-none (a ∷ p) s i h = absurd (omega arith)
+
+pub stands-other : (p s : List ℕ) (i b : ℕ) → (length p ≡ 0 → ⊥) → b ≡ getD s i 0 → (b ≡ getD p 0 0 → ⊥) → false ≡ starts p (drop i s)
+unfolding starts
+stands-other [] s i b h e n = absurd (h refl)
+stands-other (a ∷ p) [] i b h e n = ap (starts (a ∷ p)) (sym (drop-nil i))
+stands-other (a ∷ p) (x ∷ s) zero b h e n = no! _ (ne-eqb a x (λ q. n (e ∙ sym q))) refl
+stands-other (a ∷ p) (x ∷ s) (suc i) b h e n = stands-other (a ∷ p) s i b h e n
+
+pub stands-asked : (p s t : List ℕ) (i : ℕ) (f : Bool) → t ≡ drop i s → f ≡ starts p t → f ≡ starts p (drop i s)
+stands-asked p s t i f e q = q ∙ ap (starts p) e
+
+-- p and s are the same
+pub equals-starts : (p s : List ℕ) (f : Bool) → length s ≡ length p → f ≡ starts p s → f ≡ equals p s
+unfolding equals starts
+equals-starts [] [] f h e = e
+equals-starts [] (b ∷ s) f h e = absurd (omega arith)
+equals-starts (a ∷ p) [] f h e = e
+equals-starts (a ∷ p) (b ∷ s) f h e = e ∙ ap (λ (t : Bool). cond (eqb a b) t false) (equals-starts p s (starts p s) (omega arith) refl)
+
+pub equals-other : (p s : List ℕ) → (length s ≡ length p → ⊥) → false ≡ equals p s
+unfolding equals
+equals-other [] [] h = absurd (h refl)
+equals-other [] (b ∷ s) h = refl
+equals-other (a ∷ p) [] h = refl
+equals-other (a ∷ p) (b ∷ s) h = go (eqb a b) (equals-other p s (λ q. h (ap suc q)))
+  where
+    go : (t : Bool) → false ≡ equals p s → false ≡ cond t (equals p s) false
+    go true e = e
+    go false e = refl
+
+equals-self : (s : List ℕ) → equals s s ≡ true
+unfolding equals
+equals-self [] = refl
+equals-self (b ∷ s) = sym (yes! _ (eq-eqb b b refl) (sym (equals-self s)))
+
+pub equals-same : (p s : List ℕ) → p ≡ s → equals p s ≡ true
+equals-same p s e = ap (equals p) (sym e) ∙ equals-self p
+
+pub equals-true : (p s : List ℕ) → equals p s ≡ true → p ≡ s
+unfolding equals
+equals-true [] [] e = refl
+equals-true [] (b ∷ s) e = absurd (true≢false (sym e))
+equals-true (a ∷ p) [] e = absurd (true≢false (sym e))
+equals-true (a ∷ p) (b ∷ s) e = go (eqb a b) refl e (equals-true p s)
+  where
+    go : (t : Bool) → eqb a b ≡ t → cond t (equals p s) false ≡ true → (equals p s ≡ true → p ≡ s) → _≡_ {A = List ℕ} (a ∷ p) (b ∷ s)
+    go true q f ih = ap (λ (x : ℕ). x ∷ p) (eqb-true a b q) ∙ ap (λ (l : List ℕ). b ∷ l) (ih f)
+    go false q f ih = absurd (true≢false (sym f))
+
 pub first-end : (p s : List ℕ) → length s ≤ 0 → 0 ≡ first p s
 unfolding first
 first-end p [] h = refl
@@ -244,14 +308,14 @@ starts-again s p i inv h k e = rw add-one (inv ∙ starts-same p s i h k e)
 pub starts-passed : (s p : List ℕ) (i : ℕ) → starts p s ≡ starts (drop i p) (drop i s) → length p ≤ i → true ≡ starts p s
 starts-passed s p i inv h = starts-end p (drop i s) i h ∙ sym inv
 
-pub first-found : (s p t : List ℕ) (i : ℕ) (f : Bool) → first p s ≡ i + first p (drop i s) → t ≡ drop i s → f ≡ starts p t → f ≡ true → i ≡ first p s
-first-found s p t i f inv d e h =
-    let z : 0 ≡ first p (drop i s) = first-hit p (drop i s) (ap (starts p) (sym d) ∙ sym e ∙ h) in
+pub first-found : (s p : List ℕ) (i : ℕ) (f : Bool) → first p s ≡ i + first p (drop i s) → f ≡ starts p (drop i s) → f ≡ true → i ≡ first p s
+first-found s p i f inv e h =
+    let z : 0 ≡ first p (drop i s) = first-hit p (drop i s) (sym e ∙ h) in
     omega arith
 
-pub first-again : (s p t : List ℕ) (i : ℕ) (f : Bool) → first p s ≡ i + first p (drop i s) → i < length s → t ≡ drop i s → f ≡ starts p t → f ≡ false → first p s ≡ i + 1 + first p (drop (i + 1) s)
-first-again s p t i f inv l d e h =
-    let z : first p (drop i s) ≡ suc (first p (drop (suc i) s)) = first-miss p s i l (ap (starts p) (sym d) ∙ sym e ∙ h) in
+pub first-again : (s p : List ℕ) (i : ℕ) (f : Bool) → first p s ≡ i + first p (drop i s) → i < length s → f ≡ starts p (drop i s) → f ≡ false → first p s ≡ i + 1 + first p (drop (i + 1) s)
+first-again s p i f inv l e h =
+    let z : first p (drop i s) ≡ suc (first p (drop (suc i) s)) = first-miss p s i l (sym e ∙ h) in
     rw add-one (omega arith)
 
 pub first-none : (s p : List ℕ) (i : ℕ) → first p s ≡ i + first p (drop i s) → length s ≤ i → i ≡ first p s

@@ -6,7 +6,7 @@ use Prim.Native.Nat.{ℕ, zero, suc, _+_, _*_, _-_, _≤_, _<_}
 use native.Mathlib.Nat.{le-of-suc-le-suc, not-suc-le-zero, le-trans}
 use native.Mathlib.Omega.{arith}
 use native.Mathlib.Numerals.{add-one}
-use borrow.Author.Tests.{lt-ltb, le-ltb, eq-eqb, ne-eqb, ltb-true, ltb-false}
+use borrow.Author.Tests.{lt-ltb, le-ltb, eq-eqb, ne-eqb, ltb-true, ltb-false, leb-true}
 use lib.Dec.{eqb, ltb, leb}
 use lib.Seq.{drop-nil, drop-drop, drop-cons, length-take-le}
 use lib.ListN.{length, take, drop, getD, length-drop, length-take, length-append, take-append-drop, drop-of-length-le}
@@ -16,7 +16,7 @@ use Rattle.base.proofs.Laws.{yes!, no! }
 use Rattle.text.specs.White.{whiteHead, headFrom, keepFrom, trimHead, trimTail, trim}
 use Rattle.text.specs.declared.decimal.Number.{Number}
 use Rattle.text.specs.declared.decimal.Number.the-variants.{Value, Bad}
-use Rattle.text.specs.Number.{natural, unsigned, number}
+use Rattle.text.specs.Number.{digits, valueFrom, natural, unsigned, number}
 use Rattle.text.specs.Find.{starts, first, contains, upTo, past}
 use Rattle.text.specs.Line.{lineLength, ontoFirst, linesOf, concat, lineCount, terminatorLength, textOf, terminatorOf, isEmpty, blank, endsLine, hasLf}
 
@@ -169,11 +169,29 @@ trim-length s =
     let a : length (take (keepFrom (trimHead s) (length (trimHead s)) 0) (trimHead s)) ≤ length (trimHead s) = simp length-take (omega arith) in
     omega (arith, trim-head-length s)
 
+no-value : {A : Type 0} (v : ℕ) → Bad ≡ Value v → A
+no-value v e = absurd (let z : _≡_ {A = ℕ} 0 1 = ap (λ (x : Number). elim x [ Value k ↦ 1 | Bad ↦ 0 ]) e in omega arith)
+
+natural-most : (most v : ℕ) (s : List ℕ) → natural most s ≡ Value v → v ≤ most
+unfolding natural
+natural-most most v [] e = no-value v e
+natural-most most v (b ∷ s) e = go (digits (b ∷ s)) (leb (valueFrom 0 (b ∷ s)) most) refl e
+  where
+    go : (d l : Bool) → leb (valueFrom 0 (b ∷ s)) most ≡ l → cond d (cond l (Value (valueFrom 0 (b ∷ s))) Bad) Bad ≡ Value v → v ≤ most
+    go true true q f = subst (λ (n : ℕ). n ≤ most) (ap (λ (x : Number). elim x [ Value k ↦ k | Bad ↦ 0 ]) f) (leb-true _ _ q)
+    go true false q f = no-value v f
+    go false l q f = no-value v f
+
 -- a number that is read has a byte
 pub number-some : (most v : ℕ) (s : List ℕ) → number most s ≡ Value v → 0 < length s
 unfolding number natural unsigned
 number-some most v [] e = absurd (let z : _≡_ {A = ℕ} 0 1 = ap (λ (x : Number). elim x [ Value k ↦ 1 | Bad ↦ 0 ]) e in omega arith)
 number-some most v (b ∷ s) e = omega arith
+
+-- and is at most the bound
+pub number-most : (most v : ℕ) (s : List ℕ) → number most s ≡ Value v → v ≤ most
+unfolding number
+number-most most v s e = natural-most most v (unsigned s) e
 
 -- ---- what a session needs: lines put one behind the other are those lines
 pub line-then : (l s : List ℕ) → endsLine l ≡ true → linesOf (l ++ s) ≡ l ∷ linesOf s

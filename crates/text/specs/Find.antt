@@ -1,4 +1,4 @@
--- Where a pattern stands first in a text.
+-- A pattern in a text: at its head, as the whole, where it stands first, and the parts before and after that.
 use Prim.Native.Nat.{ℕ, zero, suc}
 use mathlib.Core.Bool.{Bool, true, false}
 use mathlib.Core.List.{List, [], _∷_}
@@ -12,6 +12,13 @@ unfoldable pub starts : List ℕ → List ℕ → Bool
 starts [] s = true
 starts (a ∷ p) [] = false
 starts (a ∷ p) (b ∷ s) = cond (eqb a b) (starts p s) false
+
+-- p and s are the same
+unfoldable pub equals : List ℕ → List ℕ → Bool
+equals [] [] = true
+equals [] (b ∷ s) = false
+equals (a ∷ p) [] = false
+equals (a ∷ p) (b ∷ s) = cond (eqb a b) (equals p s) false
 
 -- the first position in s from which p stands, or the length of s where there is none
 unfoldable pub first : List ℕ → List ℕ → ℕ

@@ -9,6 +9,7 @@ pub use decimal::number_to;
 pub use line::line_length;
 pub use line::terminator_of;
 pub use line::text_of;
+pub use pattern::equals;
 pub use pattern::find;
 pub use pattern::has;
 pub use pattern::past;

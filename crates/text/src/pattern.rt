@@ -1,6 +1,7 @@
 // Patterns in a text.
 ghost use mathlib.Core.Path.{_≡_};
-ghost use Rattle.text.specs.Find.{starts, first, contains, upTo, past};
+ghost use lib.ListN.{drop};
+ghost use Rattle.text.specs.Find.{starts, equals, first, contains, upTo, past};
 
 // Whether `s` begins with `p`.
 pub fn starts_with(s: &[u8], p: &[u8]) -> bool
@@ -19,13 +20,36 @@ pub fn starts_with(s: &[u8], p: &[u8]) -> bool
     true
 }
 
+// Whether `s` and `p` are the same bytes.
+pub fn equals(s: &[u8], p: &[u8]) -> bool
+    ensures { λ r. ⌜ r ≡ equals (now (p .entry)) (now (s .entry)) ⌝ }
+{
+    if s.len() != p.len() {
+        return false;
+    }
+    starts_with(s, p)
+}
+
+// Whether `p` stands in `s` from `i` on. Most places are ruled out by the first byte.
+fn stands(s: &[u8], i: usize, p: &[u8]) -> bool
+    ensures { λ r. ⌜ r ≡ starts (now (p .entry)) (drop i (now (s .entry))) ⌝ }
+{
+    if p.len() == 0 {
+        return true;
+    }
+    if base::byte(s, i) != p[0] {
+        return false;
+    }
+    starts_with(base::rest(s, i), p)
+}
+
 // The first position in `s` from which `p` stands, or the length of `s` where there is none.
 pub fn find(s: &[u8], p: &[u8]) -> usize
     ensures { λ r. ⌜ r ≡ first (now (p .entry)) (now (s .entry)) ⌝ }
 {
     let mut i = 0;
     while i < s.len() {
-        if starts_with(base::rest(s, i), p) {
+        if stands(s, i, p) {
             return i;
         }
         i += 1;

@@ -2,6 +2,7 @@
 use crate::utf8::char_width;
 use crate::utf8::code_head;
 ghost use mathlib.Core.Path.{_≡_};
+ghost use mathlib.Core.Bool.{cond};
 ghost use Rattle.text.specs.White.{white, whiteHigh, whiteHead, endsWhite, whiteTail, trimHead, trimTail, trim};
 ghost use Rattle.text.specs.Line.{blank};
 
@@ -55,10 +56,24 @@ fn is_white(u: u32) -> bool
     is_white_high(u)
 }
 
+// The width of the byte `a`, below 80, as a white-space character; 0: it is none.
+fn ascii_white(a: u8) -> usize
+    ensures { λ r. ⌜ r ≡ cond (white a) 1 0 ⌝ }
+{
+    if is_white(a as u32) {
+        return 1;
+    }
+    0
+}
+
 // The width of the white-space character at the head of `s`; 0: `s` begins with none.
 pub fn white_head(s: &[u8]) -> usize
     ensures { λ r. ⌜ r ≡ whiteHead (now (s .entry)) ⌝ }
 {
+    let a = base::byte(s, 0);
+    if a < 0x80 {
+        return ascii_white(a);
+    }
     if is_white(code_head(s)) {
         return char_width(s);
     }
@@ -76,6 +91,10 @@ fn ends_white(s: &[u8], k: usize) -> bool
 pub fn white_tail(s: &[u8]) -> usize
     ensures { λ r. ⌜ r ≡ whiteTail (now (s .entry)) ⌝ }
 {
+    let a = base::byte(s, base::less(s.len(), 1));
+    if a < 0x80 {
+        return ascii_white(a);
+    }
     if ends_white(s, 1) {
         return 1;
     }

@@ -15,7 +15,8 @@ use Rattle.unicode.specs.Encode.{encode, Scalar, encodeAll, Scalars, non
 use Rattle.base.proofs.Laws.{yes!, no!, drop-less}
 use Rattle.text.proofs.Laws.{utf8-end, utf8-bad, utf8-step}
 use Rattle.unicode.proofs.Encoding.{utf8-encoded}
-use Rattle.unicode.proofs.Trailing.{low-least, high-most, enc-1, enc-2, enc-3, enc-4}
+use Rattle.unicode.proofs.Trailing.{enc-1, enc-2, enc-3, enc-4}
+use Rattle.text.proofs.LastBytes.{low-least, high-most}
 
 -- what the bytes of a character of width w are known to be
 data Form : ℕ → ℕ → ℕ → ℕ → ℕ → Type 0 where

@@ -18,11 +18,8 @@ abbrev μ-loop : tie.MeasureT-loop
 loop-holds : tie.Need-loop-holds Inv-loop μ-loop
 loop-holds c = (search needs, sym (zero-add _))
 
-rest-requires : tie.Need-rest-requires Inv-loop μ-loop
-rest-requires c κs = search needs
-
-starts-with-requires : tie.Need-starts-with-requires Inv-loop μ-loop
-starts-with-requires c κs = search needs
+stands-requires : tie.Need-stands-requires Inv-loop μ-loop
+stands-requires c κs = search needs
 
 returns : tie.Need-returns Inv-loop μ-loop
 returns c = search first-found
@@ -46,8 +43,7 @@ find-spec =
     Inv-loop
     μ-loop
     loop-holds
-    rest-requires
-    starts-with-requires
+    stands-requires
     returns
     add-i
     loop-less

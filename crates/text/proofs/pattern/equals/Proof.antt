@@ -1,0 +1,16 @@
+use Rattle.text.proofs.Laws.{equals-starts, equals-other}
+use borrow.Author.Needs.{needs}
+use Rattle.text.proofs.pattern.equals.Statement.{statement}
+use Rattle.text.proofs.pattern.equals.Tie as tie
+
+returns : tie.Need-returns
+returns c = search equals-other
+
+starts-with-requires : tie.Need-starts-with-requires
+starts-with-requires c κs = search needs
+
+returns-2 : tie.Need-returns-2
+returns-2 c = search equals-starts
+
+pub equals-spec : {M : Type 1} → statement M
+equals-spec = tie.close (tie.spec returns starts-with-requires returns-2)

@@ -1,0 +1,4 @@
+pub mod TokenLaws
+pub mod TokensLaws
+pub mod RangeLaws
+pub mod ReadLaws

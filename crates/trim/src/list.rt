@@ -1,0 +1,152 @@
+// The whole list: its tokens from the left, and the ranges that they give.
+use crate::token::Token;
+use crate::token::step_of;
+ghost use mathlib.Core.Path.{_≡_};
+ghost use Prim.Native.Nat.{_+_, _*_, _≤_, _<_};
+ghost use lib.ListN.{length, take, set};
+ghost use Rattle.base.specs.Limits.{mostTrims, mostPlaces};
+ghost use Rattle.base.specs.Put.{put};
+ghost use Rattle.text.specs.Find.{first};
+ghost use Rattle.trim.specs.Token.{mark};
+ghost use Rattle.trim.specs.TrimList.{parsed, answered, tokensOf, tokensNumber, headNumber, listNumber, rangesOf, parseOf, placesOf};
+
+// What a list gives: 0 and how many ranges, or the number of the refusal and 0.
+pub struct Parsed {
+    pub number: u32,
+    pub count: usize,
+}
+
+fn next_mark(s: &[u8]) -> usize
+    ensures { λ r. ⌜ r ≡ first mark (now (s .entry)) ⌝ }
+{
+    text::find(s, b"++")
+}
+
+fn refused(n: u32) -> Parsed
+    ensures { λ r. ⌜ r ≡ parsed n 0 ⌝ }
+{
+    Parsed {
+        number: n,
+        count: 0,
+    }
+}
+
+fn taken(k: usize) -> Parsed
+    ensures { λ r. ⌜ r ≡ parsed 0 k ⌝ }
+{
+    Parsed {
+        number: 0,
+        count: k,
+    }
+}
+
+// The refusals that come before the first token's.
+fn head_number(list: &[u8]) -> u32
+    ensures { λ r. ⌜ r ≡ headNumber (now (list .entry)) ⌝ }
+{
+    if base::MOST_LIST_BYTES < list.len() {
+        return 7;
+    }
+    if text::is_utf8(list) {
+        if text::is_blank(list) {
+            return 1;
+        }
+        return 0;
+    }
+    20
+}
+
+// Writes a range at its place.
+fn store(ranges: &mut [u32], count: usize, a: u32, e: u32)
+    requires { ⌜ (count < mostTrims) × (mostPlaces ≤ length (now ranges)) ⌝ }
+    ensures { λ _. ⌜ now (ranges .exit) ≡ set (set (now (ranges .entry)) (count * 2) a) (count * 2 + 1) e ⌝ }
+{
+    ranges[count * 2] = a;
+    ranges[count * 2 + 1] = e;
+}
+
+// Reads the tokens, and writes their ranges from the start of `ranges` on.
+fn read_tokens(list: &[u8], ranges: &mut [u32]) -> Parsed
+    requires { ⌜ mostPlaces ≤ length (now ranges) ⌝ }
+    ensures { λ r. ⌜ r ≡ answered (tokensNumber mostTrims 0 (tokensOf (now (list .entry)))) (now (list .entry)) ⌝ }
+    ensures { λ r. ⌜ (r .number ≡ 0 → now (ranges .exit) ≡ put (rangesOf (now (list .entry))) (now (ranges .entry))) ⌝ }
+{
+    let mut t = list;
+    let mut prev: u32 = 0;
+    let mut count: usize = 0;
+    while count < base::MOST_TRIMS {
+        let k = next_mark(t);
+        let token = step_of(prev, base::front(t, k));
+        match token {
+            Token::Fault(n) => {
+                return refused(n);
+            }
+            Token::Range(a, e) => {
+                store(ranges, count, a, e);
+                count += 1;
+                if k >= t.len() {
+                    return taken(count);
+                }
+                let u = base::rest(t, k + 2);
+                t = u;
+                prev = e;
+            }
+        }
+    }
+    refused(7)
+}
+
+// Reads a list into places that are there for it.
+fn read(list: &[u8], ranges: &mut [u32]) -> Parsed
+    requires { ⌜ mostPlaces ≤ length (now ranges) ⌝ }
+    ensures { λ r. ⌜ r ≡ answered (listNumber (now (list .entry))) (now (list .entry)) ⌝ }
+    ensures { λ r. ⌜ r .count ≤ mostTrims ⌝ }
+    ensures { λ r. ⌜ (r .number ≡ 0 → now (ranges .exit) ≡ put (rangesOf (now (list .entry))) (now (ranges .entry))) ⌝ }
+{
+    let n = head_number(list);
+    if n != 0 {
+        return refused(n);
+    }
+    read_tokens(list, ranges)
+}
+
+// Copies the first `n` numbers.
+fn copy(ranges: &mut [u32], held: &[u32], n: usize)
+    requires { ⌜ (n ≤ length (now held)) × (length (now held) ≤ length (now ranges)) ⌝ }
+    ensures { λ _. ⌜ now (ranges .exit) ≡ put (take n (now (held .entry))) (now (ranges .entry)) ⌝ }
+{
+    let mut i = 0;
+    while i < n {
+        ranges[i] = held[i];
+        i += 1;
+    }
+}
+
+// Reads a trim list. Answers 0 and how many ranges it wrote from the start of `ranges`, two numbers each, or the number of the refusal; then
+// nothing is written.
+pub fn parse(list: &[u8], ranges: &mut [u32]) -> Parsed
+    ensures { λ r. ⌜ r ≡ parseOf (now (list .entry)) (length (now (ranges .entry))) ⌝ }
+    ensures { λ _. ⌜ now (ranges .exit) ≡ placesOf (now (list .entry)) (now (ranges .entry)) ⌝ }
+{
+    if ranges.len() < base::MOST_PLACES {
+        return refused(16);
+    }
+    let mut held = [0; 2048];
+    let r = read(list, &mut held);
+    let n = r.number;
+    if n == 0 {
+        let k = r.count;
+        copy(ranges, &held, k * 2);
+        return r;
+    }
+    r
+}
+
+// Answers 0 for a trim list, or the number of the refusal.
+pub fn check(list: &[u8]) -> u32
+    ensures { λ r. ⌜ r ≡ listNumber (now (list .entry)) ⌝ }
+{
+    let mut held = [0; 2048];
+    let r = read(list, &mut held);
+    r.number
+}

@@ -1,0 +1,104 @@
+// One token of a trim list: `Trim(a,b)`.
+use text::Number;
+ghost use mathlib.Core.Path.{_≡_};
+ghost use Rattle.text.specs.Find.{starts, first};
+ghost use Rattle.trim.specs.Token.{comma, opening, rangeOf, boundsOf, pairOf, closedOf, tokenOf, stepOf};
+ghost use Rattle.text.specs.Piece.{pieces};
+
+// What a token says: a range, end excluded, or the number of its refusal.
+pub enum Token {
+    Range(u32, u32),
+    Fault(u32),
+}
+
+fn next_comma(s: &[u8]) -> usize
+    ensures { λ r. ⌜ r ≡ first comma (now (s .entry)) ⌝ }
+{
+    text::find(s, b",")
+}
+
+fn opens(s: &[u8]) -> bool
+    ensures { λ r. ⌜ r ≡ starts opening (now (s .entry)) ⌝ }
+{
+    text::starts_with(s, b"Trim(")
+}
+
+// The range of the frames `a` to `b`, end excluded.
+fn range_of(a: u32, b: u32) -> Token
+    ensures { λ r. ⌜ r ≡ rangeOf a b ⌝ }
+{
+    if b < a {
+        return Token::Fault(4);
+    }
+    if b == base::MOST_FRAME {
+        return Token::Fault(5);
+    }
+    Token::Range(a, b + 1)
+}
+
+// The range from the two numbers as they were read.
+fn bounds_of(x: Number, y: Number) -> Token
+    ensures { λ r. ⌜ r ≡ boundsOf x y ⌝ }
+{
+    match x {
+        Number::Bad => Token::Fault(3),
+        Number::Value(a) => match y {
+            Number::Bad => Token::Fault(3),
+            Number::Value(b) => range_of(a, b),
+        },
+    }
+}
+
+// The range that `a,b` says: exactly one comma.
+fn pair_of(s: &[u8]) -> Token
+    ensures { λ r. ⌜ r ≡ pairOf (pieces comma (now (s .entry))) ⌝ }
+{
+    let k = next_comma(s);
+    if k < s.len() {
+        let u = base::rest(s, k + 1);
+        if next_comma(u) < u.len() {
+            return Token::Fault(2);
+        }
+        let x = text::number_to(text::trimmed(base::front(s, k)), base::MOST_FRAME);
+        let y = text::number_to(text::trimmed(u), base::MOST_FRAME);
+        return bounds_of(x, y);
+    }
+    Token::Fault(2)
+}
+
+// What stands after `Trim(`: the pair, and a closing bracket as the last byte.
+fn closed_of(r: &[u8]) -> Token
+    ensures { λ q. ⌜ q ≡ closedOf (now (r .entry)) ⌝ }
+{
+    let n = base::less(r.len(), 1);
+    if base::byte(r, n) == 0x29 {
+        return pair_of(base::front(r, n));
+    }
+    Token::Fault(2)
+}
+
+// The range that a trimmed token says.
+fn token_of(t: &[u8]) -> Token
+    ensures { λ r. ⌜ r ≡ tokenOf (now (t .entry)) ⌝ }
+{
+    if opens(t) {
+        return closed_of(base::rest(t, 5));
+    }
+    Token::Fault(2)
+}
+
+// The range that a token says after ranges that end at `prev`.
+pub fn step_of(prev: u32, t: &[u8]) -> Token
+    ensures { λ r. ⌜ r ≡ stepOf prev (now (t .entry)) ⌝ }
+{
+    let k = token_of(text::trimmed(t));
+    match k {
+        Token::Fault(n) => Token::Fault(n),
+        Token::Range(a, e) => {
+            if a < prev {
+                return Token::Fault(6);
+            }
+            Token::Range(a, e)
+        }
+    }
+}
