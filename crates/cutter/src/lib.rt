@@ -1,0 +1,65 @@
+// The C functions for the Rust cutter: thin wrappers with the contracts of what they call. include/retimer.h declares them.
+ghost use mathlib.Core.Path.{_≡_};
+ghost use Rattle.sheet.specs.Sheet.{sheetOf, numberOf};
+ghost use Rattle.trim.specs.TrimList.{listNumber};
+ghost use Rattle.time.specs.Kind.{unitsOf};
+ghost use Rattle.time.specs.Convert.{ticksOf, startUnits, endUnits, unitsNumber, ticksNumber, convertedTo};
+
+// The frame sheet's number: 0, or 11 to 14.
+#[no_mangle]
+pub extern "C" fn retimer_sheet_check(sheet: &[u8]) -> u32
+    ensures { λ r. ⌜ r ≡ numberOf (sheetOf (now (sheet .entry))) ⌝ }
+{
+    sheet::number(sheet::check(sheet))
+}
+
+// The trim list's number: 0, 1 to 7, or 20.
+#[no_mangle]
+pub extern "C" fn retimer_list_check(list: &[u8]) -> u32
+    ensures { λ r. ⌜ r ≡ listNumber (now (list .entry)) ⌝ }
+{
+    trim::check(list)
+}
+
+// Units to ticks, down; 0 when refused.
+#[no_mangle]
+pub extern "C" fn retimer_units_to_ticks(value: u64, timescale: u32, kind: u32) -> u64
+    ensures { λ r. ⌜ r ≡ convertedTo (unitsNumber kind timescale value) (ticksOf timescale (unitsOf kind) value) .value ⌝ }
+{
+    let c = time::units_to_ticks(value, timescale, kind);
+    c.value
+}
+
+// Ticks to units, down; 0 when refused.
+#[no_mangle]
+pub extern "C" fn retimer_ticks_to_units_floor(value: u64, timescale: u32, kind: u32) -> u64
+    ensures { λ r. ⌜ r ≡ convertedTo (ticksNumber kind timescale value) (startUnits timescale (unitsOf kind) value) .value ⌝ }
+{
+    let c = time::ticks_to_units_floor(value, timescale, kind);
+    c.value
+}
+
+// Ticks to units, up; 0 when refused.
+#[no_mangle]
+pub extern "C" fn retimer_ticks_to_units_ceil(value: u64, timescale: u32, kind: u32) -> u64
+    ensures { λ r. ⌜ r ≡ convertedTo (ticksNumber kind timescale value) (endUnits timescale (unitsOf kind) value) .value ⌝ }
+{
+    let c = time::ticks_to_units_ceil(value, timescale, kind);
+    c.value
+}
+
+// The number of a conversion from units: 0, 15 or 16.
+#[no_mangle]
+pub extern "C" fn retimer_units_number(value: u64, timescale: u32, kind: u32) -> u32
+    ensures { λ r. ⌜ r ≡ unitsNumber kind timescale value ⌝ }
+{
+    time::units_number(value, timescale, kind)
+}
+
+// The number of a conversion from ticks: 0, 15 or 16.
+#[no_mangle]
+pub extern "C" fn retimer_ticks_number(value: u64, timescale: u32, kind: u32) -> u32
+    ensures { λ r. ⌜ r ≡ ticksNumber kind timescale value ⌝ }
+{
+    time::ticks_number(value, timescale, kind)
+}
