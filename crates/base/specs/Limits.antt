@@ -31,3 +31,13 @@ mostUnits = 2 ^ 36
 
 abbrev pub mostTicks : ℕ
 mostTicks = 2 ^ 52
+
+-- ---- a time of a caption (22): its hours, minutes and seconds
+abbrev pub mostHours : ℕ
+mostHours = 9999
+
+abbrev pub mostMinutes : ℕ
+mostMinutes = 59
+
+abbrev pub mostSeconds : ℕ
+mostSeconds = 59

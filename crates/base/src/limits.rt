@@ -19,3 +19,10 @@ pub const MOST_TIMESCALE: u32 = 1000000;
 pub const MOST_UNITS: u64 = 68719476736;
 
 pub const MOST_TICKS: u64 = 4503599627370496;
+
+// Hours, minutes and seconds of a caption's time.
+pub const MOST_HOURS: u32 = 9999;
+
+pub const MOST_MINUTES: u32 = 59;
+
+pub const MOST_SECONDS: u32 = 59;
