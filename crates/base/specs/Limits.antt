@@ -39,3 +39,13 @@ mostTicks = 2 ^ 52
 -- ---- the map (15, and 16 for the lent records)
 abbrev pub mostSegments : ℕ
 mostSegments = 1024
+
+-- ---- a time of a caption (22): its hours, minutes and seconds
+abbrev pub mostHours : ℕ
+mostHours = 9999
+
+abbrev pub mostMinutes : ℕ
+mostMinutes = 59
+
+abbrev pub mostSeconds : ℕ
+mostSeconds = 59

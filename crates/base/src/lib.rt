@@ -5,8 +5,11 @@ mod write;
 
 pub use limits::MOST_FRAME;
 pub use limits::MOST_FRAMES;
+pub use limits::MOST_HOURS;
 pub use limits::MOST_LIST_BYTES;
+pub use limits::MOST_MINUTES;
 pub use limits::MOST_PLACES;
+pub use limits::MOST_SECONDS;
 pub use limits::MOST_SEGMENTS;
 pub use limits::MOST_SHEET_TIMESCALE;
 pub use limits::MOST_TICKS;

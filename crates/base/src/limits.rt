@@ -24,3 +24,10 @@ pub const MOST_TICKS: u64 = 4503599627370496;
 
 // Segments of a map.
 pub const MOST_SEGMENTS: usize = 1024;
+
+// Hours, minutes and seconds of a caption's time.
+pub const MOST_HOURS: u32 = 9999;
+
+pub const MOST_MINUTES: u32 = 59;
+
+pub const MOST_SECONDS: u32 = 59;

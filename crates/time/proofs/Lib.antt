@@ -1,5 +1,9 @@
--- Laws of kinds, of conversions and of drift.
+-- Laws of kinds, conversions and drift, and of times as text.
 pub mod Scale
 pub mod Conversions
-pub mod Limits
 pub mod Drift
+pub mod Limits
+pub mod Pad
+pub mod Written
+pub mod Reading
+pub mod RoundTrip

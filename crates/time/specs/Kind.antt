@@ -10,3 +10,15 @@ kindBad kind = cond (eqb kind 0) false (cond (eqb kind 1) false true)
 -- U, the units of a second: 100 for ASS, 1000 for SRT
 unfoldable pub unitsOf : ℕ → ℕ
 unitsOf kind = cond (eqb kind 0) 100 (cond (eqb kind 1) 1000 0)
+
+-- the mark before the fraction: `.` in ASS, `,` in SRT
+unfoldable pub markOf : ℕ → ℕ
+markOf kind = cond (eqb kind 0) 46 (cond (eqb kind 1) 44 0)
+
+-- the digits of a written fraction: two in ASS, three in SRT
+unfoldable pub fractionDigits : ℕ → ℕ
+fractionDigits kind = cond (eqb kind 0) 2 (cond (eqb kind 1) 3 0)
+
+-- the least digits of written hours: ASS has no padding, SRT at least two
+unfoldable pub hourDigits : ℕ → ℕ
+hourDigits kind = cond (eqb kind 0) 1 (cond (eqb kind 1) 2 0)

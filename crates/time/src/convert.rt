@@ -17,7 +17,7 @@ const CORE_TIMESCALE: u32 = 1000000000;
 
 const CORE_UNITS: u64 = 137438953472;
 
-const CORE_TICKS: u64 = 4503599627370497;
+const CORE_TICKS: u64 = base::MOST_TICKS + 1;
 
 // Whether T, the ticks a second, is out of range.
 pub fn timescale_bad(timescale: u32) -> bool

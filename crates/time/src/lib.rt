@@ -1,6 +1,8 @@
-// Caption times: conversions between units (U to the second) and ticks (T to the second), for each kind of captions.
+// Caption times of each kind: conversions between units (U to the second) and ticks (T to the second), and times as text.
 mod convert;
 mod kind;
+mod read;
+mod write;
 
 pub use convert::Converted;
 pub use convert::core_end;
@@ -13,4 +15,9 @@ pub use convert::timescale_bad;
 pub use convert::units_number;
 pub use convert::units_to_ticks;
 pub use kind::kind_bad;
+pub use kind::mark_of;
 pub use kind::units_of;
+pub use read::Time;
+pub use read::read_time;
+pub use write::write_time;
+pub use write::write_time_at;

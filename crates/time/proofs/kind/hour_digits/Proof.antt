@@ -1,0 +1,19 @@
+use Rattle.base.proofs.Laws.{chain}
+use Rattle.time.specs.Kind.{hourDigits}
+use Rattle.time.proofs.kind.hour_digits.Statement.{statement}
+use Rattle.time.proofs.kind.hour_digits.Tie as tie
+
+returns : tie.Need-returns
+unfolding hourDigits
+returns c = search chain depth 12
+
+returns-2 : tie.Need-returns-2
+unfolding hourDigits
+returns-2 c = search chain depth 12
+
+returns-3 : tie.Need-returns-3
+unfolding hourDigits
+returns-3 c = search chain depth 12
+
+pub hour-digits-spec : {M : Type 1} → statement M
+hour-digits-spec = tie.close (tie.spec returns returns-2 returns-3)
