@@ -2,3 +2,4 @@ pub mod TokenLaws
 pub mod TokensLaws
 pub mod RangeLaws
 pub mod ReadLaws
+pub mod Vectors

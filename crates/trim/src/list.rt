@@ -147,6 +147,6 @@ pub fn check(list: &[u8]) -> u32
     ensures { λ r. ⌜ r ≡ listNumber (now (list .entry)) ⌝ }
 {
     let mut held = [0; 2048];
-    let r = read(list, &mut held);
-    r.number
+    let told = read(list, &mut held);
+    told.number
 }
