@@ -2,3 +2,6 @@
 pub mod Hit
 pub mod Decide
 pub mod Fates
+pub mod Says
+pub mod Emit
+pub mod Told

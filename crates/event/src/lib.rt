@@ -2,6 +2,7 @@
 mod meeting;
 mod retiming;
 mod setting;
+mod telling;
 
 pub use meeting::Hit;
 pub use meeting::Met;
@@ -10,3 +11,5 @@ pub use retiming::Decision;
 pub use retiming::Retimed;
 pub use retiming::decide;
 pub use setting::Config;
+pub use telling::Counted;
+pub use telling::Told;

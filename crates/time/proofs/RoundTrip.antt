@@ -13,10 +13,10 @@ use Rattle.text.specs.declared.decimal.Number.the-variants.{Value}
 use Rattle.text.specs.Number.{digit, digits, valueFrom, natural, unsigned, number}
 use Rattle.text.specs.Find.{starts, first, upTo, past}
 use Rattle.text.specs.White.{white, whiteHigh, trimHead, trimTail, trim}
-use Rattle.text.specs.Encode.{encode, Scalar}
+use Rattle.unicode.specs.Encode.{encode, Scalar}
 use Rattle.text.proofs.Laws.{digit-some, natural-value, unsigned-none}
-use Rattle.text.proofs.Encoding.{head-other}
-use Rattle.text.proofs.Trailing.{tail-other}
+use Rattle.unicode.proofs.Encoding.{head-other}
+use Rattle.unicode.proofs.Trailing.{tail-other}
 use Rattle.time.specs.declared.read.Time.the-variants.{At}
 use Rattle.base.specs.Limits.{mostHours, mostMinutes, mostSeconds}
 use Rattle.time.specs.Kind.{kindBad, unitsOf, markOf, fractionDigits, hourDigits}

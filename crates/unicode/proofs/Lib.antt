@@ -3,3 +3,4 @@ pub mod Trailing
 pub mod Decoding
 pub mod Trimming
 pub mod Vectors
+pub mod BlankLaws

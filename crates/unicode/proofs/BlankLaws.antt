@@ -10,12 +10,12 @@ use lib.ListN.{length, take, drop, take-append-drop, drop-of-length-le}
 use lib.Seq.{take-nil, length-take-le}
 use Rattle.base.specs.Width.{byWidth}
 use Rattle.base.specs.Part.{last}
 use Rattle.text.specs.Utf8.{charWidth, codeHead}
 use Rattle.text.specs.White.{white, whiteHead, endsWhite, whiteTail, headFrom, keepFrom, trimHead, trimTail, trim}
 use Rattle.text.specs.Line.{isEmpty, blank}
-use Rattle.text.specs.Encode.{encode, Scalar}
-use Rattle.text.proofs.Encoding.{white-encoded, encode-long}
-use Rattle.text.proofs.Decoding.{decoded}
+use Rattle.unicode.specs.Encode.{encode, Scalar}
+use Rattle.unicode.proofs.Encoding.{white-encoded, encode-long}
+use Rattle.unicode.proofs.Decoding.{decoded}
 
 -- a front of u that is a white-space character as a whole stands at u's head
 front-white : (u : List ℕ) (m : ℕ) → 0 < m → m ≤ length u → m ≤ whiteHead (take m u) → whiteHead u ≡ 0 → ⊥
