@@ -9,13 +9,12 @@ use lib.ListN.{length}
 use borrow.Author.Tests.{lt-ltb, le-ltb, le-leb, lt-leb, eq-eqb, ne-eqb}
 use Rattle.base.specs.Limits.{mostSheetTimescale, mostFrames}
 use Rattle.base.specs.Refusal.{_orElse_, faultUnless, firstOf}
-use Rattle.base.proofs.RefusalLaws.{unless-held, unless-failed, else-none, else-found, else-here, else-next, left-here, left-next}
+use Rattle.base.proofs.RefusalLaws.{unless-held, unless-failed, else-none, else-here, else-next, left-here, left-next}
 use Rattle.base.proofs.Laws.{lt-via, le-via, yes!, no! }
 use Rattle.blocks.specs.Block.{wordAt, blockHolds}
 use Rattle.sheet.specs.Sheet.{timescaleOf, framesOf, rateNumOf, rateDenOf, spareFault, headFault, recordWord, decodeOf, syncOf, durationOf, recordFault, checkFault, blockFault, recordBlocks, sheetFault}
 use Rattle.sheet.specs.Sheet.{headOf, answer, sheetOf}
 use Rattle.sheet.specs.declared.answer.Head.{Head}
-use Rattle.sheet.specs.declared.answer.Sheet.{Sheet}
 use Rattle.sheet.specs.declared.answer.Sheet.the-variants.{Sound, Refused}
 
 -- ---- a test at the head of a chain: it fails, and k is the answer; it holds, and the rest answers

@@ -1,13 +1,13 @@
 -- Laws of the frame sheet that crates above cite.
-use Prim.Native.Nat.{ℕ, zero, suc, _+_, _-_, _*_, _/_, _%_, _^_, _≤_, _<_}
+use Prim.Native.Nat.{ℕ, zero, suc, _+_, _/_, _^_, _≤_, _<_}
 use mathlib.Core.Bool.{Bool}
 use mathlib.Core.List.{List, [], _∷_}
 use mathlib.Core.Logic.{_⊎_, inl, inr}
-use mathlib.Core.Path.{_≡_, refl, sym, ap, subst, _∙_}
+use mathlib.Core.Path.{_≡_, refl, sym, ap, _∙_}
 use native.Mathlib.Omega.{arith}
 use lib.Dec.{ltb}
-use lib.ListN.{length, getD}
-use borrow.Author.Tests.{lt-ltb, ltb-true, leb-true, eqb-true}
+use lib.ListN.{getD}
+use borrow.Author.Tests.{lt-ltb, ltb-true, leb-true}
 use Rattle.base.specs.Limits.{mostSheetTimescale, mostFrames}
 use Rattle.base.specs.Refusal.{_orElse_, faultUnless, firstOf}
 use Rattle.base.proofs.RefusalLaws.{held, else-zero, first-zero}
@@ -22,7 +22,6 @@ use Rattle.sheet.proofs.RefusalNumbers.{else-numbers, cond-numbers, unl
 -- ---- a sheet without a fault
 record SoundParts (s : List ℕ) : Type 0 where
   pub head : headFault s ≡ 0
-  pub long : length s ≡ 512 * (1 + recordBlocks (framesOf s))
   pub blocks : firstOf (blockFault s (framesOf s)) 1 (recordBlocks (framesOf s)) ≡ 0
 
 sound-parts : (s : List ℕ) → sheetFault s ≡ 0 → SoundParts s
@@ -31,7 +30,7 @@ sound-parts s e =
     let b = else-zero _ _ (else-zero _ _ (else-zero _ _ e .1) .1) in
     let h = else-zero _ _ (b .1) in
     let l = else-zero _ _ (h .1) in
-    record { head = h .0; long = eqb-true _ _ (held _ 11 (omega arith) (l .0)); blocks = l .1 }
+    record { head = h .0; blocks = l .1 }
 
 -- what its head has
 pub record SoundHead (s : List ℕ) : Type 0 where
@@ -56,10 +55,6 @@ head-parts s e =
 
 pub sound-head : (s : List ℕ) → sheetFault s ≡ 0 → SoundHead s
 sound-head s e = head-parts s (sound-parts s e .head)
-
--- its length
-pub sound-length : (s : List ℕ) → sheetFault s ≡ 0 → length s ≡ 512 * (1 + recordBlocks (framesOf s))
-sound-length s e = sound-parts s e .long
 
 record-inside : (s : List ℕ) (n i : ℕ) → i < n → recordFault s n i ≡ faultUnless (ltb (decodeOf s i) n) 14
 unfolding recordFault

@@ -1,6 +1,6 @@
 // The blocks after block 0: number and check, then 63 records each.
 ghost use mathlib.Core.Path.{_≡_};
-ghost use Prim.Native.Nat.{_+_, _-_, _*_, _^_, _≤_, _<_};
+ghost use Prim.Native.Nat.{_+_, _-_, _*_, _^_, _<_};
 ghost use Rattle.base.specs.Refusal.{firstOf};
 ghost use Rattle.sheet.specs.Sheet.{recordWord, recordFault, checkFault, blockFault, recordBlocks};
 
