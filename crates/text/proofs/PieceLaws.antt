@@ -1,14 +1,14 @@
--- Laws of `pieces`: the first piece, and the pieces of what stands after it.
+-- Laws of `pieces`: the first piece, the pieces of what stands after it, and all of them joined.
 use mathlib.Core.Path.{_≡_, refl, sym, ap, subst, _∙_}
-use mathlib.Core.Bool.{Bool, true, false, cond}
-use mathlib.Core.List.{List, [], _∷_}
+use mathlib.Core.Bool.{Bool, true, false, cond, true≢false}
+use mathlib.Core.List.{List, [], _∷_, _++_}
 use Prim.Native.Nat.{ℕ, zero, suc, _+_, _-_, _≤_, _<_}
 use native.Mathlib.Nat.{not-suc-le-zero, le-of-suc-le-suc}
 use native.Mathlib.Omega.{arith}
-use borrow.Author.Tests.{ltb-true, ltb-false}
-use lib.Dec.{ltb}
+use borrow.Author.Tests.{ltb-true, ltb-false, eqb-true}
+use lib.Dec.{ltb, eqb}
 use lib.ListN.{length, take, drop}
-use lib.Seq.{take-all}
+use lib.Seq.{take-all, drop-nil}
 use Rattle.text.specs.Find.{starts, first}
 use Rattle.text.specs.Line.{ontoFirst}
 use Rattle.text.specs.Piece.{piecesFrom, pieces}
@@ -68,3 +68,48 @@ pieces-one p (b ∷ s) = go (starts p (b ∷ s)) (piecesFrom p s 0)
     go true l = omega arith
     go false [] = omega arith
     go false (x ∷ l) = omega arith
+
+-- ---- the pieces with p between them are s
+unfoldable pub joined : List ℕ → List (List ℕ) → List ℕ
+joined p [] = []
+joined p (f ∷ []) = f
+joined p (f ∷ g ∷ fs) = f ++ (p ++ joined p (g ∷ fs))
+
+joined-onto : (p : List ℕ) (b : ℕ) (l : List (List ℕ)) → joined p (ontoFirst b l) ≡ b ∷ joined p l
+unfolding joined
+joined-onto p b [] = refl
+joined-onto p b (f ∷ []) = refl
+joined-onto p b (f ∷ g ∷ fs) = refl
+
+joined-next : (p : List ℕ) (l : List (List ℕ)) → 0 < length l → joined p ([] ∷ l) ≡ p ++ joined p l
+unfolding joined
+joined-next p [] h = absurd (omega arith)
+joined-next p (g ∷ fs) h = refl
+
+starts-cut : (p s : List ℕ) → starts p s ≡ true → s ≡ p ++ drop (length p) s
+unfolding starts
+starts-cut [] s e = refl
+starts-cut (a ∷ p) [] e = absurd (true≢false (sym e))
+starts-cut (a ∷ p) (b ∷ s) e = go (eqb a b) refl e (starts-cut p s)
+  where
+    go : (t : Bool) → eqb a b ≡ t → cond t (starts p s) false ≡ true → (starts p s ≡ true → s ≡ p ++ drop (length p) s) → b ∷ s ≡ a ∷ (p ++ drop (length p) s)
+    go true q f ih = ap (λ (l : List ℕ). b ∷ l) (ih f) ∙ ap (λ (x : ℕ). x ∷ (p ++ drop (length p) s)) (sym (eqb-true a b q))
+    go false q f ih = absurd (true≢false (sym f))
+
+joined-from : (p : List ℕ) → 0 < length p → (s : List ℕ) (k : ℕ) → joined p (piecesFrom p s k) ≡ drop k s
+unfolding piecesFrom pieces joined
+joined-from p n [] k = sym (drop-nil k)
+joined-from p n (b ∷ s) (suc k) = joined-from p n s k
+joined-from p n (b ∷ s) zero = go (starts p (b ∷ s)) refl (joined-from p n s)
+  where
+    go : (t : Bool) → starts p (b ∷ s) ≡ t → ((k : ℕ) → joined p (piecesFrom p s k) ≡ drop k s)
+        → joined p (cond t ([] ∷ piecesFrom p s (length p - 1)) (ontoFirst b (piecesFrom p s 0))) ≡ b ∷ s
+    go true q ih =
+        let l : 0 < length (piecesFrom p s (length p - 1)) = subst (λ (x : List (List ℕ)). 0 < length x) (sym (skip-pieces p s (length p - 1))) (pieces-one p (drop (length p - 1) s)) in
+        let m : length p ≡ suc (length p - 1) = omega arith in
+        joined-next p (piecesFrom p s (length p - 1)) l ∙ ap (λ (x : List ℕ). p ++ x) (ih (length p - 1)) ∙ sym (starts-cut p (b ∷ s) q ∙ ap (λ (j : ℕ). p ++ drop j (b ∷ s)) m)
+    go false q ih = joined-onto p b (piecesFrom p s 0) ∙ ap (λ (x : List ℕ). b ∷ x) (ih 0)
+
+pub pieces-joined : (p s : List ℕ) → 0 < length p → joined p (pieces p s) ≡ s
+unfolding pieces
+pieces-joined p s n = joined-from p n s 0

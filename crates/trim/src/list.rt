@@ -131,7 +131,7 @@ pub fn parse(list: &[u8], ranges: &mut [u32]) -> Parsed
     if ranges.len() < base::MOST_PLACES {
         return refused(16);
     }
-    let mut held = [0; 2048];
+    let mut held = [0; base::MOST_PLACES];
     let r = read(list, &mut held);
     let n = r.number;
     if n == 0 {
@@ -146,7 +146,7 @@ pub fn parse(list: &[u8], ranges: &mut [u32]) -> Parsed
 pub fn check(list: &[u8]) -> u32
     ensures { λ r. ⌜ r ≡ listNumber (now (list .entry)) ⌝ }
 {
-    let mut held = [0; 2048];
+    let mut held = [0; base::MOST_PLACES];
     let told = read(list, &mut held);
     told.number
 }

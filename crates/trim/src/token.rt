@@ -33,7 +33,8 @@ fn range_of(a: u32, b: u32) -> Token
     if b == base::MOST_FRAME {
         return Token::Fault(5);
     }
-    Token::Range(a, b + 1)
+    let e = b + 1;
+    Token::Range(a, e)
 }
 
 // The range from the two numbers as they were read.

@@ -12,12 +12,12 @@ returns-2 : tie.Need-returns-2
 unfolding rangeOf
 returns-2 c = search chain depth 12
 
-add-t4 : tie.Need-add-t4
-add-t4 c = search needs
+add-e : tie.Need-add-e
+add-e c = search needs
 
 returns-3 : tie.Need-returns-3
 unfolding rangeOf
 returns-3 c = search chain depth 12
 
 pub range-of-spec : {M : Type 1} → statement M
-range-of-spec = tie.close (tie.spec returns returns-2 add-t4 returns-3)
+range-of-spec = tie.close (tie.spec returns returns-2 add-e returns-3)
