@@ -161,11 +161,13 @@ def trim_list(r, n=None, damaged=0.4):
 def conversion(r):
     way = r.randrange(3)
     t = r.choice([1, 2, 24, 1000, 24000, 30000, 90000, 999999, 1000000, r.randint(1, 1000000)])
-    if r.random() < 0.05:
+    if r.random() < 0.02:
         t = r.choice([0, 1000001, 0xFFFFFFFF])
     u = r.choice([100, 1000]) if r.random() < 0.97 else r.choice([0, 1, 99, 101, 999, 1001])
     limit = 1 << 36 if way == 0 else 1 << 52
-    v = r.choice([r.randint(0, 5000), r.randint(0, 1 << 30), r.randint(0, limit), limit - r.randint(0, 3), limit + r.randint(0, 3), r.getrandbits(64)])
+    v = r.choice([r.randint(0, 5000), r.randint(0, 1 << 30), r.randint(0, limit), r.randint(0, limit), limit - r.randint(0, 3)])
+    if r.random() < 0.04:
+        v = r.choice([limit + r.randint(1, 3), r.getrandbits(64)])
     if r.random() < 0.3:  # around a whole second
         v = max(0, min(v - v % max(t, 1) + r.randint(-2, 2), (1 << 64) - 1))
     return case(4, t, u, way, x=struct.pack('<Q', v))
