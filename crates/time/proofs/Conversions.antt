@@ -1,8 +1,6 @@
 -- Laws of the three conversions, for any T and U above 0: how each rounds, and that larger times give larger ones.
-use Prim.Native.Nat.{ℕ, suc, zero, _+_, _-_, _*_, _/_, _≤_, _<_}
-use mathlib.Core.Path.{_≡_, refl, sym, _∙_, ap}
-use native.Mathlib.Omega.{arith}
-use Rattle.time.specs.Convert.{scaledUp, ticksOf, startUnits, endUnits}
+use Prim.Native.Nat.{ℕ, _+_, _-_, _*_, _≤_, _<_}
+use Rattle.time.specs.Convert.{ticksOf, startUnits, endUnits}
 use Rattle.time.proofs.Scale.{down-low, down-high, up-low, up-high, up-down, down-up, down-mono, up-mono, down-add}
 
 module _ (T U : ℕ) where

@@ -1,6 +1,6 @@
 -- The drift bounds hold for any T and U above 0, and for any source start q and output start o: however many stretches came before.
-use Prim.Native.Nat.{ℕ, suc, zero, _+_, _-_, _*_, _/_, _≤_, _<_}
-use mathlib.Core.Path.{_≡_, refl, sym, _∙_, ap}
+use Prim.Native.Nat.{ℕ, _+_, _-_, _*_, _≤_, _<_}
+use mathlib.Core.Path.{_≡_, sym, _∙_, ap}
 use native.Mathlib.Nat.{add-mul, mul-comm}
 use native.Mathlib.Omega.{arith}
 use Rattle.time.specs.Convert.{ticksOf, startUnits, endUnits}

@@ -6,4 +6,6 @@ pub mod Limits
 pub mod Pad
 pub mod Written
 pub mod Reading
+pub mod Free
 pub mod RoundTrip
+mod Examples

@@ -1,17 +1,17 @@
 -- Reading what was written gives the units back (hours up to 9,999).
-use Prim.Native.Nat.{ℕ, zero, suc, _+_, _-_, _*_, _/_, _%_, _^_, _≤_, _<_, max}
+use Prim.Native.Nat.{ℕ, zero, suc, _+_, _-_, _*_, _/_, _%_, _^_, _≤_, _<_}
 use mathlib.Core.Path.{_≡_, refl, ap, sym, subst, _∙_}
-use mathlib.Core.Bool.{Bool, true, false, cond}
+use mathlib.Core.Bool.{Bool, true, false}
 use mathlib.Core.List.{List, [], _∷_, _++_, append-assoc, append-nil}
-use lib.ListN.{length, take, drop, getD, length-append}
-use lib.Seq.{take-append-seam, drop-append-seam, drop-drop, append-snoc}
+use lib.ListN.{length, getD}
+use lib.Seq.{append-snoc}
 use native.Mathlib.Nat.{div-add-mod', mod-lt, div-lt-iff-lt-mul, pow-le-pow-right, lt-of-lt-of-le, pow-suc, mul-assoc}
 use native.Mathlib.Omega.{arith}
-use borrow.Author.Tests.{eq-eqb, ne-eqb, lt-ltb, le-ltb, le-leb, lt-leb}
+use borrow.Author.Tests.{ne-eqb, lt-ltb, le-ltb, lt-leb}
 use Rattle.base.proofs.Laws.{yes!, no! }
 use Rattle.text.specs.declared.decimal.Number.the-variants.{Value}
-use Rattle.text.specs.Number.{digit, digits, valueFrom, natural, unsigned, number}
-use Rattle.text.specs.Find.{starts, first, upTo, past}
+use Rattle.text.specs.Number.{digits, valueFrom, natural, number}
+use Rattle.text.specs.Find.{upTo, past}
 use Rattle.text.specs.White.{white, whiteHigh, trimHead, trimTail, trim}
 use Rattle.unicode.specs.Encode.{encode, Scalar}
 use Rattle.text.proofs.Laws.{digit-some, natural-value, unsigned-none}
@@ -20,10 +20,11 @@ use Rattle.unicode.proofs.Trailing.{tail-other}
 use Rattle.time.specs.declared.read.Time.the-variants.{At}
 use Rattle.base.specs.Limits.{mostHours, mostMinutes, mostSeconds}
 use Rattle.time.specs.Kind.{kindBad, unitsOf, markOf, fractionDigits, hourDigits}
-use Rattle.time.specs.Read.{colon, timeFrom, timeWith, timeIn}
+use Rattle.time.specs.Read.{colon, timeWith, timeIn}
 use Rattle.time.specs.Write.{pad, width, widest, textWith, timeText}
 use Rattle.time.proofs.Limits.{units-low, fraction-low, fraction-holds, mark-plain}
-use Rattle.time.proofs.Written.{text-some}
+use Rattle.time.proofs.Written.{text-some, text-none}
+use Rattle.time.proofs.Free.{Free, free-append, up-byte, past-byte}
 use Rattle.time.proofs.Pad.{pad-length, width-pos, width-pow}
 
 -- a list of digits, and a byte that is none
@@ -43,20 +44,9 @@ unfolding pad
 pad-digits zero n = tt
 pad-digits (suc k) n = digits-snoc (pad k (n / 10)) (48 + n % 10) (pad-digits k (n / 10)) (omega arith) (omega arith)
 
--- the parts about a mark
-first-digits : (c : ℕ) → Mark c → (xs ys : List ℕ) → Digits xs → first (c ∷ []) (xs ++ c ∷ ys) ≡ length xs
-unfolding first starts
-first-digits c m [] ys d = rw (eq-eqb c c refl)
-first-digits c m (b ∷ xs) ys d = rw (ne-eqb c b (m b (d .0 .0) (d .0 .1))) (ap suc (first-digits c m xs ys (d .1)))
-
-up-digits : (c : ℕ) → Mark c → (xs ys : List ℕ) → Digits xs → upTo (c ∷ []) (xs ++ c ∷ ys) ≡ xs
-unfolding upTo
-up-digits c m xs ys d = ap (λ (n : ℕ). take n (xs ++ c ∷ ys)) (first-digits c m xs ys d) ∙ take-append-seam xs (c ∷ ys)
-
-past-digits : (c : ℕ) → Mark c → (xs ys : List ℕ) → Digits xs → past (c ∷ []) (xs ++ c ∷ ys) ≡ ys
-unfolding past
-past-digits c m xs ys d =
-    ap (λ (n : ℕ). drop (n + 1) (xs ++ c ∷ ys)) (first-digits c m xs ys d) ∙ sym (drop-drop 1 (length xs) (xs ++ c ∷ ys)) ∙ ap (drop 1) (drop-append-seam xs (c ∷ ys))
+digits-free : (c : ℕ) → Mark c → (s : List ℕ) → Digits s → Free c s
+digits-free c m [] d = tt
+digits-free c m (b ∷ s) d = (m b (d .0 .0) (d .0 .1), digits-free c m s (d .1))
 
 -- a number read back
 digits-true : (xs : List ℕ) → Digits xs → digits xs ≡ true
@@ -159,16 +149,16 @@ module _ (U frac least mark units : ℕ) (hU : 0 < U) (hf : U ≤ 10 ^ frac) (hf
       let wide : h < 10 ^ w =
       lt-of-lt-of-le (width-pow h) (pow-le-pow-right {n = 10} (omega arith) {i = width h} {j = w} (omega arith)) in
       let e : textWith U frac least mark units ≡ t1 = shape U frac least mark units in
-      let p1 : past colon t1 ≡ t2 = past-digits 58 cm (pad w h) t2 (pad-digits w h) in
-      let p2 : past colon t2 ≡ t3 = past-digits 58 cm (pad 2 m) t3 (pad-digits 2 m) in
+      let p1 : past colon t1 ≡ t2 = past-byte 58 (pad w h) t2 (digits-free 58 cm (pad w h) (pad-digits w h)) in
+      let p2 : past colon t2 ≡ t3 = past-byte 58 (pad 2 m) t3 (digits-free 58 cm (pad 2 m) (pad-digits 2 m)) in
       let H : number mostHours (upTo colon t1) ≡ Value h =
-      ap (number mostHours) (up-digits 58 cm (pad w h) t2 (pad-digits w h)) ∙ part-back mostHours w h (omega (arith, width-pos h)) wide (omega arith) in
+      ap (number mostHours) (up-byte 58 (pad w h) t2 (digits-free 58 cm (pad w h) (pad-digits w h))) ∙ part-back mostHours w h (omega (arith, width-pos h)) wide (omega arith) in
       let M : number mostMinutes (upTo colon t2) ≡ Value m =
-      ap (number mostMinutes) (up-digits 58 cm (pad 2 m) t3 (pad-digits 2 m)) ∙ part-back mostMinutes 2 m (omega arith) (omega arith) (omega arith) in
+      ap (number mostMinutes) (up-byte 58 (pad 2 m) t3 (digits-free 58 cm (pad 2 m) (pad-digits 2 m))) ∙ part-back mostMinutes 2 m (omega arith) (omega arith) (omega arith) in
       let S : number mostSeconds (upTo (mark ∷ []) t3) ≡ Value s =
-      ap (number mostSeconds) (up-digits mark hm (pad 2 s) (pad frac f) (pad-digits 2 s)) ∙ part-back mostSeconds 2 s (omega arith) (omega arith) (omega arith) in
+      ap (number mostSeconds) (up-byte mark (pad 2 s) (pad frac f) (digits-free mark hm (pad 2 s) (pad-digits 2 s))) ∙ part-back mostSeconds 2 s (omega arith) (omega arith) (omega arith) in
       let F : number (U - 1) (past (mark ∷ []) t3) ≡ Value f =
-      ap (number (U - 1)) (past-digits mark hm (pad 2 s) (pad frac f) (pad-digits 2 s)) ∙
+      ap (number (U - 1)) (past-byte mark (pad 2 s) (pad frac f) (digits-free mark hm (pad 2 s) (pad-digits 2 s))) ∙
       part-back (U - 1) frac f hfrac (omega (arith, mod-lt units hU)) (omega (arith, mod-lt units hU)) in
       let sum : ((h * 60 + m) * 60 + s) ≡ total = omega arith in
       rw (e, p1, p2, H, M, S, F)
@@ -198,3 +188,25 @@ text-trimmed kind mark units e =
     let f = fractionDigits kind in
     let d = hourDigits kind in
     rw (text-some kind mark units e) (trim-with U f d mark units (omega (arith, fraction-low kind e)))
+
+-- a byte that is no digit, no `:` and not the mark does not stand in a written time
+with-free : (U frac least mark units c : ℕ) → Mark c → (c ≡ 58 → ⊥) → (c ≡ mark → ⊥) → Free c (textWith U frac least mark units)
+unfolding textWith
+with-free U frac least mark units c m n k =
+    let h = units / U / 60 / 60 in
+    let w = widest least h in
+    let p1 : List ℕ = pad w h in
+    let p2 : List ℕ = 58 ∷ pad 2 (units / U / 60 % 60) in
+    let p3 : List ℕ = 58 ∷ pad 2 (units / U % 60) in
+    let p4 : List ℕ = mark ∷ pad frac (units % U) in
+    let free : (j x : ℕ) → Free c (pad j x) = λ j x. digits-free c m (pad j x) (pad-digits j x) in
+    free-append c (p1 ++ p2 ++ p3) p4
+    (free-append c (p1 ++ p2) p3 (free-append c p1 p2 (free w h) (n, free 2 (units / U / 60 % 60))) (n, free 2 (units / U % 60)))
+    (k, free frac (units % U))
+
+pub text-free : (kind mark units c : ℕ) → ((b : ℕ) → 48 ≤ b → b ≤ 57 → c ≡ b → ⊥) → (c ≡ 58 → ⊥) → (c ≡ mark → ⊥) → Free c (timeText kind mark units)
+text-free kind mark units c m n k = go (kindBad kind) refl
+  where
+    go : (b : Bool) → kindBad kind ≡ b → Free c (timeText kind mark units)
+    go true e = rw (text-none kind mark units e) tt
+    go false e = rw (text-some kind mark units e) (with-free (unitsOf kind) (fractionDigits kind) (hourDigits kind) mark units c m n k)

@@ -1,7 +1,7 @@
 -- Laws of x × b / m, for any m above 0.
-use Prim.Native.Nat.{ℕ, suc, zero, _+_, _-_, _*_, _/_, _%_, _^_, _≤_, _<_}
-use mathlib.Core.Path.{_≡_, refl, sym, _∙_, ap}
-use native.Mathlib.Nat.{div-add-mod', mod-lt, add-mul, mul-right-comm, mul-add-div-right, add-assoc, mul-le-mul, le-of-lt, le-trans, le-refl, div-lt-iff-lt-mul, div-mul-le-self, lt-div-mul-add, le-div-iff-mul-le, mul-le-mul-right}
+use Prim.Native.Nat.{ℕ, _+_, _-_, _*_, _/_, _%_, _≤_, _<_}
+use mathlib.Core.Path.{_≡_, sym, _∙_, ap}
+use native.Mathlib.Nat.{div-add-mod', mod-lt, add-mul, mul-right-comm, mul-add-div-right, add-assoc, mul-le-mul, le-of-lt, le-trans, div-lt-iff-lt-mul, div-mul-le-self, lt-div-mul-add, le-div-iff-mul-le, mul-le-mul-right}
 use native.Mathlib.Omega.{arith}
 use Rattle.time.specs.Convert.{scaledUp}
 

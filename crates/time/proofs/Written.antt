@@ -1,7 +1,7 @@
 -- The text of a time: its length, and the text put together piece by piece.
-use Prim.Native.Nat.{ℕ, zero, suc, _+_, _-_, _*_, _/_, _%_, _^_, _≤_, _<_, max}
+use Prim.Native.Nat.{ℕ, _+_, _-_, _/_, _%_, _^_, _≤_, _<_}
 use mathlib.Core.Path.{_≡_, refl, ap, sym, _∙_}
-use mathlib.Core.Bool.{Bool, true, false, cond}
+use mathlib.Core.Bool.{Bool, true, false}
 use mathlib.Core.List.{List, [], _∷_, _++_}
 use lib.ListN.{length, take, drop, length-append}
 use native.Mathlib.Omega.{arith}
@@ -10,7 +10,7 @@ use Rattle.base.specs.Put.{put, placed, placedLength}
 use Rattle.base.proofs.Laws.{yes!, no! }
 use Rattle.base.proofs.PutLaws.{put-back, none-placed}
 use Rattle.time.specs.Kind.{kindBad, unitsOf, fractionDigits, hourDigits}
-use Rattle.time.specs.Write.{pad, width, widest, textWith, timeText}
+use Rattle.time.specs.Write.{pad, widest, textWith, timeText}
 use Rattle.time.proofs.Limits.{by-kind, units-low, fraction-low, fraction-high, hour-high}
 use Rattle.time.proofs.Pad.{pad-length, width-bound, width-pos}
 
@@ -76,6 +76,14 @@ text-some kind mark units e = sym (no! _ e refl)
 pub text-none : (kind mark units : ℕ) → kindBad kind ≡ true → timeText kind mark units ≡ []
 unfolding timeText
 text-none kind mark units e = sym (yes! _ e refl)
+
+pub text-size : (kind mark units : ℕ) → kindBad kind ≡ false → length (timeText kind mark units) ≡ widest (hourDigits kind) (units / unitsOf kind / 60 / 60) + 7 + fractionDigits kind
+text-size kind mark units e = rw (text-some kind mark units e) (text-length (unitsOf kind) (fractionDigits kind) (hourDigits kind) mark units)
+
+-- the text of an SRT time below 100 hours has 12 bytes
+pub srt-12 : (mark units : ℕ) → units < 360000000 → length (timeText 1 mark units) ≡ 12
+unfolding unitsOf fractionDigits hourDigits kindBad
+srt-12 mark units h = omega (arith, text-size 1 mark units refl, width-bound 1 (units / 1000 / 60 / 60) (omega arith))
 
 -- the longest text of a time, of any word of units, has 23 bytes
 ass-23 : (mark units : ℕ) → units < 2 ^ 64 → length (textWith (unitsOf 0) (fractionDigits 0) (hourDigits 0) mark units) ≤ 23

@@ -1,5 +1,5 @@
 use Prim.Native.Nat.{_/_}
-use mathlib.Core.Path.{refl, sym, ap, _∙_}
+use mathlib.Core.Path.{refl, sym, _∙_}
 use native.Mathlib.Omega.{arith}
 use native.Mathlib.Nat.{div-le-self}
 use Rattle.time.specs.Write.{textWith}
