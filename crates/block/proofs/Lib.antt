@@ -2,3 +2,6 @@
 pub mod PlaceLaws
 pub mod WriteLaws
 pub mod BlockLaws
+pub mod Fits
+pub mod FineBlock
+pub mod Examples

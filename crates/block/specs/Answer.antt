@@ -10,11 +10,17 @@ use Rattle.event.specs.declared.setting.Config.{Config}
 use Rattle.event.specs.declared.telling.Told.{Told}
 use Rattle.event.specs.declared.telling.Counted.the-variants.{Nothing}
 use Rattle.event.specs.Says.{faultNumber}
-use Rattle.event.specs.Told.{Answer, refusal, partIn}
+use Rattle.event.specs.Emit.{emitOf}
+use Rattle.event.specs.Told.{Answer, refusal, answered, partIn}
 use Rattle.block.specs.Style.{srt}
 use Rattle.block.specs.Block.{BlockSays, faulty, says, blockSays}
 
--- a fault's number, or the part through the map
+-- by document 01: a fault's number, or what the part becomes through the map
+abbrev pub answerOf : Config → List Segment → BlockSays → Answer
+answerOf s m (faulty f) = refusal (faultNumber f)
+answerOf s m (says p) = answered (emitOf s m p)
+
+-- by the code, at every input; within the limits both are the same (`block-fine`)
 abbrev pub answerTo : Config → List Segment → BlockSays → Answer
 answerTo s m (faulty f) = refusal (faultNumber f)
 answerTo s m (says p) = partIn s m p
