@@ -1,0 +1,206 @@
+-- Laws of what the functions of a block answer.
+use mathlib.Core.Path.{_≡_, refl, sym, ap, subst, _∙_}
+use mathlib.Core.Bool.{Bool, true, false, cond, _&&_, true≢false}
+use mathlib.Core.List.{List, [], _∷_, _++_, append-nil}
+use Prim.Native.Nat.{ℕ, zero, suc, _+_, _*_, _-_, _/_, _≤_, _<_, _^_}
+use native.Mathlib.Omega.{arith}
+use borrow.Author.Tests.{lt-ltb, le-ltb}
+use lib.Dec.{ltb}
+use lib.ListN.{length, take, drop, length-drop}
+use Rattle.base.specs.Put.{put, placed, placedLength}
+use Rattle.base.proofs.PartLaws.{part-lengths}
+use Rattle.base.proofs.PutLaws.{put-nil, placed-yes, length-yes}
+use Rattle.text.specs.Find.{upTo}
+use Rattle.text.specs.Line.{linesOf, concat, lineCount, textOf, terminatorOf}
+use Rattle.text.proofs.LineLaws.{lines-joined}
+use Rattle.time.specs.declared.read.Time.{Time}
+use Rattle.time.specs.declared.read.Time.the-variants.{At, Bad}
+use Rattle.time.specs.Read.{timeIn}
+use Rattle.time.specs.Write.{timeText}
+use Rattle.segmap.specs.declared.segment.Segment.{Segment}
+use Rattle.event.specs.declared.setting.Config.{Config}
+use Rattle.event.specs.declared.telling.Told.{Told}
+use Rattle.event.specs.declared.telling.Counted.{Counted}
+use Rattle.event.specs.declared.telling.Counted.the-variants.{Nothing, Dropped as Lost}
+use Rattle.event.specs.declared.retiming.Retimed.{Retimed}
+use Rattle.event.specs.declared.retiming.Decision.{Decision}
+use Rattle.event.specs.declared.retiming.Decision.the-variants.{Strange, Dropped, Kept}
+use Rattle.event.specs.Decide.{decideIn}
+use Rattle.event.specs.Fates.{fateFor}
+use Rattle.event.specs.Says.{Piece, Cue, Part, stays, cue}
+use Rattle.event.specs.Emit.{Warning, decided, warnIf, placesOf, render, emitBy}
+use Rattle.event.specs.Told.{Answer, refusal, countedOf, cueIn, partIn, Tells}
+use Rattle.block.specs.declared.timing.Place.{Place}
+use Rattle.block.specs.Style.{srtEnd, srt}
+use Rattle.block.specs.Block
+use Rattle.block.specs.Block.{arrow, afterArrow, blockFrame, blockCue, timesSay, endText, trailing, lineSays, timingSays, blockSays, timingOf, Timing, BlockSays, faulty, says}
+use Rattle.block.specs.Answer.{answerTo, blockIn, refusedWith}
+use Rattle.block.specs.Place.{placeIn}
+use Rattle.block.proofs.PlaceLaws.{Stands, Apart, stands}
+use Rattle.block.proofs.WriteLaws.{line-long}
+
+-- an answer that writes nothing
+pub tells-refused : (n : ℕ) (r : Told) (o w : List ℕ) → r ≡ refusedWith n → Tells (refusal n) r o o w w
+unfolding placesOf
+tells-refused n r o w e =
+    record {
+      number = ap (λ (d : Told). d .number) e;
+      counted = ap (λ (d : Told). d .counted) e;
+      written = ap (λ (d : Told). d .written) e;
+      warned = ap (λ (d : Told). d .warned) e;
+      text = sym (put-nil o);
+      warnings = sym (put-nil w);
+    }
+
+-- an answer that is equal to another
+pub tells-same : {a b : Answer} {r : Told} {o o′ w w′ : List ℕ} → a ≡ b → Tells b r o o′ w w′ → Tells a r o o′ w w′
+tells-same {a} {b} {r} {o} {o′} {w} {w′} e h = subst (λ (x : Answer). Tells x r o o′ w w′) (sym e) h
+
+-- ---- settle: D is the decision by the definition, and d the one that the code was told
+module _ (kind : ℕ) (q : Cue) (D d : Decision) (ed : d ≡ D) (o w : List ℕ) where
+  by-told : (v : Decision) → d ≡ v → cueIn kind q D ≡ cueIn kind q v
+  by-told v p = ap (cueIn kind q) (sym ed ∙ p)
+
+  pub settle-strange : (r : Told) → d ≡ Strange → r ≡ refusedWith 15 → Tells (cueIn kind q D) r o o w w
+  settle-strange r p e = tells-same (by-told Strange p) (tells-refused 15 r o w e)
+
+  pub settle-dropped : d ≡ Dropped → Tells (cueIn kind q D) (record { number = 0; counted = Lost; written = 0; warned = 0 }) o o w w
+  unfolding placesOf
+  settle-dropped p =
+      tells-same (by-told Dropped p)
+      (record { number = refl; counted = refl; written = refl; warned = refl; text = sym (put-nil o); warnings = sym (put-nil w) })
+
+-- without a tag there is no warning 3
+no-tag : (t : Bool) (n : ℕ) (l : List Warning) → warnIf (t && false) 3 n ++ l ≡ l
+no-tag true n l = refl
+no-tag false n l = refl
+
+module _ (kind n S a E b : ℕ) (ps : List Piece) (D d : Decision) (ed : d ≡ D) (o w o′ w′ : List ℕ) (r : Retimed) (c : Counted) (i j : ℕ) where
+  pub settle-kept : d ≡ Kept r → c ≡ countedOf (decided (fateFor r))
+      → (o′ ≡ put (render ps (timeText kind a (r .start)) (timeText kind b (r .stop))) o) × (i ≡ length (render ps (timeText kind a (r .start)) (timeText kind b (r .stop))))
+      → (w′ ≡ put (placesOf (warnIf (r .lost) 4 n)) w) × (j ≡ length (placesOf (warnIf (r .lost) 4 n)))
+      → Tells (cueIn kind (blockCue n S a E b ps) D) (record { number = 0; counted = c; written = i; warned = j }) o o′ w w′
+  settle-kept p ec eo ew =
+      let t : warnIf (r .«start_cut» && false) 3 n ++ warnIf (r .lost) 4 n ≡ warnIf (r .lost) 4 n = no-tag (r .«start_cut») n (warnIf (r .lost) 4 n) in
+      tells-same (by-told kind (blockCue n S a E b ps) D d ed o w (Kept r) p)
+      (record {
+        number = refl;
+        counted = ec;
+        written = eo .1;
+        warned = ew .1 ∙ ap (λ (x : List Warning). length (placesOf x)) (sym t);
+        text = eo .0;
+        warnings = ew .0 ∙ ap (λ (x : List Warning). put (placesOf x) w) (sym t);
+      })
+
+-- ---- timed
+module _ (config : Config) (m : List Segment) (k n : ℕ) (b l a T B u : List ℕ) (x : Time) (et : T ≡ textOf l) (eb : B ≡ afterArrow T) (en : n ≡ srtEnd B) (eu : u ≡ upTo arrow T) (ex : x ≡ timeIn 1 u) where
+  start-is : timeIn 1 (upTo arrow (textOf l)) ≡ x
+  start-is = sym (ex ∙ ap (timeIn 1) (eu ∙ ap (upTo arrow) et))
+
+  behind-is : B ≡ afterArrow (textOf l)
+  behind-is = eb ∙ ap afterArrow et
+
+  abbrev frameOf : List Piece
+  frameOf = blockFrame b (trailing srt (textOf l)) (terminatorOf l) a
+
+  pub timed-1 : (r : Told) (o w : List ℕ) → x ≡ Bad → r ≡ refusedWith 22 → Tells (answerTo config m (lineSays srt k b l a)) r o o w w
+  unfolding lineSays
+  timed-1 r o w p q =
+      tells-same (ap (λ (X : Time). answerTo config m (timesSay k frameOf X (timeIn 1 (endText srt (textOf l))))) (start-is ∙ p)) (tells-refused 22 r o w q)
+
+  module _ (v : List ℕ) (y : Time) (ev : v ≡ take n B) (ey : y ≡ timeIn 1 v) where
+    end-is : timeIn 1 (endText srt (textOf l)) ≡ y
+    end-is =
+        sym (ey ∙ ap (timeIn 1) (ev ∙ ap (λ (j : ℕ). take j B) en ∙ ap (λ (c : List ℕ). take (srtEnd c) c) behind-is))
+
+    line-is : (X Y : Time) → x ≡ X → y ≡ Y → lineSays srt k b l a ≡ timesSay k frameOf X Y
+    unfolding lineSays
+    line-is X Y p q =
+        ap (λ (i : Time). timesSay k frameOf i (timeIn 1 (endText srt (textOf l)))) (start-is ∙ p)
+        ∙ ap (timesSay k frameOf X) (end-is ∙ q)
+
+    pub timed-2 : (r : Told) (o w : List ℕ) (S i : ℕ) → x ≡ At S i → y ≡ Bad → r ≡ refusedWith 22 → Tells (answerTo config m (lineSays srt k b l a)) r o o w w
+    timed-2 r o w S i p q e = tells-same (ap (answerTo config m) (line-is (At S i) Bad p q)) (tells-refused 22 r o w e)
+
+    module _ (t z : List ℕ) (S i E j : ℕ) (p : x ≡ At S i) (q : y ≡ At E j) (ew : t ≡ drop n B) (ez : z ≡ terminatorOf l) where
+      trailing-is : t ≡ trailing srt (textOf l)
+      trailing-is = ew ∙ ap (λ (j : ℕ). drop j B) en ∙ ap (λ (c : List ℕ). drop (srtEnd c) c) behind-is
+
+      pub timed-room : (o : List ℕ) → 3 * (length b + length l + length a) ≤ length o → length b + length t + length z + length a + 51 ≤ length o
+      timed-room o h =
+          let f = line-long l S E i j (start-is ∙ p) (end-is ∙ q) in
+          let g : length t ≡ length (trailing srt (textOf l)) = ap length trailing-is in
+          let d : length z ≡ length (terminatorOf l) = ap length ez in
+          omega arith
+
+      pub timed-3 : (r : Told) (o o′ w w′ : List ℕ) → Tells (cueIn (config .kind) (blockCue k S i E j (blockFrame b t z a)) (decideIn config m S E)) r o o′ w w′
+          → Tells (answerTo config m (lineSays srt k b l a)) r o o′ w w′
+      unfolding partIn
+      timed-3 r o o′ w w′ h =
+          tells-same
+          (ap (answerTo config m) (line-is (At S i) (At E j) p q)
+          ∙ ap (λ (c : List ℕ). cueIn (config .kind) (blockCue k S i E j (blockFrame b c (terminatorOf l) a)) (decideIn config m S E)) (sym trailing-is)
+          ∙ ap (λ (c : List ℕ). cueIn (config .kind) (blockCue k S i E j (blockFrame b t c a)) (decideIn config m S E)) (sym ez))
+          h
+
+-- ---- block
+module _ (config : Config) (m : List Segment) (first : ℕ) (s : List ℕ) (room places : ℕ) where
+  pub answer-1 : room / 3 < length s → blockIn config m first s room places ≡ refusal 16
+  unfolding blockIn
+  answer-1 h = rw (lt-ltb room (3 * length s) (omega arith))
+
+  pub answer-2 : length s ≤ room / 3 → places < 2 → blockIn config m first s room places ≡ refusal 16
+  unfolding blockIn
+  answer-2 h i = rw (le-ltb room (3 * length s) (omega arith), lt-ltb places 2 i)
+
+  pub answer-3 : length s ≤ room / 3 → 2 ≤ places → blockIn config m first s room places ≡ answerTo config m (blockSays srt first (linesOf s))
+  unfolding blockIn
+  answer-3 h i = rw (le-ltb room (3 * length s) (omega arith), le-ltb places 2 i)
+
+module _ (config : Config) (m : List Segment) (first : ℕ) (s : List ℕ) (p : Place) (e : p ≡ placeIn (linesOf s) 0 0) where
+  says-of : (t : Timing) → Stands s p t → p .found ≡ true
+      → timingSays srt first (linesOf s) t ≡ lineSays srt (first + p .lines) (take (p .at) s) (take (p .size) (drop (p .at) s)) (drop (p .size) (drop (p .at) s))
+  says-of Block.untimed h f = absurd (true≢false (sym f ∙ h))
+  says-of (Block.timed b l a) h f = rw (h .before, h .line, h .after, h .lines)
+
+  block-timed : p .found ≡ true
+      → blockSays srt first (linesOf s) ≡ lineSays srt (first + p .lines) (take (p .at) s) (take (p .size) (drop (p .at) s)) (drop (p .size) (drop (p .at) s))
+  unfolding blockSays
+  block-timed f = says-of (timingOf (linesOf s)) (stands s p e) f
+
+  untimed-of : (t : Timing) → Stands s p t → p .found ≡ false → t ≡ Block.untimed
+  untimed-of Block.untimed h f = refl
+  untimed-of (Block.timed b l a) h f = absurd (true≢false (sym (h .found) ∙ f))
+
+  block-untimed : p .found ≡ false → blockSays srt first (linesOf s) ≡ says (stays s)
+  unfolding blockSays
+  block-untimed f =
+      ap (timingSays srt first (linesOf s)) (untimed-of (timingOf (linesOf s)) (stands s p e) f) ∙ ap (λ (x : List ℕ). says (stays x)) (lines-joined s)
+
+  pub block-4 : (n : ℕ) (o o′ w : List ℕ) → p .found ≡ false → length s ≤ length o / 3 → 2 ≤ length w → (n ≡ placedLength s o) × (o′ ≡ placed s o)
+      → Tells (blockIn config m first s (length o) (length w)) (record { number = 0; counted = Nothing; written = n; warned = 0 }) o o′ w w
+  unfolding partIn emitBy placesOf
+  block-4 n o o′ w f h i q =
+      let r : length s ≤ length o = omega arith in
+      tells-same (answer-3 config m first s (length o) (length w) h i ∙ ap (answerTo config m) (block-untimed f))
+      (record {
+        number = refl;
+        counted = refl;
+        written = q .0 ∙ length-yes s o r;
+        warned = refl;
+        text = q .1 ∙ placed-yes s o r;
+        warnings = sym (put-nil w);
+      })
+
+  pub block-3 : (k : ℕ) (r0 f1 f2 r2 : List ℕ) (r : Told) (o o′ w w′ : List ℕ) → length s ≤ length o / 3 → 2 ≤ length w → p .found ≡ true
+      → k ≡ first + p .lines → r0 ≡ drop (p .at) s → f1 ≡ take (p .at) s → f2 ≡ take (p .size) r0 → r2 ≡ drop (p .size) r0
+      → Tells (answerTo config m (lineSays srt k f1 f2 r2)) r o o′ w w′ → Tells (blockIn config m first s (length o) (length w)) r o o′ w w′
+  block-3 k r0 f1 f2 r2 r o o′ w w′ h i f ek e0 e1 e2 e3 t =
+      let line : lineSays srt (first + p .lines) (take (p .at) s) (take (p .size) (drop (p .at) s)) (drop (p .size) (drop (p .at) s)) ≡ lineSays srt k f1 f2 r2 = rw (ek, e3, e2, e1, e0) in
+      tells-same (answer-3 config m first s (length o) (length w) h i ∙ ap (answerTo config m) (block-timed f ∙ line)) t
+
+pub block-room : (s r0 f1 f2 r2 o : List ℕ) (i n : ℕ) → r0 ≡ drop i s → f1 ≡ take i s → f2 ≡ take n r0 → r2 ≡ drop n r0 → length s ≤ length o / 3 → 3 * (length f1 + length f2 + length r2) ≤ length o
+block-room s r0 f1 f2 r2 o i n e0 e1 e2 e3 h =
+    let b : length f2 + length r2 ≡ length r0 = ap (λ (x : List ℕ). length x + length r2) e2 ∙ ap (λ (x : List ℕ). length (take n r0) + length x) e3 ∙ part-lengths n r0 in
+    let c : length f1 + length r0 ≡ length s = ap (λ (x : List ℕ). length x + length r0) e1 ∙ ap (λ (x : List ℕ). length (take i s) + length x) e0 ∙ part-lengths i s in
+    omega arith

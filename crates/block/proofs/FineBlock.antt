@@ -1,0 +1,118 @@
+-- Within the limits the code's answer to a block is document 01's; and a block as one row of bytes is the block as its lines.
+use mathlib.Core.Path.{_≡_, refl, sym, ap, subst, _∙_}
+use mathlib.Core.Bool.{Bool, true, false, cond}
+use mathlib.Core.List.{List, [], _∷_, _++_, append-nil}
+use Prim.Native.Nat.{ℕ, _+_, _*_, _≤_, _<_}
+use native.Mathlib.Omega.{arith}
+use borrow.Author.Tests.{le-ltb}
+use lib.Dec.{ltb}
+use lib.ListN.{length}
+use Rattle.base.specs.Limits.{mostUnits}
+use Rattle.text.specs.Find.{upTo}
+use Rattle.text.specs.Line.{linesOf, concat, lineCount, textOf, terminatorOf, hasLf}
+use Rattle.text.proofs.LineLaws.{Finished, lines-back, line-last}
+use Rattle.time.specs.declared.read.Time.{Time}
+use Rattle.time.specs.declared.read.Time.the-variants.{At, Bad}
+use Rattle.time.specs.Kind.{unitsOf, markOf}
+use Rattle.time.specs.Read.{timeIn}
+use Rattle.time.specs.Convert.{ticksOf, coreUnits}
+use Rattle.time.proofs.Reading.{time-most, time-below, time-mark}
+use Rattle.segmap.specs.declared.segment.Segment.{Segment}
+use Rattle.segmap.specs.Segment.{segmentsOf, mapBad}
+use Rattle.event.specs.declared.setting.Config.{Config}
+use Rattle.event.specs.declared.retiming.Decision.{Decision}
+use Rattle.event.specs.declared.retiming.Decision.the-variants.{Strange, Dropped, Kept}
+use Rattle.event.specs.Hit.{Found, miss, hit, findHit}
+use Rattle.event.specs.Decide.{decideHit, decideTicks, decideOf, decideIn}
+use Rattle.event.specs.Says.{Piece, Cue, Part, stays, passes, cue}
+use Rattle.event.specs.Emit.{cueEmit, emitBy, emitOf}
+use Rattle.event.specs.Told.{Answer, answered, cueIn, partIn}
+use Rattle.event.proofs.FineLaws.{Set, decide-fine}
+use Rattle.block.specs.Style.{Style, srt}
+use Rattle.block.specs.Block
+use Rattle.block.specs.Block.{arrow, blockFrame, timesSay, endText, trailing, lineSays, timingSays, blockSays, timingOf, Timing, BlockSays, faulty, says}
+use Rattle.block.specs.Answer.{answerOf, answerTo, blockIn}
+
+-- ---- a cue through the map: document 01's decision is never strange
+hit-answered : (kind T U a b : ℕ) (q : Cue) (f : Found) → cueIn kind q (decideHit T U a b f) ≡ answered (cueEmit kind q (decideHit T U a b f))
+hit-answered kind T U a b q miss = refl
+hit-answered kind T U a b q (hit i x xs) = refl
+
+pub cue-fine : (c : Config) → Set c → (m : List ℕ) → mapBad m ≡ false → (q : Cue) → q .start ≤ coreUnits → q .stop ≤ coreUnits
+    → partIn c (segmentsOf m) (cue q) ≡ answered (emitOf c (segmentsOf m) (cue q))
+unfolding partIn emitBy decideOf decideTicks
+cue-fine c set m g q hs he =
+    ap (cueIn (c .kind) q) (decide-fine c set m (q .start) (q .stop) g hs he) ∙
+    hit-answered (c .kind) (c .timescale) (unitsOf (c .kind)) _ _ q
+    (findHit (segmentsOf m) (ticksOf (c .timescale) (unitsOf (c .kind)) (q .start)) (ticksOf (c .timescale) (unitsOf (c .kind)) (q .stop)))
+
+-- ---- what is known of the cue that a block says: times below 10,000 hours, and SRT's mark; no tag
+pub record Timely (q : Cue) : Type 0 where
+  pub start-below : q .start < 36000000 * unitsOf 1
+  pub stop-below : q .stop < 36000000 * unitsOf 1
+  pub start-mark : q .startMark ≡ markOf 1
+  pub stop-mark : q .stopMark ≡ markOf 1
+  pub untagged : q .tagged ≡ false
+
+abbrev Timed : BlockSays → Type 0
+Timed (faulty f) = Unit {0}
+Timed (says (stays l)) = Unit {0}
+Timed (says (passes r n l)) = ⊥
+Timed (says (cue q)) = Timely q
+
+line-timed : (k : ℕ) (b l a : List ℕ) → Timed (lineSays srt k b l a)
+unfolding lineSays
+line-timed k b l a = go (timeIn 1 (upTo arrow (textOf l))) (timeIn 1 (endText srt (textOf l))) refl refl
+  where
+    go : (X Y : Time) → timeIn 1 (upTo arrow (textOf l)) ≡ X → timeIn 1 (endText srt (textOf l)) ≡ Y
+        → Timed (timesSay k (blockFrame b (trailing srt (textOf l)) (terminatorOf l) a) X Y)
+    go Bad Y p q = tt
+    go (At S i) Bad p q = tt
+    go (At S i) (At E j) p q =
+        record {
+          start-below = time-below 1 S i _ p;
+          stop-below = time-below 1 E j _ q;
+          start-mark = time-mark 1 S i _ p;
+          stop-mark = time-mark 1 E j _ q;
+          untagged = refl;
+        }
+
+timing-timed : (first : ℕ) (ls : List (List ℕ)) (t : Timing) → Timed (timingSays srt first ls t)
+timing-timed first ls Block.untimed = tt
+timing-timed first ls (Block.timed b l a) = line-timed (first + lineCount b) (concat b) l (concat a)
+
+block-timed : (first : ℕ) (ls : List (List ℕ)) → Timed (blockSays srt first ls)
+unfolding blockSays
+block-timed first ls = timing-timed first ls (timingOf ls)
+
+pub block-timely : (first : ℕ) (ls : List (List ℕ)) (q : Cue) → blockSays srt first ls ≡ says (cue q) → Timely q
+block-timely first ls q e = subst Timed e (block-timed first ls)
+
+-- ---- the answer
+answer-fine : (c : Config) → Set c → (m : List ℕ) → mapBad m ≡ false → (b : BlockSays) → Timed b → answerTo c (segmentsOf m) b ≡ answerOf c (segmentsOf m) b
+unfolding partIn emitBy unitsOf
+answer-fine c set m g (faulty f) h = refl
+answer-fine c set m g (says (stays l)) h = refl
+answer-fine c set m g (says (passes r n l)) h = absurd h
+answer-fine c set m g (says (cue q)) h = cue-fine c set m g q (omega (arith, h .start-below)) (omega (arith, h .stop-below))
+
+pub block-fine : (c : Config) → Set c → (m : List ℕ) → mapBad m ≡ false → (first : ℕ) (s : List ℕ) (room places : ℕ) → 3 * length s ≤ room → 2 ≤ places
+    → blockIn c (segmentsOf m) first s room places ≡ answerOf c (segmentsOf m) (blockSays srt first (linesOf s))
+unfolding blockIn
+block-fine c set m g first s room places h i =
+    rw (le-ltb room (3 * length s) h, le-ltb places 2 i) (answer-fine c set m g (blockSays srt first (linesOf s)) (block-timed first (linesOf s)))
+
+-- ---- a block as its lines: finished ones, and at a finish a last one without LF
+module _ (ls : List (List ℕ)) (f : Finished ls) where
+  pub lines-held : linesOf (concat ls) ≡ ls
+  unfolding linesOf
+  lines-held = ap linesOf (sym (append-nil (concat ls))) ∙ lines-back ls [] f ∙ append-nil ls
+
+  pub lines-open : (r : List ℕ) → 0 < length r → hasLf r ≡ false → linesOf (concat ls ++ r) ≡ ls ++ r ∷ []
+  lines-open r h e = lines-back ls r f ∙ ap (λ (x : List (List ℕ)). ls ++ x) (line-last r h e)
+
+  pub held-block : (k : Style) (first : ℕ) → blockSays k first (linesOf (concat ls)) ≡ blockSays k first ls
+  held-block k first = ap (blockSays k first) lines-held
+
+  pub open-block : (k : Style) (first : ℕ) (r : List ℕ) → 0 < length r → hasLf r ≡ false → blockSays k first (linesOf (concat ls ++ r)) ≡ blockSays k first (ls ++ r ∷ [])
+  open-block k first r h e = ap (blockSays k first) (lines-open r h e)

@@ -1,0 +1,180 @@
+-- Room: what a block becomes has at most three bytes for each of its own, and at most one warning.
+use mathlib.Core.Path.{_≡_, refl, sym, ap, subst, _∙_}
+use mathlib.Core.Bool.{Bool, true, false, cond, _&&_}
+use mathlib.Core.List.{List, [], _∷_, _++_}
+use Prim.Native.Nat.{ℕ, zero, suc, _+_, _*_, _≤_, _<_, _^_}
+use native.Mathlib.Omega.{arith}
+use native.Mathlib.Nat.{le-refl, mul-le-mul}
+use borrow.Author.Tests.{ltb-false}
+use lib.Dec.{ltb}
+use lib.ListN.{length, length-append}
+use Rattle.base.specs.Limits.{mostUnits, mostTicks}
+use Rattle.text.specs.Find.{upTo}
+use Rattle.text.specs.Line.{linesOf, concat, lineCount, textOf, terminatorOf}
+use Rattle.text.proofs.LineLaws.{lines-joined}
+use Rattle.time.specs.declared.read.Time.{Time}
+use Rattle.time.specs.declared.read.Time.the-variants.{At, Bad}
+use Rattle.time.specs.Kind.{unitsOf}
+use Rattle.time.specs.Read.{timeIn}
+use Rattle.time.specs.Convert.{startUnits, endUnits, coreTimescale, coreUnits, coreTicks, coreHolds, startWithin, endWithin}
+use Rattle.time.proofs.Conversions.{start-low, end-start}
+use Rattle.time.proofs.Limits.{Within, core-within, start-within, end-within, units-high}
+use Rattle.time.proofs.Reading.{time-most}
+use Rattle.segmap.specs.declared.segment.Segment.{Segment}
+use Rattle.segmap.specs.Segment.{sourceOf, outputOf, segmentsOf, endBad, mapBad}
+use Rattle.event.specs.declared.setting.Config.{Config}
+use Rattle.event.specs.declared.retiming.Decision.{Decision}
+use Rattle.event.specs.declared.retiming.Decision.the-variants.{Strange, Dropped, Kept}
+use Rattle.event.specs.Hit.{Found, miss, hit, findHit, metOf}
+use Rattle.event.specs.Decide.{retimedBy, limitedHit, decideIn, decideOf}
+use Rattle.event.specs.Says.{Part, stays, passes, cue}
+use Rattle.event.specs.Emit.{Emit, Warning, warning, warnIf, cueEmit, emitBy, emitOf}
+use Rattle.event.specs.Told.{Answer, refusal, cueIn, partIn}
+use Rattle.event.proofs.FineLaws.{Set, decide-fine}
+use Rattle.block.specs.Style.{srt}
+use Rattle.block.specs.Block
+use Rattle.block.specs.Block.{arrow, blockFrame, blockCue, timesSay, endText, trailing, lineSays, timingSays, blockSays, timingOf, Timing, BlockSays, faulty, says}
+use Rattle.block.specs.Answer.{answerTo, blockIn}
+use Rattle.block.specs.Place.{placeIn}
+use Rattle.block.proofs.PlaceLaws.{Placed, timing-placed}
+use Rattle.block.proofs.WriteLaws.{kept-length, line-long}
+
+-- ---- the times that a decision writes are words
+abbrev pub Words : Decision → Type 0
+Words Strange = Unit {0}
+Words Dropped = Unit {0}
+Words (Kept r) = (r .start < 2 ^ 64) × (r .stop < 2 ^ 64)
+
+scaled-below : (x T ticks U : ℕ) → x * T ≤ ticks * U → 1 ≤ T → ticks ≤ coreTicks → U ≤ 1000 → x < 2 ^ 63
+scaled-below x T ticks U h t k u =
+    let a : x * 1 ≤ x * T = mul-le-mul (le-refl x) t in
+    let b : ticks * U ≤ coreTicks * 1000 = mul-le-mul k u in
+    omega arith
+
+module _ (kind T ticks : ℕ) where
+  start-of : (b : Bool) → coreHolds kind T ticks coreTicks ≡ b → cond b (startUnits T (unitsOf kind) ticks) 0 < 2 ^ 63
+  start-of true e =
+      let w = core-within kind T ticks coreTicks e in
+      scaled-below _ T ticks (unitsOf kind) (start-low T (unitsOf kind) ticks) (w .T-low) (w .value-most) (units-high kind (w .kind-known))
+  start-of false e = omega arith
+
+  start-word : startWithin kind T ticks < 2 ^ 64
+  unfolding startWithin
+  start-word = omega (arith, start-of (coreHolds kind T ticks coreTicks) refl)
+
+  end-of : (b : Bool) → coreHolds kind T ticks coreTicks ≡ b → cond b (endUnits T (unitsOf kind) ticks) 0 < 2 ^ 64
+  end-of true e =
+      let w = core-within kind T ticks coreTicks e in
+      let s : startUnits T (unitsOf kind) ticks < 2 ^ 63 =
+      scaled-below _ T ticks (unitsOf kind) (start-low T (unitsOf kind) ticks) (w .T-low) (w .value-most) (units-high kind (w .kind-known)) in
+      omega (arith, end-start T (unitsOf kind) ticks (w .T-low))
+  end-of false e = omega arith
+
+  end-word : endWithin kind T ticks < 2 ^ 64
+  unfolding endWithin
+  end-word = end-of (coreHolds kind T ticks coreTicks) refl
+
+tested-words : (s t : Bool) (d : Decision) → Words d → Words (cond s Strange (cond t Strange d))
+tested-words true t d w = tt
+tested-words false true d w = tt
+tested-words false false d w = w
+
+hit-words : (c : Config) (a b : ℕ) (f : Found) → Words (limitedHit c a b f)
+hit-words c a b miss = tt
+hit-words c a b (hit i x xs) =
+    tested-words (endBad (sourceOf x) (x .duration)) (endBad (outputOf x) (x .duration))
+    (Kept (retimedBy (startWithin (c .kind) (c .timescale)) (endWithin (c .kind) (c .timescale)) a b (metOf i x xs)))
+    (start-word (c .kind) (c .timescale) _, end-word (c .kind) (c .timescale) _)
+
+pub decide-words : (c : Config) (m : List Segment) (S E : ℕ) → Words (decideIn c m S E)
+unfolding decideIn
+decide-words c m S E = hit-words c _ _ (findHit m _ _)
+
+-- ---- what is emitted for a block of n bytes
+pub record Small (n : ℕ) (e : Emit) : Type 0 where
+  pub output : length (e .out) ≤ 3 * n
+  pub one-warning : length (e .warnings) ≤ 1
+  pub warned-long : 7 * length (e .warnings) ≤ n
+
+abbrev SaysSmall : (kind : ℕ) → (ℕ → ℕ → Decision) → (n : ℕ) → BlockSays → Type 0
+SaysSmall kind d n (faulty f) = Unit {0}
+SaysSmall kind d n (says p) = Small n (emitBy kind d p)
+
+one-of : (t l : Bool) (n : ℕ) → length (warnIf (t && false) 3 n ++ warnIf l 4 n) ≤ 1
+one-of true true n = omega arith
+one-of true false n = omega arith
+one-of false true n = omega arith
+one-of false false n = omega arith
+
+cue-small : (kind n k S i E j : ℕ) (b t x a : List ℕ) (d : Decision) → Words d → length b + length t + length x + length a + 17 ≤ n
+    → Small n (cueEmit kind (blockCue k S i E j (blockFrame b t x a)) d)
+cue-small kind n k S i E j b t x a Strange w h = record { output = omega arith; one-warning = omega arith; warned-long = omega arith }
+cue-small kind n k S i E j b t x a Dropped w h = record { output = omega arith; one-warning = omega arith; warned-long = omega arith }
+cue-small kind n k S i E j b t x a (Kept r) w h =
+    let o = one-of (r .«start_cut») (r .lost) k in
+    record {
+      output = omega (arith, kept-length kind i j (r .start) (r .stop) b t x a (w .0) (w .1));
+      one-warning = o;
+      warned-long = omega arith;
+    }
+
+module _ (kind : ℕ) (d : ℕ → ℕ → Decision) (wd : (S E : ℕ) → S ≤ coreUnits → E ≤ coreUnits → Words (d S E)) where
+  line-small : (k : ℕ) (b l a : List ℕ) → SaysSmall kind d (length b + length l + length a) (lineSays srt k b l a)
+  unfolding lineSays emitBy
+  line-small k b l a = go (timeIn 1 (upTo arrow (textOf l))) (timeIn 1 (endText srt (textOf l))) refl refl
+    where
+      go : (X Y : Time) → timeIn 1 (upTo arrow (textOf l)) ≡ X → timeIn 1 (endText srt (textOf l)) ≡ Y
+          → SaysSmall kind d (length b + length l + length a) (timesSay k (blockFrame b (trailing srt (textOf l)) (terminatorOf l) a) X Y)
+      go Bad Y p q = tt
+      go (At S i) Bad p q = tt
+      go (At S i) (At E j) p q =
+          let hs : S ≤ coreUnits = omega (arith, time-most 1 S i _ p) in
+          let he : E ≤ coreUnits = omega (arith, time-most 1 E j _ q) in
+          cue-small kind _ k S i E j b (trailing srt (textOf l)) (terminatorOf l) a (d S E) (wd S E hs he) (omega (arith, line-long l S E i j p q))
+
+  timing-small : (first i j : ℕ) (ls : List (List ℕ)) (t : Timing) → Placed t ls i j (placeIn ls i j) → SaysSmall kind d (length (concat ls)) (timingSays srt first ls t)
+  unfolding emitBy
+  timing-small first i j ls Block.untimed h = record { output = omega arith; one-warning = omega arith; warned-long = omega arith }
+  timing-small first i j ls (Block.timed b l a) h =
+      let n : length (concat b) + length l + length (concat a) ≡ length (concat ls) =
+      sym (ap length (sym (h .1)) ∙ length-append (concat b) (l ++ concat a) ∙ ap (λ (x : ℕ). length (concat b) + x) (length-append l (concat a)) ∙ omega arith) in
+      subst (λ (x : ℕ). SaysSmall kind d x (lineSays srt (first + lineCount b) (concat b) l (concat a))) n (line-small (first + lineCount b) (concat b) l (concat a))
+
+  says-small : (first : ℕ) (s : List ℕ) → SaysSmall kind d (length s) (blockSays srt first (linesOf s))
+  unfolding blockSays
+  says-small first s =
+      subst (λ (x : List ℕ). SaysSmall kind d (length x) (timingSays srt first (linesOf s) (timingOf (linesOf s)))) (lines-joined s)
+      (timing-small first 0 0 (linesOf s) (timingOf (linesOf s)) (timing-placed (linesOf s) 0 0))
+
+  -- for every block, and for every way to decide whose times are words
+  pub emit-fits : (first : ℕ) (s : List ℕ) (p : Part) → blockSays srt first (linesOf s) ≡ says p → Small (length s) (emitBy kind d p)
+  emit-fits first s p e = subst (SaysSmall kind d (length s)) e (says-small first s)
+
+-- by document 01, with a map that open accepts
+pub block-fits : (c : Config) → Set c → (m : List ℕ) → mapBad m ≡ false → (first : ℕ) (s : List ℕ) (p : Part) → blockSays srt first (linesOf s) ≡ says p
+    → Small (length s) (emitOf c (segmentsOf m) p)
+block-fits c set m g first s p e =
+    emit-fits (c .kind) (decideOf c (segmentsOf m)) (λ S E hs he. subst Words (decide-fine c set m S E g hs he) (decide-words c (segmentsOf m) S E)) first s p e
+
+-- by the code, at every input
+answer-small : (c : Config) (m : List Segment) (n : ℕ) (b : BlockSays) → SaysSmall (c .kind) (decideIn c m) n b → Small n (answerTo c m b .emitted)
+unfolding partIn emitBy
+answer-small c m n (faulty f) h = record { output = omega arith; one-warning = omega arith; warned-long = omega arith }
+answer-small c m n (says (stays l)) h = h
+answer-small c m n (says (passes r k l)) h = h
+answer-small c m n (says (cue q)) h = go (decideIn c m (q .start) (q .stop)) h
+  where
+    go : (d : Decision) → Small n (cueEmit (c .kind) q d) → Small n (cueIn (c .kind) q d .emitted)
+    go Strange h = record { output = omega arith; one-warning = omega arith; warned-long = omega arith }
+    go Dropped h = h
+    go (Kept r) h = h
+
+pub block-in-fits : (c : Config) (m : List Segment) (first : ℕ) (s : List ℕ) (room places : ℕ) → Small (length s) (blockIn c m first s room places .emitted)
+unfolding blockIn
+block-in-fits c m first s room places = go (ltb room (3 * length s)) (ltb places 2)
+  where
+    go : (x y : Bool) → Small (length s) (cond x (refusal 16) (cond y (refusal 16) (answerTo c m (blockSays srt first (linesOf s)))) .emitted)
+    go true y = record { output = omega arith; one-warning = omega arith; warned-long = omega arith }
+    go false true = record { output = omega arith; one-warning = omega arith; warned-long = omega arith }
+    go false false =
+        answer-small c m (length s) (blockSays srt first (linesOf s)) (says-small (c .kind) (decideIn c m) (λ S E hs he. decide-words c m S E) first s)

@@ -1,0 +1,93 @@
+-- Laws of the new block: written piece by piece, and no longer than three times the old one.
+use mathlib.Core.Path.{_≡_, refl, sym, ap, subst, _∙_}
+use mathlib.Core.Bool.{Bool, true, false, cond, _&&_}
+use mathlib.Core.List.{List, [], _∷_, _++_, append-assoc, append-nil}
+use Prim.Native.Nat.{ℕ, zero, suc, _+_, _*_, _-_, _≤_, _<_, _^_}
+use native.Mathlib.Omega.{arith}
+use lib.ListN.{length, take, drop, length-append, length-take, length-drop}
+use Rattle.base.specs.Put.{put, placedAt, placeAfter}
+use Rattle.base.proofs.PartLaws.{part-lengths}
+use Rattle.base.proofs.PutLaws.{put-nil, then-placed}
+use Rattle.text.specs.Find.{upTo, past}
+use Rattle.text.specs.White.{trimHead}
+use Rattle.text.specs.Line.{textOf, terminatorOf}
+use Rattle.text.proofs.LineLaws.{text-terminator, up-past, trim-head-length}
+use Rattle.time.specs.declared.read.Time.the-variants.{At, Bad}
+use Rattle.time.specs.Read.{timeIn}
+use Rattle.time.specs.Write.{timeText}
+use Rattle.time.proofs.Reading.{time-long}
+use Rattle.time.proofs.Written.{text-23}
+use Rattle.event.specs.Emit.{warnIf, placesOf, render}
+use Rattle.block.specs.Style.{srtEnd, srt}
+use Rattle.block.specs.Block.{arrow, writtenArrow, afterArrow, blockFrame, endText, trailing}
+
+-- ---- the frame with its times, piece behind piece
+pieces : (b S w E t x a : List ℕ) → b ++ (S ++ (w ++ (E ++ (t ++ (x ++ (a ++ [])))))) ≡ b ++ S ++ w ++ E ++ t ++ x ++ a
+pieces b S w E t x a = simp (append-assoc, append-nil)
+
+pub frame-pieces : (b t x a S E : List ℕ) → render (blockFrame b t x a) S E ≡ b ++ S ++ writtenArrow ++ E ++ t ++ x ++ a
+unfolding render
+frame-pieces b t x a S E = pieces b S writtenArrow E t x a
+
+-- the length of the new block: the old parts and at most 51 bytes
+pub frame-length : (b t x a S E : List ℕ) → length S ≤ 23 → length E ≤ 23 → length (render (blockFrame b t x a) S E) ≤ length b + length t + length x + length a + 51
+frame-length b t x a S E hs he = rw (frame-pieces b t x a S E) (simp length-append (omega arith))
+
+pub kept-length : (kind i j s e : ℕ) (b t x a : List ℕ) → s < 2 ^ 64 → e < 2 ^ 64
+    → length (render (blockFrame b t x a) (timeText kind i s) (timeText kind j e)) ≤ length b + length t + length x + length a + 51
+kept-length kind i j s e b t x a hs he = frame-length b t x a _ _ (text-23 kind i s hs) (text-23 kind j e he)
+
+-- seven pieces, each from the place where the one before it ends
+module _ (b S E t x a o l1 l2 l3 l4 l5 l6 l7 : List ℕ) (n1 n2 n3 n4 n5 n6 n7 : ℕ) (hs : length S ≤ 23) (he : length E ≤ 23) (room : length b + length t + length x + length a + 51 ≤ length o) where
+  pub frame-written : (n1 ≡ placeAfter 0 b o) × (l1 ≡ placedAt 0 b o) → (n2 ≡ placeAfter n1 S l1) × (l2 ≡ placedAt n1 S l1)
+      → (n3 ≡ placeAfter n2 writtenArrow l2) × (l3 ≡ placedAt n2 writtenArrow l2) → (n4 ≡ placeAfter n3 E l3) × (l4 ≡ placedAt n3 E l3)
+      → (n5 ≡ placeAfter n4 t l4) × (l5 ≡ placedAt n4 t l4) → (n6 ≡ placeAfter n5 x l5) × (l6 ≡ placedAt n5 x l5) → (n7 ≡ placeAfter n6 a l6) × (l7 ≡ placedAt n6 a l6)
+      → (l7 ≡ put (render (blockFrame b t x a) S E) o) × (n7 ≡ length (render (blockFrame b t x a) S E))
+  frame-written p1 p2 p3 p4 p5 p6 p7 =
+      let w2 : List ℕ = b ++ S in
+      let w3 : List ℕ = w2 ++ writtenArrow in
+      let w4 : List ℕ = w3 ++ E in
+      let w5 : List ℕ = w4 ++ t in
+      let w6 : List ℕ = w5 ++ x in
+      let k2 : length w2 ≡ length b + length S = length-append b S in
+      let k3 : length w3 ≡ length w2 + 5 = length-append w2 writtenArrow in
+      let k4 : length w4 ≡ length w3 + length E = length-append w3 E in
+      let k5 : length w5 ≡ length w4 + length t = length-append w4 t in
+      let k6 : length w6 ≡ length w5 + length x = length-append w5 x in
+      let k7 : length (w6 ++ a) ≡ length w6 + length a = length-append w6 a in
+      let q1 : (l1 ≡ put b o) × (n1 ≡ length b) = then-placed 0 n1 [] b o o l1 (sym (put-nil o)) refl (omega arith) (p1 .0) (p1 .1) in
+      let q2 : (l2 ≡ put w2 o) × (n2 ≡ length w2) = then-placed n1 n2 b S o l1 l2 (q1 .0) (q1 .1) (omega arith) (p2 .0) (p2 .1) in
+      let q3 : (l3 ≡ put w3 o) × (n3 ≡ length w3) = then-placed n2 n3 w2 writtenArrow o l2 l3 (q2 .0) (q2 .1) (omega arith) (p3 .0) (p3 .1) in
+      let q4 : (l4 ≡ put w4 o) × (n4 ≡ length w4) = then-placed n3 n4 w3 E o l3 l4 (q3 .0) (q3 .1) (omega arith) (p4 .0) (p4 .1) in
+      let q5 : (l5 ≡ put w5 o) × (n5 ≡ length w5) = then-placed n4 n5 w4 t o l4 l5 (q4 .0) (q4 .1) (omega arith) (p5 .0) (p5 .1) in
+      let q6 : (l6 ≡ put w6 o) × (n6 ≡ length w6) = then-placed n5 n6 w5 x o l5 l6 (q5 .0) (q5 .1) (omega arith) (p6 .0) (p6 .1) in
+      let q7 : (l7 ≡ put (w6 ++ a) o) × (n7 ≡ length (w6 ++ a)) = then-placed n6 n7 w6 a o l6 l7 (q6 .0) (q6 .1) (omega arith) (p7 .0) (p7 .1) in
+      let f : render (blockFrame b t x a) S E ≡ w6 ++ a = frame-pieces b t x a S E in
+      (q7 .0 ∙ ap (λ (y : List ℕ). put y o) (sym f), q7 .1 ∙ ap length (sym f))
+
+-- a timing line whose times are read has 17 bytes beside what is trailing and its terminator
+pub line-long : (l : List ℕ) (S E i j : ℕ) → timeIn 1 (upTo arrow (textOf l)) ≡ At S i → timeIn 1 (endText srt (textOf l)) ≡ At E j
+    → 17 + length (trailing srt (textOf l)) + length (terminatorOf l) ≤ length l
+unfolding afterArrow
+line-long l S E i j eS eE =
+    let T = textOf l in
+    let r = trimHead (past arrow T) in
+    let a = time-long 1 S i (upTo arrow T) eS in
+    let b = time-long 1 E j (take (srtEnd r) r) eE in
+    let c : length (take (srtEnd r) r) + length (drop (srtEnd r) r) ≡ length r = part-lengths (srtEnd r) r in
+    let d = trim-head-length (past arrow T) in
+    let u : length (upTo arrow T) + length arrow + length (past arrow T) ≡ length T = up-past arrow T (omega arith) in
+    let v : length T + length (terminatorOf l) ≡ length l = sym (length-append T (terminatorOf l)) ∙ ap length (text-terminator l) in
+    omega arith
+
+-- ---- the warning
+pub warn-yes : (b : Bool) (n k : ℕ) (w w′ : List ℕ) → 2 ≤ length w → b ≡ true → (k ≡ placeAfter 0 (4 ∷ n ∷ []) w) × (w′ ≡ placedAt 0 (4 ∷ n ∷ []) w)
+    → (w′ ≡ put (placesOf (warnIf b 4 n)) w) × (k ≡ length (placesOf (warnIf b 4 n)))
+unfolding placesOf
+warn-yes b n k w w′ h e p =
+    let q : (w′ ≡ put (4 ∷ n ∷ []) w) × (k ≡ length (4 ∷ n ∷ [])) = then-placed 0 k [] (4 ∷ n ∷ []) w w w′ (sym (put-nil w)) refl (omega arith) (p .0) (p .1) in
+    rw e q
+
+pub warn-no : (b : Bool) (n : ℕ) (w : List ℕ) → b ≡ false → (w ≡ put (placesOf (warnIf b 4 n)) w) × (0 ≡ length (placesOf (warnIf b 4 n)))
+unfolding placesOf
+warn-no b n w e = rw e (sym (put-nil w), refl)

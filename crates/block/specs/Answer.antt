@@ -1,0 +1,37 @@
+-- What the code answers to an SRT block at every input: the block said, then put through the map.
+use mathlib.Core.Bool.{Bool, true, false, cond}
+use mathlib.Core.List.{List, []}
+use Prim.Native.Nat.{ℕ, _*_}
+use lib.Dec.{ltb}
+use lib.ListN.{length}
+use Rattle.text.specs.Line.{linesOf}
+use Rattle.segmap.specs.declared.segment.Segment.{Segment}
+use Rattle.event.specs.declared.setting.Config.{Config}
+use Rattle.event.specs.declared.telling.Told.{Told}
+use Rattle.event.specs.declared.telling.Counted.the-variants.{Nothing}
+use Rattle.event.specs.Says.{faultNumber}
+use Rattle.event.specs.Emit.{emitOf}
+use Rattle.event.specs.Told.{Answer, refusal, answered, partIn}
+use Rattle.block.specs.Style.{srt}
+use Rattle.block.specs.Block.{BlockSays, faulty, says, blockSays}
+
+-- by document 01: a fault's number, or what the part becomes through the map
+abbrev pub answerOf : Config → List Segment → BlockSays → Answer
+answerOf s m (faulty f) = refusal (faultNumber f)
+answerOf s m (says p) = answered (emitOf s m p)
+
+-- by the code, at every input; within the limits both are the same (`block-fine`)
+abbrev pub answerTo : Config → List Segment → BlockSays → Answer
+answerTo s m (faulty f) = refusal (faultNumber f)
+answerTo s m (says p) = partIn s m p
+
+-- 16 where the lent output has less than three bytes for each of the block, or fewer than two warning places
+unfoldable pub blockIn : Config → List Segment → (first : ℕ) → (block : List ℕ) → (room places : ℕ) → Answer
+blockIn s m first b room places =
+    cond (ltb room (3 * length b)) (refusal 16)
+    (cond (ltb places 2) (refusal 16)
+    (answerTo s m (blockSays srt first (linesOf b))))
+
+-- a refusal, handed back
+abbrev pub refusedWith : ℕ → Told
+refusedWith n = record { number = n; counted = Nothing; written = 0; warned = 0 }

@@ -1,0 +1,78 @@
+-- What a block says by the text alone. A block is its non-blank lines, each with its terminator; the last may have none.
+use mathlib.Core.Bool.{Bool, true, false, cond}
+use mathlib.Core.List.{List, [], _∷_, _++_}
+use Prim.Native.Nat.{ℕ, suc, _+_}
+use lib.ListN.{length, take, drop}
+use Rattle.text.specs.White.{trimHead}
+use Rattle.text.specs.Find.{contains, upTo, past}
+use Rattle.text.specs.Line.{linesOf, concat, lineCount, textOf, terminatorOf}
+use Rattle.time.specs.declared.read.Time.{Time}
+use Rattle.time.specs.declared.read.Time.the-variants.{At, Bad}
+use Rattle.event.specs.Says.{Piece, bytes, start, stop, Cue, Part, stays, cue, Fault, badTime}
+use Rattle.block.specs.Style.{Style}
+
+-- `-->`, and the arrow as it is written
+abbrev pub arrow : List ℕ
+arrow = 45 ∷ 45 ∷ 62 ∷ []
+
+abbrev pub writtenArrow : List ℕ
+writtenArrow = 32 ∷ 45 ∷ 45 ∷ 62 ∷ 32 ∷ []
+
+-- the first line with an arrow: its text is cut at the terminator before it is looked at
+pub data Timing : Type 0 where
+  untimed : Timing
+  timed : (before : List (List ℕ)) → (line : List ℕ) → (after : List (List ℕ)) → Timing
+
+abbrev pub later : List ℕ → Timing → Timing
+later l untimed = untimed
+later l (timed before x after) = timed (l ∷ before) x after
+
+unfoldable pub timingOf : List (List ℕ) → Timing
+timingOf [] = untimed
+timingOf (l ∷ ls) = cond (contains arrow (textOf l)) (timed [] l ls) (later l (timingOf ls))
+
+pub data BlockSays : Type 0 where
+  faulty : Fault → BlockSays
+  says : Part → BlockSays
+
+-- what follows the arrow and its White_Space: the end time, and the trailing text
+unfoldable pub afterArrow : List ℕ → List ℕ
+afterArrow t = trimHead (past arrow t)
+
+-- the bytes around the times: those before the timing line, its trailing text, its terminator, and the bytes after it
+abbrev pub blockFrame : (before trailing terminator after : List ℕ) → List Piece
+blockFrame before trailing terminator after =
+    bytes before ∷ start ∷ bytes writtenArrow ∷ stop ∷ bytes trailing ∷ bytes terminator ∷ bytes after ∷ []
+
+-- a block's cue; n is the timing line's number
+abbrev pub blockCue : (n S a E b : ℕ) → List Piece → Cue
+blockCue n S a E b ps = record { line = n; start = S; startMark = a; stop = E; stopMark = b; tagged = false; frame = ps }
+
+-- both times must read
+abbrev pub timesSay : (n : ℕ) → List Piece → Time → Time → BlockSays
+timesSay n ps Bad y = faulty badTime
+timesSay n ps (At S a) Bad = faulty badTime
+timesSay n ps (At S a) (At E b) = says (cue (blockCue n S a E b ps))
+
+module _ (k : Style) where
+  abbrev pub endText : List ℕ → List ℕ
+  endText t = take (k .endLength (afterArrow t)) (afterArrow t)
+
+  abbrev pub trailing : List ℕ → List ℕ
+  trailing t = drop (k .endLength (afterArrow t)) (afterArrow t)
+
+  -- the timing line, between the bytes before and after it
+  unfoldable pub lineSays : (n : ℕ) → (before line after : List ℕ) → BlockSays
+  lineSays n before l after =
+      timesSay n (blockFrame before (trailing (textOf l)) (terminatorOf l) after)
+      (k .time (upTo arrow (textOf l)))
+      (k .time (endText (textOf l)))
+
+  -- without a timing line the block stays
+  abbrev pub timingSays : (first : ℕ) → List (List ℕ) → Timing → BlockSays
+  timingSays first ls untimed = says (stays (concat ls))
+  timingSays first ls (timed before l after) = lineSays (first + lineCount before) (concat before) l (concat after)
+
+  -- the block's lines; `first` is the number of its first line, from 1
+  unfoldable pub blockSays : (first : ℕ) → List (List ℕ) → BlockSays
+  blockSays first ls = timingSays first ls (timingOf ls)

@@ -1,0 +1,5 @@
+-- Blocks of lines (SRT): the timing line, the end's twelve bytes, and what a block says.
+pub mod Style
+pub mod Block
+pub mod Answer
+pub mod Place

@@ -1,0 +1,226 @@
+// One closed SRT block: its lines as one slice, retimed into the rest of the output.
+use crate::timing::after_arrow;
+use crate::timing::before_arrow;
+use crate::timing::end_length;
+use crate::timing::locate;
+use event::Config;
+use event::Counted;
+use event::Decision;
+use event::Retimed;
+use event::Told;
+use time::Time;
+ghost use mathlib.Core.Path.{_≡_};
+ghost use mathlib.Core.Bool.{Bool, true, false, cond, _||_};
+ghost use mathlib.Core.List.{[], _∷_};
+ghost use Prim.Native.Nat.{_+_, _*_, _≤_};
+ghost use lib.ListN.{length};
+ghost use Rattle.base.specs.Put.{put, placedAt, placeAfter};
+ghost use Rattle.time.specs.Write.{timeText};
+ghost use Rattle.segmap.specs.Segment.{segmentsOf};
+ghost use Rattle.event.specs.Decide.{decideIn};
+ghost use Rattle.event.specs.Fates.{fateFor};
+ghost use Rattle.event.specs.Says.{stays};
+ghost use Rattle.event.specs.Emit.{decided, warnIf, placesOf, render};
+ghost use Rattle.event.specs.Told.{countedOf, cueIn, partIn, Tells};
+ghost use Rattle.block.specs.Style.{srt};
+ghost use Rattle.block.specs.Block.{writtenArrow, blockFrame, blockCue, lineSays};
+ghost use Rattle.block.specs.Answer.{refusedWith, answerTo, blockIn};
+
+// The times of a timing line, each with its mark.
+struct Times {
+    start: u64,
+    start_mark: u8,
+    stop: u64,
+    stop_mark: u8,
+}
+
+fn refused(number: u32) -> Told
+    ensures { λ r. ⌜ r ≡ refusedWith number ⌝ }
+{
+    Told {
+        number,
+        counted: Counted::Nothing,
+        written: 0,
+        warned: 0,
+    }
+}
+
+fn put_arrow(out: &mut [u8], at: usize) -> usize
+    ensures { λ r. ⌜ (r ≡ placeAfter at writtenArrow (now (out .entry))) × (now (out .exit) ≡ placedAt at writtenArrow (now (out .entry))) ⌝ }
+{
+    base::bytes_at(out, at, b" --> ")
+}
+
+// The new block, where the output has room for it: 51 bytes beside the old parts.
+fn write_kept(
+    kind: u32,
+    new: Times,
+    before: &[u8],
+    trailing: &[u8],
+    end: &[u8],
+    after: &[u8],
+    out: &mut [u8],
+) -> usize
+    requires { ⌜ length (now before) + length (now trailing) + length (now end) + length (now after) + 51 ≤ length (now out) ⌝ }
+    ensures { λ r. ⌜ (now (out .exit) ≡ put (render (blockFrame (now (before .entry)) (now (trailing .entry)) (now (end .entry)) (now (after .entry))) (timeText kind (new .«start_mark») (new .start)) (timeText kind (new .«stop_mark») (new .stop))) (now (out .entry))) × (r ≡ length (render (blockFrame (now (before .entry)) (now (trailing .entry)) (now (end .entry)) (now (after .entry))) (timeText kind (new .«start_mark») (new .start)) (timeText kind (new .«stop_mark») (new .stop)))) ⌝ }
+{
+    let a = base::bytes_at(out, 0, before);
+    let b = time::write_time_at(new.start, kind, new.start_mark, out, a);
+    let c = put_arrow(out, b);
+    let d = time::write_time_at(new.stop, kind, new.stop_mark, out, c);
+    let e = base::bytes_at(out, d, trailing);
+    let f = base::bytes_at(out, e, end);
+    base::bytes_at(out, f, after)
+}
+
+// The warning of a part that was lost, two places.
+fn warn(lost: bool, line: u64, warnings: &mut [u64]) -> usize
+    requires { ⌜ 2 ≤ length (now warnings) ⌝ }
+    ensures { λ r. ⌜ (now (warnings .exit) ≡ put (placesOf (warnIf lost 4 line)) (now (warnings .entry))) × (r ≡ length (placesOf (warnIf lost 4 line))) ⌝ }
+{
+    if lost {
+        return base::pair_at(warnings, 0, 4, line);
+    }
+    0
+}
+
+// How a kept caption is counted.
+fn counted_by(r: Retimed) -> Counted
+    ensures { λ c. ⌜ c ≡ countedOf (decided (fateFor r)) ⌝ }
+{
+    if r.start_cut {
+        return Counted::Clipped;
+    }
+    if r.end_cut {
+        return Counted::Clipped;
+    }
+    Counted::Shifted
+}
+
+// A caption whose times are read.
+fn settle(
+    config: Config,
+    map: &[u64],
+    old: Times,
+    before: &[u8],
+    trailing: &[u8],
+    end: &[u8],
+    after: &[u8],
+    line: u64,
+    out: &mut [u8],
+    warnings: &mut [u64],
+) -> Told
+    requires { ⌜ (length (now before) + length (now trailing) + length (now end) + length (now after) + 51 ≤ length (now out)) × (2 ≤ length (now warnings)) ⌝ }
+    ensures { λ r. ⌜ Tells (cueIn (config .kind) (blockCue line (old .start) (old .«start_mark») (old .stop) (old .«stop_mark») (blockFrame (now (before .entry)) (now (trailing .entry)) (now (end .entry)) (now (after .entry)))) (decideIn config (segmentsOf (now (map .entry))) (old .start) (old .stop))) r (now (out .entry)) (now (out .exit)) (now (warnings .entry)) (now (warnings .exit)) ⌝ }
+{
+    let kind = config.kind;
+    match event::decide(map, config, old.start, old.stop) {
+        Decision::Strange => refused(15),
+        Decision::Dropped => Told {
+            number: 0,
+            counted: Counted::Dropped,
+            written: 0,
+            warned: 0,
+        },
+        Decision::Kept(r) => {
+            let new = Times {
+                start: r.start,
+                start_mark: old.start_mark,
+                stop: r.stop,
+                stop_mark: old.stop_mark,
+            };
+            let lost = r.lost;
+            let counted = counted_by(r);
+            let written = write_kept(kind, new, before, trailing, end, after, out);
+            let warned = warn(lost, line, warnings);
+            Told {
+                number: 0,
+                counted,
+                written,
+                warned,
+            }
+        }
+    }
+}
+
+// A block with a timing line.
+fn timed(
+    config: Config,
+    map: &[u64],
+    before: &[u8],
+    line: &[u8],
+    after: &[u8],
+    number: u64,
+    out: &mut [u8],
+    warnings: &mut [u64],
+) -> Told
+    requires { ⌜ (3 * (length (now before) + length (now line) + length (now after)) ≤ length (now out)) × (2 ≤ length (now warnings)) ⌝ }
+    ensures { λ r. ⌜ Tells (answerTo config (segmentsOf (now (map .entry))) (lineSays srt number (now (before .entry)) (now (line .entry)) (now (after .entry)))) r (now (out .entry)) (now (out .exit)) (now (warnings .entry)) (now (warnings .exit)) ⌝ }
+{
+    let text = text::text_of(line);
+    let behind = after_arrow(text);
+    let n = end_length(behind);
+    let Time::At(start, start_mark) = time::read_time(before_arrow(text), 1) else {
+        return refused(22);
+    };
+    let Time::At(stop, stop_mark) = time::read_time(base::front(behind, n), 1) else {
+        return refused(22);
+    };
+    let old = Times {
+        start,
+        start_mark,
+        stop,
+        stop_mark,
+    };
+    let trailing = base::rest(behind, n);
+    let end = text::terminator_of(line);
+    settle(
+        config,
+        map,
+        old,
+        before,
+        trailing,
+        end,
+        after,
+        number,
+        out,
+        warnings,
+    )
+}
+
+// What becomes of a block: `text` is its non-blank lines, and `first` the number of the first of them, from 1.
+pub fn block(
+    config: Config,
+    map: &[u64],
+    first: u32,
+    text: &[u8],
+    out: &mut [u8],
+    warnings: &mut [u64],
+) -> Told
+    ensures { λ r. ⌜ Tells (blockIn config (segmentsOf (now (map .entry))) first (now (text .entry)) (length (now (out .entry))) (length (now (warnings .entry)))) r (now (out .entry)) (now (out .exit)) (now (warnings .entry)) (now (warnings .exit)) ⌝ }
+{
+    if out.len() / 3 < text.len() {
+        return refused(16);
+    }
+    if warnings.len() < 2 {
+        return refused(16);
+    }
+    let p = locate(text);
+    if p.found {
+        let at = p.at;
+        let size = p.size;
+        let number = first as u64 + p.lines as u64;
+        let rest = base::rest(text, at);
+        let before = base::front(text, at);
+        let line = base::front(rest, size);
+        let after = base::rest(rest, size);
+        return timed(config, map, before, line, after, number, out, warnings);
+    }
+    let written = base::bytes(out, text);
+    Told {
+        number: 0,
+        counted: Counted::Nothing,
+        written,
+        warned: 0,
+    }
+}
