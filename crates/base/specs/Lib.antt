@@ -4,3 +4,4 @@ pub mod Refusal
 pub mod Part
 pub mod Width
 pub mod Put
+pub mod Ascii

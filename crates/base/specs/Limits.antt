@@ -49,3 +49,32 @@ mostMinutes = 59
 
 abbrev pub mostSeconds : ℕ
 mostSeconds = 59
+
+-- ---- the session
+-- bytes of a piece that is fed, of an output and 64-bit places that are lent (16)
+abbrev pub mostPiece : ℕ
+mostPiece = 1024
+
+abbrev pub leastOutput : ℕ
+leastOutput = 32768
+
+abbrev pub leastPlaces : ℕ
+leastPlaces = 4096
+
+-- bytes fed altogether (16, 17)
+abbrev pub mostTaken : ℕ
+mostTaken = 2 ^ 30
+
+-- a line with its terminator and BOM (19), and the non-blank lines of a block (21)
+abbrev pub mostLine : ℕ
+mostLine = 4096
+
+abbrev pub mostBlock : ℕ
+mostBlock = 4096
+
+-- columns of an ASS format line, and the bytes that a session has room to hold (17)
+abbrev pub mostColumns : ℕ
+mostColumns = 4096
+
+abbrev pub mostHeld : ℕ
+mostHeld = 8192

@@ -31,3 +31,21 @@ pub const MOST_HOURS: u32 = 9999;
 pub const MOST_MINUTES: u32 = 59;
 
 pub const MOST_SECONDS: u32 = 59;
+
+// Bytes of a piece that is fed; bytes and places of the lent output and warnings; bytes fed altogether.
+pub const MOST_PIECE: usize = 1024;
+
+pub const LEAST_OUTPUT: usize = 32768;
+
+pub const LEAST_PLACES: usize = 4096;
+
+pub const MOST_TAKEN: u32 = 1073741824;
+
+// Bytes of a line and of a block's lines, columns of an ASS format line, and bytes that a session has room to hold.
+pub const MOST_LINE: usize = 4096;
+
+pub const MOST_BLOCK: usize = 4096;
+
+pub const MOST_COLUMNS: usize = 4096;
+
+pub const MOST_HELD: usize = 8192;

@@ -1,7 +1,6 @@
 -- Worked examples, by computation: what blocks say by their text, and what they become through the map of document 01's small proofs.
 use Prim.Native.Nat.{ℕ}
-use Prim.Native.Char.{code}
-use Prim.Native.String.{String}
+use Rattle.base.specs.Ascii.{ascii}
 use mathlib.Core.Path.{_≡_, refl}
 use mathlib.Core.List.{List, [], _∷_, _++_}
 use Rattle.base.specs.Part.{last}
@@ -26,11 +25,6 @@ use Rattle.event.specs.Told.{Answer, answered, refusal, partIn}
 use Rattle.block.specs.Style.{srtEnd, srt}
 use Rattle.block.specs.Block.{timingOf, afterArrow, blockFrame, blockCue, lineSays, blockSays, BlockSays, faulty, says}
 use Rattle.block.specs.Answer.{blockIn}
-
--- the bytes of a text of ASCII characters
-abbrev ascii : String → List ℕ
-ascii String.[] = List.[]
-ascii (String._∷_ c s) = List._∷_ (code c) (ascii s)
 
 abbrev line : String → List ℕ
 line s = ascii s ++ 10 ∷ []

@@ -1,7 +1,6 @@
 -- Worked examples, by computation.
 use Prim.Native.Nat.{ℕ, _+_, _-_, _^_}
-use Prim.Native.Char.{code}
-use Prim.Native.String.{String}
+use Rattle.base.specs.Ascii.{ascii}
 use mathlib.Core.Path.{_≡_, refl}
 use mathlib.Core.List.{List}
 use Rattle.base.specs.Part.{last}
@@ -15,11 +14,6 @@ use Rattle.time.specs.Kind.{kindBad, unitsOf, markOf, fractionDigits, ho
 use Rattle.time.specs.Convert.{scaledUp, ticksOf, startUnits, endUnits, timescaleBad, settingNumber, unitsNumber, ticksNumber, convertedTo}
 use Rattle.time.specs.Read.{timeWith, timeIn, timeNumber, timeUnits, timeMark}
 use Rattle.time.specs.Write.{pad, widthUnder, width, textWith, timeText}
-
--- the bytes of a text of ASCII characters
-abbrev ascii : String → List ℕ
-ascii String.[] = List.[]
-ascii (String._∷_ c s) = List._∷_ (code c) (ascii s)
 
 -- ---- conversions: T = 30000, a stretch (source 0, output 0) of 3003 ticks, and one (source 6006, output 3003)
 -- 21–25 hundredths through the second: 10–15

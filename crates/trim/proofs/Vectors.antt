@@ -2,8 +2,7 @@
 use mathlib.Core.Path.{_≡_, refl, sym, ap, _∙_}
 use mathlib.Core.List.{List, [], _∷_}
 use Prim.Native.Nat.{ℕ, _<_}
-use Prim.Native.Char.{code}
-use Prim.Native.String.{String}
+use Rattle.base.specs.Ascii.{ascii}
 use native.Mathlib.Omega.{arith}
 use borrow.Author.Tests.{lt-leb}
 use lib.ListN.{length, replicate, length-replicate}
@@ -18,11 +17,6 @@ use Rattle.text.specs.Piece.{piecesFrom, pieces}
 use Rattle.text.specs.Number.{digit, digits, valueFrom, natural, unsigned, number}
 use Rattle.trim.specs.Token.{rangeOf, boundsOf, pairOf, closedOf, tokenOf, after, stepOf, tokenNumber, tokenRange, tokenEnd}
 use Rattle.trim.specs.TrimList.{tokensOf, tokensNumber, rangesIn, headNumber, listNumber, rangeCount, rangesOf, parsed, answered, parseNumber, parseOf}
-
--- the bytes of a text of ASCII characters
-abbrev ascii : String → List ℕ
-ascii String.[] = List.[]
-ascii (String._∷_ c s) = List._∷_ (code c) (ascii s)
 
 -- document 01's list
 example-parsed : parseOf (ascii "Trim(0,2) ++ Trim(6,8)") 2048 ≡ parsed 0 2

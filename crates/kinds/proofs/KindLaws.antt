@@ -1,0 +1,244 @@
+-- Both kinds obey the laws of a machine: states stay in their bounds, and a line ends at most one caption.
+use mathlib.Core.Path.{_≡_, refl, sym, ap, subst, _∙_}
+use mathlib.Core.Bool.{Bool, true, false, cond, _||_, not}
+use mathlib.Core.List.{List, [], _∷_, _++_, append-nil, append-assoc}
+use Prim.Native.Nat.{ℕ, zero, suc, _+_, _-_, _≤_, _<_}
+use native.Mathlib.Omega.{arith}
+use lib.Dec.{eqb, ltb, leb}
+use lib.ListN.{length, drop, length-append}
+use borrow.Author.Tests.{le-ltb, ltb-false, leb-true}
+use Rattle.base.specs.Limits.{mostLine, mostBlock, mostColumns}
+use Rattle.text.specs.Utf8.{utf8}
+use Rattle.text.specs.Line.{concat, lineCount, hasLf, endsLine}
+use Rattle.text.proofs.LineLaws.{Finished}
+use Rattle.time.specs.Kind.{kindBad}
+use Rattle.event.specs.Says.{Part, stays, passes, cue, captionsIn, Fault, notUtf8, longBlock}
+use Rattle.ass.specs.declared.layout.Columns.{Columns}
+use Rattle.ass.specs.Line.{LineSays, lineSays, faulty as lineFaulty, says as lineSaid}
+use Rattle.block.specs.Style.{Style, srt, blankIn}
+use Rattle.block.specs.Block.{BlockSays, blockSays, faulty as blockFaulty, says as blockSaid}
+use Rattle.machine.specs.Cut.{Cut, cut, isLf, closedLines, unfinished}
+use Rattle.machine.specs.Machine.{Machine, Says, faulty, says}
+use Rattle.machine.specs.Session.{Kit}
+use Rattle.machine.proofs.CutLaws.{cut-held, has-none}
+use Rattle.machine.proofs.Laws.{StepFacts, StepOk, CloseOk, Lawful}
+use Rattle.kinds.specs.Takes.{State, noColumns, blankState, ofLine, lineTakes, withBlock, ofBlock, closes, adds, blockTakes, takes, ends, machineOf}
+use Rattle.kinds.specs.Kit.{linesBad, heldBad, columnsBad, strange, kit}
+use Rattle.kinds.proofs.ColumnBounds.{Bounded, bounded-good, none-bounded, After, line-bounded}
+
+-- ---- by kind
+pub takes-ass : (s : State) (n : ℕ) (l : List ℕ) → takes 0 s n l ≡ lineTakes s n l
+unfolding takes
+takes-ass s n l = refl
+
+pub takes-srt : (s : State) (n : ℕ) (l : List ℕ) → takes 1 s n l ≡ blockTakes srt s n l
+unfolding takes
+takes-srt s n l = refl
+
+pub ends-ass : (s : State) (n : ℕ) → ends 0 s n ≡ says s []
+unfolding ends
+ends-ass s n = refl
+
+pub ends-srt : (s : State) (n : ℕ) → ends 1 s n ≡ closes srt s n (s .block) []
+unfolding ends
+ends-srt s n = refl
+
+pub held-ass : (h : List ℕ) → heldBad 0 h ≡ (ltb mostLine (length h) || hasLf h)
+unfolding heldBad
+held-ass h = refl
+
+pub held-srt : (h : List ℕ)
+    → heldBad 1 h ≡ (ltb mostBlock (length (concat (closedLines h))) || (linesBad 1 (closedLines h) || ltb mostLine (length (unfinished h))))
+unfolding heldBad
+held-srt h = refl
+
+-- ---- what holds of a state between two lines: ASS has no block, SRT's is of finished lines
+abbrev pub BlockFit : (kind : ℕ) → List (List ℕ) → Type 0
+BlockFit zero ls = ls ≡ []
+BlockFit (suc k) ls = Finished ls
+
+pub record Fit (kind : ℕ) (s : State) : Type 0 where
+  pub bounded : Bounded (s .columns)
+  pub small : length (concat (s .block)) ≤ mostBlock
+  pub lines : linesBad kind (s .block) ≡ false
+  pub block : BlockFit kind (s .block)
+
+-- an open block may still give a caption
+abbrev pub openBlock : List (List ℕ) → ℕ
+openBlock [] = 0
+openBlock (l ∷ ls) = 1
+
+abbrev pub pending : State → ℕ
+pending s = openBlock (s .block)
+
+abbrev pub size : State → ℕ
+size s = length (concat (s .block))
+
+one-part : (p : Part) → captionsIn (p ∷ []) ≤ 1
+unfolding captionsIn
+one-part (stays l) = omega arith
+one-part (passes r n l) = omega arith
+one-part (cue q) = omega arith
+
+no-part : captionsIn [] ≡ 0
+unfolding captionsIn
+no-part = refl
+
+part-stays : (p : Part) (l : List ℕ) → captionsIn (p ∷ stays l ∷ []) ≤ 1
+unfolding captionsIn
+part-stays (stays k) l = omega arith
+part-stays (passes r n k) l = omega arith
+part-stays (cue q) l = omega arith
+
+stays-none : (l : List ℕ) → captionsIn (stays l ∷ []) ≡ 0
+unfolding captionsIn
+stays-none l = refl
+
+abbrev LineOk : (kind : ℕ) → State → List ℕ → Says State → Type 0
+LineOk kind s l x = StepOk (Fit kind) pending size s l x
+
+checked : (kind : ℕ) (s : State) (l : List ℕ) (u : Bool) (x : Says State) (f : Fault) → (u ≡ true → LineOk kind s l x) → LineOk kind s l (cond u x (faulty f))
+checked kind s l true x f a = a refl
+checked kind s l false x f a = tt
+
+-- ---- ASS
+said-ok : (s : State) (l : List ℕ) (x : LineSays) → Fit 0 s → After Bounded x → LineOk 0 s l (ofLine s x)
+said-ok s l (lineFaulty f) h b = tt
+said-ok s l (lineSaid c p) h b =
+    record {
+      fit = λ e. record { bounded = b; small = h .small; lines = h .lines; block = h .block };
+      few = omega (arith, one-part p);
+      small = omega arith;
+    }
+
+ass-step : (s : State) (n : ℕ) (l : List ℕ) → Fit 0 s → length l ≤ mostLine → LineOk 0 s l (lineTakes s n l)
+unfolding lineTakes
+ass-step s n l h k =
+    checked 0 s l (utf8 l) (ofLine s (lineSays (s .columns) n l)) notUtf8 (λ e. said-ok s l (lineSays (s .columns) n l) h (line-bounded (s .columns) n l (h .bounded) k))
+
+-- ---- SRT
+pub concat-snoc : (ls : List (List ℕ)) (l : List ℕ) → concat (ls ++ (l ∷ [])) ≡ concat ls ++ l
+concat-snoc [] l = append-nil l
+concat-snoc (k ∷ ls) l = ap (λ (x : List ℕ). k ++ x) (concat-snoc ls l) ∙ sym (append-assoc k (concat ls) l)
+
+pub finished-snoc : (ls : List (List ℕ)) (l : List ℕ) → Finished ls → endsLine l ≡ true → Finished (ls ++ (l ∷ []))
+finished-snoc [] l f e = (e, tt)
+finished-snoc (k ∷ ls) l f e = (f .0, finished-snoc ls l (f .1) e)
+
+bad-snoc : (kind : ℕ) (ls : List (List ℕ)) (l : List ℕ) → linesBad kind ls ≡ false → blankIn kind l ≡ false → utf8 l ≡ true → linesBad kind (ls ++ (l ∷ [])) ≡ false
+bad-snoc kind [] l e p q = rw (p, q)
+bad-snoc kind (k ∷ ls) l e p q = go (blankIn kind k || not (utf8 k)) e (λ (x : linesBad kind ls ≡ false). bad-snoc kind ls l x p q)
+  where
+    go : (t : Bool) → (t || linesBad kind ls) ≡ false → (linesBad kind ls ≡ false → linesBad kind (ls ++ (l ∷ [])) ≡ false)
+        → (t || linesBad kind (ls ++ (l ∷ []))) ≡ false
+    go true e ih = e
+    go false e ih = ih e
+
+snoc-open : (ls : List (List ℕ)) (l : List ℕ) → openBlock (ls ++ (l ∷ [])) ≡ 1
+snoc-open [] l = refl
+snoc-open (k ∷ ls) l = refl
+
+emptied : (s : State) → Fit 1 s → Fit 1 (withBlock [] s)
+emptied s h = record { bounded = h .bounded; small = omega arith; lines = refl; block = tt }
+
+block-ok : (s : State) (l : List ℕ) (x : BlockSays) → Fit 1 s → pending s ≡ 1 → LineOk 1 s l (ofBlock s (stays l ∷ []) x)
+block-ok s l (blockFaulty f) h p = tt
+block-ok s l (blockSaid q) h p =
+    record { fit = λ e. emptied s h; few = omega (arith, part-stays q l); small = omega arith }
+
+closes-ok : (s : State) (n : ℕ) (l : List ℕ) (b : List (List ℕ)) → s .block ≡ b → Fit 1 s → LineOk 1 s l (closes srt s n b (stays l ∷ []))
+closes-ok s n l [] e h = record { fit = λ z. emptied s h; few = omega (arith, stays-none l); small = omega arith }
+closes-ok s n l (k ∷ ks) e h = block-ok s l (blockSays srt (suc n - lineCount (k ∷ ks)) (k ∷ ks)) h (ap openBlock e)
+
+adds-ok : (s : State) (l : List ℕ) → Fit 1 s → blankIn 1 l ≡ false → utf8 l ≡ true → (t : Bool) → leb (length (concat (s .block)) + length l) mostBlock ≡ t
+    → LineOk 1 s l (adds t s l)
+adds-ok s l h p q false e = tt
+adds-ok s l h p q true e =
+    let k : length (concat (s .block ++ (l ∷ []))) ≡ length (concat (s .block)) + length l = ap length (concat-snoc (s .block) l) ∙ length-append (concat (s .block)) l in
+    record {
+      fit =
+          λ z. record {
+            bounded = h .bounded;
+            small = omega (arith, leb-true (length (concat (s .block)) + length l) mostBlock e);
+            lines = bad-snoc 1 (s .block) l (h .lines) p q;
+            block = finished-snoc (s .block) l (h .block) z;
+          };
+      few = omega (arith, snoc-open (s .block) l, no-part);
+      small = omega arith;
+    }
+
+blank-ok : (s : State) (n : ℕ) (l : List ℕ) → Fit 1 s → utf8 l ≡ true → (b : Bool) → blankIn 1 l ≡ b
+    → LineOk 1 s l (cond b (closes srt s n (s .block) (stays l ∷ [])) (adds (leb (length (concat (s .block)) + length l) mostBlock) s l))
+blank-ok s n l h q true p = closes-ok s n l (s .block) refl h
+blank-ok s n l h q false p = adds-ok s l h p q (leb (length (concat (s .block)) + length l) mostBlock) refl
+
+srt-step : (s : State) (n : ℕ) (l : List ℕ) → Fit 1 s → LineOk 1 s l (blockTakes srt s n l)
+unfolding blockTakes
+srt-step s n l h = checked 1 s l (utf8 l) _ notUtf8 (λ q. blank-ok s n l h q (blankIn 1 l) refl)
+
+-- a finish ends at most the open block
+block-few : (s : State) (x : BlockSays) → pending s ≡ 1 → CloseOk (Fit 1) pending size s (ofBlock s [] x)
+block-few s (blockFaulty f) p = tt
+block-few s (blockSaid q) p = omega (arith, one-part q)
+
+srt-close : (s : State) (n : ℕ) (b : List (List ℕ)) → s .block ≡ b → CloseOk (Fit 1) pending size s (closes srt s n b [])
+srt-close s n [] e = omega (arith, no-part)
+srt-close s n (k ∷ ks) e = block-few s (blockSays srt (suc n - lineCount (k ∷ ks)) (k ∷ ks)) (ap openBlock e)
+
+-- ---- what a session keeps
+held-cut : (kind : ℕ) (s : State) (h : List ℕ) → Fit kind s → hasLf h ≡ false → cut isLf (concat (s .block) ++ h) ≡ record { pieces = s .block; rest = h }
+held-cut kind s h f e = cut-held (s .block) h (all-finished kind (s .block) (f .block)) e
+  where
+    all-finished : (kind : ℕ) (ls : List (List ℕ)) → BlockFit kind ls → Finished ls
+    all-finished zero ls e = subst Finished (sym e) tt
+    all-finished (suc k) ls e = e
+
+held-good-ass : (s : State) (h : List ℕ) → Fit 0 s → length h ≤ mostLine → hasLf h ≡ false → heldBad 0 (concat (s .block) ++ h) ≡ false
+held-good-ass s h f k e =
+    ap (λ (ls : List (List ℕ)). heldBad 0 (concat ls ++ h)) (f .block) ∙ held-ass h ∙ rw (le-ltb mostLine (length h) k, e)
+
+held-good-srt : (s : State) (h : List ℕ) → Fit 1 s → length h ≤ mostLine → hasLf h ≡ false → heldBad 1 (concat (s .block) ++ h) ≡ false
+held-good-srt s h f k e =
+    held-srt (concat (s .block) ++ h)
+    ∙ ap (λ (c : Cut ℕ). ltb mostBlock (length (concat (c .pieces))) || (linesBad 1 (c .pieces) || ltb mostLine (length (c .rest)))) (held-cut 1 s h f e)
+    ∙ rw (le-ltb mostBlock (length (concat (s .block))) (f .small), f .lines, le-ltb mostLine (length h) k)
+
+blank-fit : (kind : ℕ) → BlockFit kind [] → Fit kind blankState
+blank-fit kind b = record { bounded = none-bounded; small = omega arith; lines = refl; block = b }
+
+-- the fields that both kinds have in common
+module _ (kind : ℕ) (b : BlockFit kind [])
+    (steps : (s : State) (n : ℕ) (l : List ℕ) → Fit kind s → length l ≤ mostLine → LineOk kind s l (takes kind s n l))
+    (finishes : (s : State) (n : ℕ) → CloseOk (Fit kind) pending size s (ends kind s n))
+    (holds : (s : State) (h : List ℕ) → Fit kind s → length h ≤ mostLine → hasLf h ≡ false → heldBad kind (concat (s .block) ++ h) ≡ false) where
+  laws : Lawful kit kind
+  laws =
+      record {
+        Fit = Fit kind;
+        pending = pending;
+        size = size;
+        start-fit = blank-fit kind b;
+        start-pending = refl;
+        start-size = refl;
+        start-pack = refl;
+        step-ok = steps;
+        close-ok = finishes;
+        pack-length = λ s h. length-append (concat (s .block)) h;
+        same-state = λ s h f e. ap (λ (c : Cut ℕ). record { columns = s .columns; block = c .pieces }) (held-cut kind s h f e);
+        same-line = λ s h f e. ap (λ (c : Cut ℕ). c .rest) (held-cut kind s h f e);
+        not-strange = λ s h f k e. rw (bounded-good (s .columns) (f .bounded), holds s h f k e);
+      }
+
+pub ass-laws : Lawful kit 0
+ass-laws =
+    laws 0 refl
+    (λ s n l h k. subst (LineOk 0 s l) (sym (takes-ass s n l)) (ass-step s n l h k))
+    (λ s n. subst (CloseOk (Fit 0) pending size s) (sym (ends-ass s n)) (omega (arith, no-part)))
+    (λ s h f k e. held-good-ass s h f k e)
+
+pub srt-laws : Lawful kit 1
+srt-laws =
+    laws 1 tt
+    (λ s n l h k. subst (LineOk 1 s l) (sym (takes-srt s n l)) (srt-step s n l h))
+    (λ s n. subst (CloseOk (Fit 1) pending size s) (sym (ends-srt s n)) (srt-close s n (s .block) refl))
+    (λ s h f k e. held-good-srt s h f k e)

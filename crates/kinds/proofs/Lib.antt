@@ -1,0 +1,2 @@
+pub mod ColumnBounds
+pub mod KindLaws

@@ -1,0 +1,69 @@
+-- What a line, and a finish, say in each kind by the text alone: 20, 21, 22 in this order, else the parts. Kind 0 is ASS, 1 SRT.
+use mathlib.Core.Bool.{Bool, true, false, cond}
+use mathlib.Core.List.{List, [], _∷_, _++_}
+use Prim.Native.Nat.{ℕ, suc, _+_, _-_}
+use lib.Dec.{leb, eqb}
+use lib.ListN.{length}
+use Rattle.base.specs.Limits.{mostBlock}
+use Rattle.text.specs.Utf8.{utf8}
+use Rattle.text.specs.Line.{concat, lineCount}
+use Rattle.event.specs.Says.{Part, stays, Fault, notUtf8, longBlock}
+use Rattle.ass.specs.declared.layout.Columns.{Columns}
+use Rattle.ass.specs.Line.{LineSays, lineSays, faulty as lineFaulty, says as lineSaid}
+use Rattle.block.specs.Style.{Style, srt}
+use Rattle.block.specs.Block.{BlockSays, blockSays, faulty as blockFaulty, says as blockSaid}
+use Rattle.machine.specs.Machine.{Machine, Says, faulty, says}
+
+-- between two lines: the section and the columns of ASS; the lines of SRT's open block, each with its terminator
+pub record State : Type 0 where
+  pub columns : Columns
+  pub block : List (List ℕ)
+
+-- at first outside Events, columns unknown, no block
+abbrev pub noColumns : Columns
+noColumns = record { events = false; columns = 0; start = 0; «end» = 0 }
+
+abbrev pub blankState : State
+blankState = record { columns = noColumns; block = [] }
+
+-- ---- ASS: each line speaks for itself
+abbrev pub ofLine : State → LineSays → Says State
+ofLine s (lineFaulty f) = faulty f
+ofLine s (lineSaid c p) = says (record { columns = c; block = s .block }) (p ∷ [])
+
+unfoldable pub lineTakes : State → (n : ℕ) → List ℕ → Says State
+lineTakes s n l = cond (utf8 l) (ofLine s (lineSays (s .columns) n l)) (faulty notUtf8)
+
+-- ---- SRT: a blank line ends the block
+abbrev pub withBlock : List (List ℕ) → State → State
+withBlock b s = record { columns = s .columns; block = b }
+
+abbrev pub ofBlock : State → (more : List Part) → BlockSays → Says State
+ofBlock s more (blockFaulty f) = faulty f
+ofBlock s more (blockSaid p) = says (withBlock [] s) (p ∷ more)
+
+-- the open block's lines end with the n-th line of the text; then come the parts `more`
+abbrev pub closes : Style → State → (n : ℕ) → (block : List (List ℕ)) → (more : List Part) → Says State
+closes k s n [] more = says (withBlock [] s) more
+closes k s n (l ∷ ls) more = ofBlock s more (blockSays k (suc n - lineCount (l ∷ ls)) (l ∷ ls))
+
+abbrev pub adds : (short : Bool) → State → List ℕ → Says State
+adds true s l = says (withBlock (s .block ++ (l ∷ [])) s) []
+adds false s l = faulty longBlock
+
+unfoldable pub blockTakes : Style → State → (n : ℕ) → List ℕ → Says State
+blockTakes k s n l =
+    cond (utf8 l)
+    (cond (k .blank l) (closes k s n (s .block) (stays l ∷ [])) (adds (leb (length (concat (s .block)) + length l) mostBlock) s l))
+    (faulty notUtf8)
+
+-- ---- by kind
+unfoldable pub takes : (kind : ℕ) → State → (n : ℕ) → List ℕ → Says State
+takes kind s n l = cond (eqb kind 0) (lineTakes s n l) (blockTakes srt s n l)
+
+-- a finish after n lines
+unfoldable pub ends : (kind : ℕ) → State → (n : ℕ) → Says State
+ends kind s n = cond (eqb kind 0) (says s []) (closes srt s n (s .block) [])
+
+abbrev pub machineOf : (kind : ℕ) → Machine State
+machineOf kind = record { start = blankState; step = λ s n l. takes kind s n l; close = λ s n. ends kind s n }

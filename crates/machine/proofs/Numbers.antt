@@ -1,0 +1,131 @@
+-- The number of every call is one of document 01's table: open 0, 15, 16; feed and finish 0, 15 to 22.
+use mathlib.Core.Path.{_≡_, refl, sym, ap, subst, _∙_}
+use mathlib.Core.Logic.{_⊎_, inl, inr}
+use mathlib.Core.Bool.{Bool, true, false, _||_, _&&_}
+use mathlib.Core.List.{List, [], _∷_, _++_}
+use Prim.Native.Nat.{ℕ, zero, suc, _+_, _≤_, _<_}
+use native.Mathlib.Omega.{arith}
+use lib.Dec.{leb, eqb}
+use lib.ListN.{length}
+use Rattle.base.specs.Limits.{mostLine}
+use Rattle.time.specs.Kind.{kindBad}
+use Rattle.time.specs.Convert.{timescaleBad}
+use Rattle.segmap.specs.Segment.{mapBad}
+use Rattle.event.specs.declared.setting.Config.{Config}
+use Rattle.event.specs.Says.{Part, Fault, longLine, notUtf8, longBlock, badTime, faultNumber}
+use Rattle.machine.specs.Machine.{Machine, Says, faulty, says, withBom, takeLine, Rest, nothing, bomAlone, lastLine, restOf, Run, going, stopped}
+use Rattle.machine.specs.Machine.{lineEnd, byte, byteStep, run, closed, lastEnd, atEnd, finishRun}
+use Rattle.machine.specs.Session.{Session, Kit, Lent, Call, feed, finish, lentOf, argumentBad, Gate, refuse, admit, gate, configBad, foreign, fresh, openBy, openSession, settle, resume, accepted, respond, answer}
+
+-- done, or a fault of the text
+abbrev pub OfText : ℕ → Type 0
+OfText k = (k ≡ 0) ⊎ ((19 ≤ k) × (k ≤ 22))
+
+-- done, or from 15 to 22
+abbrev pub OfCall : ℕ → Type 0
+OfCall k = (k ≡ 0) ⊎ ((15 ≤ k) × (k ≤ 22))
+
+-- done, or 15 or 16
+abbrev pub OfOpen : ℕ → Type 0
+OfOpen k = (k ≡ 0) ⊎ ((15 ≤ k) × (k ≤ 16))
+
+pub fault-of-text : (f : Fault) → OfText (faultNumber f)
+fault-of-text longLine = inr (omega arith, omega arith)
+fault-of-text notUtf8 = inr (omega arith, omega arith)
+fault-of-text longBlock = inr (omega arith, omega arith)
+fault-of-text badTime = inr (omega arith, omega arith)
+
+wider : (k : ℕ) → OfText k → OfCall k
+wider k (inl e) = inl e
+wider k (inr h) = inr (omega (arith, h .0), h .1)
+
+abbrev Numbered : {σ : Type 0} → Run σ → Type 0
+Numbered (going s n h ps) = Unit {0}
+Numbered (stopped k ps) = OfText k
+
+module _ {σ : Type 0} (M : Machine σ) where
+  line-number : (n : ℕ) (ps : List Part) (x : Says σ) → Numbered (lineEnd M n ps x)
+  line-number n ps (faulty f) = fault-of-text f
+  line-number n ps (says t new) = tt
+
+  byte-number : (ok lf : Bool) (s : σ) (n : ℕ) (l : List ℕ) (ps : List Part) → Numbered (byte M ok lf s n l ps)
+  byte-number false lf s n l ps = inr (omega arith, omega arith)
+  byte-number true true s n l ps = line-number n ps (takeLine M s n l)
+  byte-number true false s n l ps = tt
+
+  step-number : (r : Run σ) (b : ℕ) → Numbered r → Numbered (byteStep M r b)
+  step-number (going s n h ps) b f = byte-number (leb (length (h ++ (b ∷ []))) mostLine) (eqb b 10) s n (h ++ (b ∷ [])) ps
+  step-number (stopped k ps) b f = f
+
+  run-number : (r : Run σ) (t : List ℕ) → Numbered r → Numbered (run M r t)
+  run-number r [] f = f
+  run-number r (b ∷ t) f = run-number (byteStep M r b) t (step-number r b f)
+
+  closed-number : (ps : List Part) (x : Says σ) → Numbered (closed M ps x)
+  closed-number ps (faulty f) = fault-of-text f
+  closed-number ps (says t new) = inl refl
+
+  last-number : (n : ℕ) (ps : List Part) (x : Says σ) → Numbered (lastEnd M n ps x)
+  last-number n ps (faulty f) = fault-of-text f
+  last-number n ps (says t new) = closed-number (ps ++ new) (M .close t (suc n))
+
+  end-number : (x : Rest) (s : σ) (n : ℕ) (h : List ℕ) (ps : List Part) → Numbered (atEnd M x s n h ps)
+  end-number nothing s n h ps = closed-number ps (M .close s n)
+  end-number bomAlone s n h ps = closed-number ps (withBom (M .close s n))
+  end-number lastLine s n h ps = last-number n ps (takeLine M s n h)
+
+module _ {σ κ : Type 0} (K : Kit σ κ) where
+  settle-number : (s : Session κ) (t : ℕ) (m : List ℕ) (r : Run σ) → Numbered r → OfText (settle K s t m r .number)
+  settle-number s t m (going st n h ps) f = inl refl
+  settle-number s t m (stopped k ps) f = f
+
+  -- an admitted call: 0, 19 to 22
+  pub accepted-number : (s : Session κ) (c : Call) → OfText (accepted K s c .number)
+  accepted-number s (feed l piece) =
+      settle-number s (s .taken + length piece) (l .map) (run (K .machine (s .config .kind)) (resume K s) piece)
+      (run-number (K .machine (s .config .kind)) (resume K s) piece tt)
+  accepted-number s (finish l) =
+      settle-number s (s .taken) (l .map) (finishRun (K .machine (s .config .kind)) (resume K s))
+      (end-number (K .machine (s .config .kind)) (restOf (s .lines) (K .open-line (s .held))) (K .state (s .known) (s .held)) (s .lines) (K .open-line (s .held)) [])
+
+  by-gate : (f e m a : Bool) (s : Session κ) (c : Call) → OfCall (respond K (gate f e m a) s c .number)
+  by-gate true e m a s c = inr (omega arith, omega arith)
+  by-gate false true m a s c = inr (omega arith, omega arith)
+  by-gate false false true a s c = inr (omega arith, omega arith)
+  by-gate false false false true s c = inr (omega arith, omega arith)
+  by-gate false false false false s c = wider (accepted K s c .number) (accepted-number s c)
+
+  -- feed and finish
+  pub call-number : (s : Session κ) (c : Call) → OfCall (answer K s c .number)
+  call-number s c = by-gate (foreign K s) (s .ended) (mapBad (lentOf c .map)) (argumentBad (s .taken) c) s c
+
+  open-by : (m a : Bool) (c : Config) → OfOpen (openBy K (gate false false m a) c .number)
+  open-by true a c = inr (omega arith, omega arith)
+  open-by false true c = inr (omega arith, omega arith)
+  open-by false false c = inl refl
+
+  pub open-number : (c : Config) (m : List ℕ) → OfOpen (openSession K c m .number)
+  open-number c m = open-by (timescaleBad (c .timescale) || mapBad m) (kindBad (c .kind)) c
+
+-- where open answers 0: T, the map and the kind are good, and the session is fresh
+pub record Opened (c : Config) (m : List ℕ) : Type 0 where
+  pub timescale-good : timescaleBad (c .timescale) ≡ false
+  pub map-good : mapBad m ≡ false
+  pub kind-known : kindBad (c .kind) ≡ false
+
+module _ {σ κ : Type 0} (K : Kit σ κ) where
+  opens-by : (c : Config) (m : List ℕ) (t b k : Bool) → timescaleBad (c .timescale) ≡ t → mapBad m ≡ b → kindBad (c .kind) ≡ k
+      → openBy K (gate false false (t || b) k) c .number ≡ 0 → Opened c m
+  opens-by c m true b k p q r e = absurd (let z : _≡_ {A = ℕ} 15 0 = e in omega arith)
+  opens-by c m false true k p q r e = absurd (let z : _≡_ {A = ℕ} 15 0 = e in omega arith)
+  opens-by c m false false true p q r e = absurd (let z : _≡_ {A = ℕ} 16 0 = e in omega arith)
+  opens-by c m false false false p q r e = record { timescale-good = p; map-good = q; kind-known = r }
+
+  pub opened : (c : Config) (m : List ℕ) → openSession K c m .number ≡ 0 → Opened c m
+  opened c m e = opens-by c m (timescaleBad (c .timescale)) (mapBad m) (kindBad (c .kind)) refl refl refl e
+
+  pub opens-fresh : (c : Config) (m : List ℕ) → Opened c m → openSession K c m ≡ record { number = 0; session = fresh K c; emits = [] }
+  opens-fresh c m o = rw (o .timescale-good, o .map-good, o .kind-known)
+
+pub opened-config : (c : Config) (m : List ℕ) → Opened c m → configBad c ≡ false
+opened-config c m o = rw (o .kind-known, o .timescale-good)

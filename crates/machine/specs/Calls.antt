@@ -1,0 +1,104 @@
+-- A list of calls, answered by sessions and by the plain reader.
+use mathlib.Core.Path.{_≡_}
+use mathlib.Core.Logic.{_⊎_}
+use mathlib.Core.Bool.{Bool, true, false, not}
+use mathlib.Core.List.{List, [], _∷_, _++_}
+use Prim.Native.Nat.{ℕ}
+use lib.Dec.{eqb}
+use lib.ListN.{length}
+use Rattle.segmap.specs.Segment.{mapBad}
+use Rattle.event.specs.declared.setting.Config.{Config}
+use Rattle.event.specs.Emit.{Emit, Warning, outputOf, warningsOf}
+use Rattle.machine.specs.Counts.{countsOf}
+use Rattle.machine.specs.Reader.{Reading}
+use Rattle.machine.specs.Session.{Session, Kit, Call, feed, finish, lentOf, argumentBad, Gate, refuse, admit, gate, answer, emitted}
+
+-- ---- by sessions, each call given the one that the last call returned
+-- the numbers in order, the last session, and what the calls wrote, joined in their order
+pub record Played (κ : Type 0) : Type 0 where
+  pub numbers : List ℕ
+  pub session : Session κ
+  pub output : List ℕ
+  pub warnings : List Warning
+
+module _ {σ κ : Type 0} (K : Kit σ κ) where
+  abbrev pub play : Session κ → List Call → Played κ
+  play s [] = record { numbers = []; session = s; output = []; warnings = [] }
+  play s (c ∷ cs) =
+      record {
+        numbers = answer K s c .number ∷ play (answer K s c .session) cs .numbers;
+        session = play (answer K s c .session) cs .session;
+        output = outputOf (answer K s c .emits) ++ play (answer K s c .session) cs .output;
+        warnings = warningsOf (answer K s c .emits) ++ play (answer K s c .session) cs .warnings;
+      }
+
+-- each call is lent the demand's map, or one that 15 refuses
+abbrev pub ProperCall : (map : List ℕ) → Call → Type 0
+ProperCall m c = (lentOf c .map ≡ m) ⊎ (mapBad (lentOf c .map) ≡ true)
+
+abbrev pub Proper : (map : List ℕ) → List Call → Type 0
+Proper m [] = Unit {0}
+Proper m (c ∷ cs) = ProperCall m c × Proper m cs
+
+-- ---- by the plain reader
+-- the whole text, whether a finish has come, and whether the reader has ended
+pub record Reader : Type 0 where
+  pub text : List ℕ
+  pub finished : Bool
+  pub ended : Bool
+
+abbrev pub newReader : Reader
+newReader = record { text = []; finished = false; ended = false }
+
+pub record ReaderAnswer : Type 0 where
+  pub number : ℕ
+  pub reader : Reader
+
+pub record Heard : Type 0 where
+  pub numbers : List ℕ
+  pub reader : Reader
+
+-- how a text is read from the start, finished or not
+module _ (read : (finished : Bool) → (text : List ℕ) → Reading) where
+  -- a feed adds its piece to the text, a finish ends the reader; the first fault is the answer, else 0, and ends it too
+  abbrev pub readerAccepts : Reader → Call → ReaderAnswer
+  readerAccepts r (feed l piece) =
+      record {
+        number = read false (r .text ++ piece) .fault;
+        reader = record { text = r .text ++ piece; finished = false; ended = not (eqb (read false (r .text ++ piece) .fault) 0) };
+      }
+  readerAccepts r (finish l) =
+      record { number = read true (r .text) .fault; reader = record { text = r .text; finished = true; ended = true } }
+
+  abbrev pub readerResponds : Gate → Reader → Call → ReaderAnswer
+  readerResponds (refuse k) r c = record { number = k; reader = r }
+  readerResponds admit r c = readerAccepts r c
+
+  -- ended, it answers 18; else 15 or 16 by the arguments, taken being the text's length
+  abbrev pub readerAnswer : Reader → Call → ReaderAnswer
+  readerAnswer r c = readerResponds (gate false (r .ended) (mapBad (lentOf c .map)) (argumentBad (length (r .text)) c)) r c
+
+  abbrev pub hear : Reader → List Call → Heard
+  hear r [] = record { numbers = []; reader = r }
+  hear r (c ∷ cs) =
+      record {
+        numbers = readerAnswer r c .number ∷ hear (readerAnswer r c .reader) cs .numbers;
+        reader = hear (readerAnswer r c .reader) cs .reader;
+      }
+
+  -- what it has read of its text, and that put through the map
+  abbrev pub readingOf : Reader → Reading
+  readingOf r = read (r .finished) (r .text)
+
+  abbrev pub emitsIn : Config → (map : List ℕ) → Reader → List Emit
+  emitsIn c m r = emitted c m (readingOf r .parts)
+
+  -- the numbers of all calls are the reader's, and after the list so is everything else
+  pub record SameAsReader (c : Config) (m : List ℕ) {κ : Type 0} (p : Played κ) (h : Heard) : Type 0 where
+    pub numbers : p .numbers ≡ h .numbers
+    pub output : p .output ≡ outputOf (emitsIn c m (h .reader))
+    pub warnings : p .warnings ≡ warningsOf (emitsIn c m (h .reader))
+    pub outcome : p .session .outcome ≡ readingOf (h .reader) .fault
+    pub counts : p .session .counts ≡ countsOf (emitsIn c m (h .reader))
+    pub taken : p .session .taken ≡ length (h .reader .text)
+    pub ended : p .session .ended ≡ h .reader .ended

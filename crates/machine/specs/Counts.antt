@@ -1,0 +1,41 @@
+-- The counts of a session: how many captions were shifted, clipped, dropped and passed.
+use mathlib.Core.List.{List, [], _∷_}
+use Prim.Native.Nat.{ℕ, suc, _+_}
+use Rattle.event.specs.Fates.{Fate, passed, dropped, shifted, clipped}
+use Rattle.event.specs.Emit.{Caption, none, decided, Emit}
+use Rattle.machine.specs.declared.counting.Counts.{Counts}
+
+abbrev pub noCounts : Counts
+noCounts = record { shifted = 0; clipped = 0; dropped = 0; passed = 0 }
+
+-- the counts with one more caption
+abbrev pub countFate : Fate → Counts → Counts
+countFate passed c = record { shifted = c .shifted; clipped = c .clipped; dropped = c .dropped; passed = suc (c .passed) }
+countFate dropped c = record { shifted = c .shifted; clipped = c .clipped; dropped = suc (c .dropped); passed = c .passed }
+countFate (shifted s e) c = record { shifted = suc (c .shifted); clipped = c .clipped; dropped = c .dropped; passed = c .passed }
+countFate (clipped s e) c = record { shifted = c .shifted; clipped = suc (c .clipped); dropped = c .dropped; passed = c .passed }
+
+abbrev pub count : Caption → Counts → Counts
+count none c = c
+count (decided f) c = countFate f c
+
+-- the counts with the captions of what was emitted
+unfoldable pub countAll : Counts → List Emit → Counts
+countAll c [] = c
+countAll c (e ∷ es) = countAll (count (e .caption) c) es
+
+abbrev pub countsOf : List Emit → Counts
+countsOf es = countAll noCounts es
+
+-- captions among what was emitted
+abbrev pub one : Caption → ℕ
+one none = 0
+one (decided f) = 1
+
+unfoldable pub captions : List Emit → ℕ
+captions [] = 0
+captions (e ∷ es) = one (e .caption) + captions es
+
+-- shifted + clipped + dropped + passed
+abbrev pub total : Counts → ℕ
+total c = c .shifted + c .clipped + c .dropped + c .passed

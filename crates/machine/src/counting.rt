@@ -1,0 +1,8 @@
+// How many captions of a text met each fate.
+
+pub struct Counts {
+    pub shifted: u32,
+    pub clipped: u32,
+    pub dropped: u32,
+    pub passed: u32,
+}
