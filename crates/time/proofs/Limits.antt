@@ -13,7 +13,7 @@ use Rattle.base.proofs.RefusalLaws.{held, unless-held, unless-failed, else-zero
 use Rattle.time.specs.declared.convert.Converted.{Converted}
 use Rattle.time.specs.Kind.{kindBad, unitsOf, markOf, fractionDigits, hourDigits}
 use Rattle.time.specs.Convert.{scaledUp, ticksOf, startUnits, endUnits, timescaleBad, settingNumber, unitsNumber, ticksNumber, convertedTo, coreTimescale, coreUnits, coreTicks, coreHolds, ticksWithin, startWithin, endWithin}
-use Rattle.time.proofs.Scale.{quotient-below}
+use Rattle.time.proofs.Scale.{quotient-below, up-down}
 
 -- ---- kinds
 -- by the kind: a claim about every known kind holds when it holds for each
@@ -239,3 +239,50 @@ module _ (kind T value u : ℕ) (b : Bool) (hb : b ≡ true) (eu : u ≡ unitsOf
   pub core-end-yes : (x : ℕ) → b ≡ coreHolds kind T value coreTicks → x ≡ scaledUp value u T → x ≡ endWithin kind T value
   unfolding endWithin endUnits
   core-end-yes x e p = yes! _ (sym e ∙ hb) (p ∙ ap (λ (n : ℕ). scaledUp value n T) eu)
+
+-- a session's T and kind, and a value that is not too large: the conversion is exact
+module _ (kind T value : ℕ) (k : kindBad kind ≡ false) (t : timescaleBad T ≡ false) where
+  good : (most : ℕ) → value ≤ most → Within kind T coreTimescale value most
+  good most h =
+      record {
+        kind-known = k;
+        T-low = timescale-low T t;
+        T-high = omega (arith, timescale-high T t);
+        value-most = h;
+      }
+
+  pub ticks-good : value ≤ coreUnits → ticksWithin kind T value ≡ ticksOf T (unitsOf kind) value
+  ticks-good h = ticks-within (good coreUnits h)
+
+  pub start-good : value ≤ coreTicks → startWithin kind T value ≡ startUnits T (unitsOf kind) value
+  start-good h = start-within (good coreTicks h)
+
+  pub end-good : value ≤ coreTicks → endWithin kind T value ≡ endUnits T (unitsOf kind) value
+  end-good h = end-within (good coreTicks h)
+
+-- whatever is converted, the value is a word
+pub ticks-word : (kind T units : ℕ) → ticksWithin kind T units < 2 ^ 64
+unfolding ticksWithin ticksOf
+ticks-word kind T units = go (coreHolds kind T units coreUnits) refl
+  where
+    go : (b : Bool) → coreHolds kind T units coreUnits ≡ b → cond b (units * T / unitsOf kind) 0 < 2 ^ 64
+    go true e = omega (arith, units-fit kind T units (unitsOf kind) true refl refl (sym e) .1 .1 .1)
+    go false e = omega arith
+
+pub start-word : (kind T ticks : ℕ) → startWithin kind T ticks < 2 ^ 64
+unfolding startWithin startUnits
+start-word kind T ticks = go (coreHolds kind T ticks coreTicks) refl
+  where
+    go : (b : Bool) → coreHolds kind T ticks coreTicks ≡ b → cond b (ticks * unitsOf kind / T) 0 < 2 ^ 64
+    go true e = omega (arith, ticks-fit kind T ticks (unitsOf kind) true refl refl (sym e) .1 .1 .1)
+    go false e = omega arith
+
+pub end-word : (kind T ticks : ℕ) → endWithin kind T ticks < 2 ^ 64
+unfolding endWithin endUnits
+end-word kind T ticks = go (coreHolds kind T ticks coreTicks) refl
+  where
+    go : (b : Bool) → coreHolds kind T ticks coreTicks ≡ b → cond b (scaledUp ticks (unitsOf kind) T) 0 < 2 ^ 64
+    go true e =
+        let f = ticks-fit kind T ticks (unitsOf kind) true refl refl (sym e) in
+        omega (arith, f .1 .1 .1, up-down ticks (unitsOf kind) (f .0))
+    go false e = omega arith
