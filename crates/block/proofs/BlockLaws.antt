@@ -1,17 +1,16 @@
 -- Laws of what the functions of a block answer.
 use mathlib.Core.Path.{_≡_, refl, sym, ap, subst, _∙_}
-use mathlib.Core.Bool.{Bool, true, false, cond, _&&_, true≢false}
-use mathlib.Core.List.{List, [], _∷_, _++_, append-nil}
-use Prim.Native.Nat.{ℕ, zero, suc, _+_, _*_, _-_, _/_, _≤_, _<_, _^_}
+use mathlib.Core.Bool.{Bool, true, false, _&&_, true≢false}
+use mathlib.Core.List.{List, [], _++_}
+use Prim.Native.Nat.{ℕ, _+_, _*_, _-_, _/_, _≤_, _<_}
 use native.Mathlib.Omega.{arith}
 use borrow.Author.Tests.{lt-ltb, le-ltb}
-use lib.Dec.{ltb}
-use lib.ListN.{length, take, drop, length-drop}
+use lib.ListN.{length, take, drop}
 use Rattle.base.specs.Put.{put, placed, placedLength}
 use Rattle.base.proofs.PartLaws.{part-lengths}
 use Rattle.base.proofs.PutLaws.{put-nil, placed-yes, length-yes}
 use Rattle.text.specs.Find.{upTo}
-use Rattle.text.specs.Line.{linesOf, concat, lineCount, textOf, terminatorOf}
+use Rattle.text.specs.Line.{linesOf, textOf, terminatorOf}
 use Rattle.text.proofs.LineLaws.{lines-joined}
 use Rattle.time.specs.declared.read.Time.{Time}
 use Rattle.time.specs.declared.read.Time.the-variants.{At, Bad}
@@ -27,16 +26,16 @@ use Rattle.event.specs.declared.retiming.Decision.{Decision}
 use Rattle.event.specs.declared.retiming.Decision.the-variants.{Strange, Dropped, Kept}
 use Rattle.event.specs.Decide.{decideIn}
 use Rattle.event.specs.Fates.{fateFor}
-use Rattle.event.specs.Says.{Piece, Cue, Part, stays, cue}
+use Rattle.event.specs.Says.{Piece, Cue, stays}
 use Rattle.event.specs.Emit.{Warning, decided, warnIf, placesOf, render, emitBy}
 use Rattle.event.specs.Told.{Answer, refusal, countedOf, cueIn, partIn, Tells}
 use Rattle.block.specs.declared.timing.Place.{Place}
 use Rattle.block.specs.Style.{srtEnd, srt}
 use Rattle.block.specs.Block
-use Rattle.block.specs.Block.{arrow, afterArrow, blockFrame, blockCue, timesSay, endText, trailing, lineSays, timingSays, blockSays, timingOf, Timing, BlockSays, faulty, says}
+use Rattle.block.specs.Block.{arrow, afterArrow, blockFrame, blockCue, timesSay, endText, trailing, lineSays, timingSays, blockSays, timingOf, Timing, says}
 use Rattle.block.specs.Answer.{answerTo, blockIn, refusedWith}
 use Rattle.block.specs.Place.{placeIn}
-use Rattle.block.proofs.PlaceLaws.{Stands, Apart, stands}
+use Rattle.block.proofs.PlaceLaws.{Stands, stands}
 use Rattle.block.proofs.WriteLaws.{line-long}
 
 -- an answer that writes nothing
