@@ -1,0 +1,3 @@
+pub mod SyncLaws
+pub mod PairLaws
+pub mod SnapLaws
