@@ -9,8 +9,6 @@ use Rattle.plan.proofs.SnapLaws.{crossing-short, crossing-done, crossin
 use borrow.Author.Needs.{needs}
 use Rattle.plan.proofs.crossing.overlap.Statement.{statement}
 use Rattle.plan.proofs.crossing.overlap.Tie as tie
-use Rattle.plan.proofs.crossing.overlap.Reads as reads
-use Rattle.plan.proofs.crossing.overlap.Lts as lts
 
 abbrev Inv-loop : tie.InvT-loop
 Inv-loop ranges count prev₀ i₀ prev i = (i ≤ count) × (2 * i ≤ length ranges) × (overlapsFault prev (leftOf ranges count i) ≡ overlapsFault 0 (take (2 * count) ranges))

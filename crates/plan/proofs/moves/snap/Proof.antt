@@ -6,9 +6,6 @@ use Rattle.plan.proofs.SnapLaws.{Snapping, snapping-start, snapping-sho
 use borrow.Author.Needs.{needs}
 use Rattle.plan.proofs.moves.snap.Statement.{statement}
 use Rattle.plan.proofs.moves.snap.Tie as tie
-use Rattle.plan.proofs.moves.snap.Reads as reads
-use Rattle.plan.proofs.moves.snap.Lts as lts
-use Rattle.plan.proofs.moves.snap_at.Reads as snap-at-reads
 
 abbrev Inv-loop : tie.InvT-loop
 Inv-loop s n direction ranges₀ count i₀ ranges i = (i ≤ count) × (2 * i ≤ length ranges) × (length ranges ≡ length ranges₀) × Snapping s n direction ranges₀ ranges count i

@@ -4,10 +4,6 @@ use Rattle.plan.proofs.SnapLaws.{stored-both}
 use borrow.Author.Needs.{needs}
 use Rattle.plan.proofs.moves.snap_at.Statement.{statement}
 use Rattle.plan.proofs.moves.snap_at.Tie as tie
-use Rattle.plan.proofs.moves.snap_at.Reads as reads
-use Rattle.plan.proofs.moves.snap_at.Lts as lts
-use Rattle.plan.proofs.moves.snap_end.Reads as snap-end-reads
-use Rattle.plan.proofs.moves.snap_start.Reads as snap-start-reads
 
 mul-t8 : tie.Need-mul-t8
 mul-t8 c = search needs

@@ -2,10 +2,6 @@ use Rattle.plan.proofs.SnapLaws.{end-out, end-in}
 use borrow.Author.Needs.{needs}
 use Rattle.plan.proofs.moves.snap_end.Statement.{statement}
 use Rattle.plan.proofs.moves.snap_end.Tie as tie
-use Rattle.plan.proofs.moves.snap_end.Reads as reads
-use Rattle.plan.proofs.moves.snap_end.Lts as lts
-use Rattle.plan.proofs.scan.ceil_sync.Reads as ceil-sync-reads
-use Rattle.plan.proofs.scan.floor_sync.Reads as floor-sync-reads
 
 ceil-sync-requires : tie.Need-ceil-sync-requires
 ceil-sync-requires c κs = search needs

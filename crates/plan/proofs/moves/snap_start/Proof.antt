@@ -2,10 +2,6 @@ use Rattle.plan.proofs.SnapLaws.{start-out, start-in}
 use borrow.Author.Needs.{needs}
 use Rattle.plan.proofs.moves.snap_start.Statement.{statement}
 use Rattle.plan.proofs.moves.snap_start.Tie as tie
-use Rattle.plan.proofs.moves.snap_start.Reads as reads
-use Rattle.plan.proofs.moves.snap_start.Lts as lts
-use Rattle.plan.proofs.scan.ceil_sync.Reads as ceil-sync-reads
-use Rattle.plan.proofs.scan.floor_sync.Reads as floor-sync-reads
 
 floor-sync-requires : tie.Need-floor-sync-requires
 floor-sync-requires c κs = search needs
