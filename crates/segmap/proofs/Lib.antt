@@ -1,1 +1,4 @@
 pub mod SegmentLaws
+pub mod TicksLaws
+pub mod BuildLaws
+pub mod MapLaws

@@ -1,2 +1,4 @@
 -- The segment map.
 pub mod Segment
+pub mod Build
+pub mod Map

@@ -2,8 +2,6 @@ use Rattle.segmap.proofs.SegmentLaws.{end-past, end-within}
 use borrow.Author.Needs.{needs}
 use Rattle.segmap.proofs.segment.end_bad.Statement.{statement}
 use Rattle.segmap.proofs.segment.end_bad.Tie as tie
-use Rattle.segmap.proofs.segment.end_bad.Reads as reads
-use Rattle.segmap.proofs.segment.end_bad.Lts as lts
 
 returns : tie.Need-returns
 returns c = search end-past

@@ -4,11 +4,6 @@ use Rattle.segmap.proofs.SegmentLaws.{Left, left-parts, left-many, left
 use borrow.Author.Needs.{needs}
 use Rattle.segmap.proofs.segment.map_bad.Statement.{statement}
 use Rattle.segmap.proofs.segment.map_bad.Tie as tie
-use Rattle.segmap.proofs.segment.map_bad.Reads as reads
-use Rattle.segmap.proofs.segment.map_bad.Lts as lts
-use Rattle.base.proofs.word.Reads as word-reads
-use Rattle.base.proofs.words_rest.Reads as words-rest-reads
-use Rattle.segmap.proofs.segment.segment_bad.Reads as segment-bad-reads
 
 abbrev Inv-loop : tie.InvT-loop
 Inv-loop map parts t₀ t = Left map t

@@ -3,9 +3,6 @@ use Rattle.segmap.specs.Segment.{segmentBad}
 use borrow.Author.Needs.{needs}
 use Rattle.segmap.proofs.segment.segment_bad.Statement.{statement}
 use Rattle.segmap.proofs.segment.segment_bad.Tie as tie
-use Rattle.segmap.proofs.segment.segment_bad.Reads as reads
-use Rattle.segmap.proofs.segment.segment_bad.Lts as lts
-use Rattle.segmap.proofs.segment.end_bad.Reads as end-bad-reads
 
 cast-most : tie.Need-cast-most
 cast-most c = search needs

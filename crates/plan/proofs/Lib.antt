@@ -1,0 +1,4 @@
+pub mod SyncLaws
+pub mod PairLaws
+pub mod SnapLaws
+pub mod SnapMeaning

@@ -1,0 +1,2 @@
+-- Ranges moved to sync frames.
+pub mod Snap

@@ -1,0 +1,54 @@
+use Prim.Native.Nat.{ℕ, _<_}
+use lib.ListN.{getD}
+use Rattle.segmap.proofs.TicksLaws.{ticks-done}
+use native.Mathlib.Omega.{arith}
+use mathlib.Core.Path.{_≡_, refl}
+use Prim.Native.Nat.{_+_, _-_, _≤_}
+use Rattle.base.specs.Limits.{mostFrames}
+use Rattle.segmap.specs.Build.{ticksFrom}
+use Rattle.segmap.proofs.TicksLaws.{ticks-next, ticks-fit}
+use borrow.Author.Needs.{needs}
+use Rattle.segmap.proofs.sums.add_up.Statement.{statement}
+use Rattle.segmap.proofs.sums.add_up.Tie as tie
+
+abbrev Inv-loop : tie.InvT-loop
+Inv-loop s to end at₀ ticks₀ at ticks = (at ≤ end) × (ticks ≡ ticksFrom s 0 at)
+
+abbrev μ-loop : tie.MeasureT-loop
+μ-loop s to end at₀ ticks₀ at ticks = end - at
+
+loop-holds : tie.Need-loop-holds Inv-loop μ-loop
+loop-holds c = search needs
+
+duration-at-requires : tie.Need-duration-at-requires Inv-loop μ-loop
+duration-at-requires c κs = search needs
+
+add-ticks : tie.Need-add-ticks Inv-loop μ-loop
+add-ticks c = let b : (j : ℕ) → getD (c .before .before .before .before .before .args .s .now) j 0 < 256 = λ j. c .before .before .before .before .shared-slice-known .given j .fits in
+    search (ticks-fit, b)
+
+add-at : tie.Need-add-at Inv-loop μ-loop
+add-at c = search needs
+
+loop-less : tie.Need-loop-less Inv-loop μ-loop
+loop-less c = search needs
+
+loop-again : tie.Need-loop-again Inv-loop μ-loop
+loop-again c = (omega arith, search ticks-next)
+
+returns : tie.Need-returns Inv-loop μ-loop
+returns c = (search needs, search ticks-done)
+
+pub add-up-spec : {M : Type 1} → statement M
+add-up-spec =
+    tie.close
+    (tie.spec
+    Inv-loop
+    μ-loop
+    loop-holds
+    duration-at-requires
+    add-ticks
+    add-at
+    loop-less
+    loop-again
+    returns)

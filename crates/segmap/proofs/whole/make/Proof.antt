@@ -1,0 +1,66 @@
+use native.Mathlib.Omega.{arith}
+use Rattle.segmap.proofs.MapLaws.{short-made, short-map, direction-made, direction-map, sheet-made, sheet-map, sound-fault, sound-frames, sound-timescale}
+use borrow.Author.Needs.{needs}
+use Rattle.segmap.proofs.whole.make.Statement.{statement}
+use Rattle.segmap.proofs.whole.make.Tie as tie
+
+mul-if1 : tie.Need-mul-if1
+mul-if1 c = search needs
+
+refused-requires : tie.Need-refused-requires
+refused-requires c κs = search needs
+
+returns : tie.Need-returns
+returns c = (search short-made, search short-map)
+
+refused-requires-2 : tie.Need-refused-requires-2
+refused-requires-2 c κs = search needs
+
+returns-2 : tie.Need-returns-2
+returns-2 c = (search direction-made, search direction-map)
+
+check-requires : tie.Need-check-requires
+check-requires c κs = search needs
+
+enum-known-a : tie.Need-enum-known-a
+enum-known-a c = search needs
+
+refused-requires-3 : tie.Need-refused-requires-3
+refused-requires-3 c κs = search needs
+
+enum-known-a-2 : tie.Need-enum-known-a-2
+enum-known-a-2 c = search needs
+
+slice-aggregate-map-ranges : tie.Need-slice-aggregate-map-ranges
+slice-aggregate-map-ranges c = search needs
+
+map-ranges-requires : tie.Need-map-ranges-requires
+map-ranges-requires c κs = ((search sound-fault, search sound-frames, search sound-timescale), (omega arith, omega arith, omega arith))
+
+returns-3 : tie.Need-returns-3
+returns-3 c = (search sheet-made, search sheet-map)
+
+same-length : tie.Need-same-length
+same-length c = search needs
+
+returns-4 : tie.Need-returns-4
+returns-4 c = search needs
+
+pub make-spec : {M : Type 1} → statement M
+make-spec =
+    tie.close
+    (tie.spec
+    mul-if1
+    refused-requires
+    returns
+    refused-requires-2
+    returns-2
+    check-requires
+    enum-known-a
+    refused-requires-3
+    enum-known-a-2
+    slice-aggregate-map-ranges
+    map-ranges-requires
+    returns-3
+    same-length
+    returns-4)

@@ -1,0 +1,87 @@
+// The segments of ranges without a fault, written six numbers each.
+use crate::segment::Segment;
+use crate::sums::Reached;
+use crate::sums::at_first;
+use crate::sums::reach;
+use order::DecodeIdx;
+use order::DisplayIdx;
+ghost use mathlib.Core.Path.{_≡_};
+ghost use Prim.Native.Nat.{_+_, _-_, _*_, _≤_};
+ghost use lib.ListN.{length, take};
+ghost use lib.Seq.{sets};
+ghost use Rattle.base.specs.Limits.{mostFrames, mostTicks, mostSegments};
+ghost use Rattle.base.specs.Put.{put};
+ghost use Rattle.sheet.specs.Sheet.{decodeOf};
+ghost use Rattle.segmap.specs.Segment.{numbersOf, flatOf};
+ghost use Rattle.segmap.specs.Build.{ticksFrom, rangesFault, segmentIn, segmentsIn};
+
+// A segment, and how far the sum has come with it.
+struct Step {
+    segment: Segment,
+    reached: Reached,
+}
+
+// The segment of the range `start` to `end`, whose output starts at `output`.
+fn segment_of(s: &[u8], from: Reached, start: DisplayIdx, end: DisplayIdx, output: u64) -> Step
+    requires { ⌜ from .ticks ≡ ticksFrom (now s) 0 (from .decode .0) ⌝ }
+    requires { ⌜ (start .0 ≤ end .0) × (decodeOf (now s) (start .0) + (end .0 - start .0) ≤ mostFrames) ⌝ }
+    ensures { λ r. ⌜ (r .segment ≡ segmentIn (now (s .entry)) output (start .0) (end .0)) × (r .segment .duration ≤ mostTicks) ⌝ }
+    ensures { λ r. ⌜ r .reached .ticks ≡ ticksFrom (now (s .entry)) 0 (r .reached .decode .0) ⌝ }
+{
+    let count = order::frame_count(start, end);
+    let decode = sheet::decode_at(s, start);
+    let first = reach(s, from, decode);
+    let last = reach(s, first, DecodeIdx(decode.0 + count));
+    let segment = Segment {
+        source_start_frame: start.0,
+        source_end_frame: end.0,
+        source_start_dts: first.ticks,
+        frame_count: count,
+        output_start: output,
+        duration: last.ticks - first.ticks,
+    };
+    Step {
+        segment,
+        reached: last,
+    }
+}
+
+// Writes the six numbers of a segment from the place `at` on.
+fn store(map: &mut [u64], at: usize, t: Segment)
+    requires { ⌜ at + 6 ≤ length (now map) ⌝ }
+    ensures { λ _. ⌜ now (map .exit) ≡ sets (now (map .entry)) at (numbersOf t) ⌝ }
+{
+    map[at] = t.source_start_frame as u64;
+    map[at + 1] = t.source_end_frame as u64;
+    map[at + 2] = t.source_start_dts;
+    map[at + 3] = t.frame_count as u64;
+    map[at + 4] = t.output_start;
+    map[at + 5] = t.duration;
+}
+
+// Writes the segments of the first `count` ranges, which have no fault.
+pub fn build(s: &[u8], n: u32, ranges: &[u32], count: usize, map: &mut [u64])
+    requires { ⌜ (n ≤ mostFrames) × (count ≤ mostSegments) × (2 * count ≤ length (now ranges)) × (6 * count ≤ length (now map)) ⌝ }
+    requires { ⌜ rangesFault (now s) n (take (2 * count) (now ranges)) ≡ 0 ⌝ }
+    ensures { λ _. ⌜ now (map .exit) ≡ put (flatOf (segmentsIn (now (s .entry)) 0 (take (2 * count) (now (ranges .entry))))) (now (map .entry)) ⌝ }
+{
+    let mut from = at_first();
+    let mut output: u64 = 0;
+    let mut i: usize = 0;
+    while i < count {
+        let at = 2 * i;
+        let step = segment_of(
+            s,
+            from,
+            DisplayIdx(ranges[at]),
+            DisplayIdx(ranges[at + 1]),
+            output,
+        );
+        let segment = step.segment;
+        store(map, 6 * i, segment);
+        output += segment.duration;
+        let reached = step.reached;
+        from = reached;
+        i += 1;
+    }
+}

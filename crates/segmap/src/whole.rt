@@ -1,0 +1,113 @@
+// The whole call: from the bytes of a sheet and of a trim list to a map.
+use crate::building::build;
+use crate::faults::ranges_fault;
+use sheet::Sheet;
+ghost use mathlib.Core.Path.{_≡_};
+ghost use Prim.Native.Nat.{_*_, _≤_};
+ghost use lib.ListN.{length, take};
+ghost use Rattle.base.specs.Limits.{mostFrames, mostPlaces, mostSegments};
+ghost use Rattle.base.specs.Put.{put};
+ghost use Rattle.base.specs.Refusal.{_orElse_};
+ghost use Rattle.sheet.specs.Sheet.{sheetFault, framesOf, timescaleOf};
+ghost use Rattle.plan.specs.Snap.{overlapsFault};
+ghost use Rattle.segmap.specs.Segment.{flatOf};
+ghost use Rattle.segmap.specs.Build.{rangesFault, segmentsIn};
+ghost use Rattle.segmap.specs.Map.{made, madeOf, mapOf};
+
+// What a call gives: 0 with the sheet's timescale and how many segments were written, or the number of the refusal and zeros.
+pub struct Made {
+    pub number: u32,
+    pub timescale: u32,
+    pub count: usize,
+}
+
+fn refused(n: u32) -> Made
+    ensures { λ r. ⌜ r ≡ made n 0 0 ⌝ }
+{
+    Made {
+        number: n,
+        timescale: 0,
+        count: 0,
+    }
+}
+
+// Tests snapped ranges, all pairs first (8), then range by range (9, 10), and writes their segments where there is no fault.
+fn keep(s: &[u8], n: u32, ranges: &[u32], count: usize, map: &mut [u64]) -> u32
+    requires { ⌜ (n ≤ mostFrames) × (count ≤ mostSegments) × (2 * count ≤ length (now ranges)) × (6 * count ≤ length (now map)) ⌝ }
+    ensures { λ r. ⌜ r ≡ overlapsFault 0 (take (2 * count) (now (ranges .entry))) orElse rangesFault (now (s .entry)) n (take (2 * count) (now (ranges .entry))) ⌝ }
+    ensures { λ r. ⌜ (r ≡ 0 → now (map .exit) ≡ put (flatOf (segmentsIn (now (s .entry)) 0 (take (2 * count) (now (ranges .entry))))) (now (map .entry))) ⌝ }
+    ensures { λ r. ⌜ ((r ≡ 0 → ⊥) → now (map .exit) ≡ now (map .entry)) ⌝ }
+{
+    let f = plan::overlap(ranges, count);
+    if f != 0 {
+        return f;
+    }
+    let g = ranges_fault(s, n, ranges, count);
+    if g != 0 {
+        return g;
+    }
+    build(s, n, ranges, count, map);
+    0
+}
+
+// Reads the list into `ranges`, snaps them and writes their segments, of a sheet without a fault.
+fn map_ranges(
+    s: &[u8],
+    timescale: u32,
+    n: u32,
+    list: &[u8],
+    direction: u32,
+    ranges: &mut [u32],
+    map: &mut [u64],
+) -> Made
+    requires { ⌜ (sheetFault (now s) ≡ 0) × (n ≡ framesOf (now s)) × (timescale ≡ timescaleOf (now s)) ⌝ }
+    requires { ⌜ (direction ≤ 1) × (mostPlaces ≤ length (now ranges)) × (6 * mostSegments ≤ length (now map)) ⌝ }
+    ensures { λ r. ⌜ r ≡ madeOf (mapOf (now (s .entry)) (now (list .entry)) direction (length (now (map .entry)))) ⌝ }
+    ensures { λ _. ⌜ now (map .exit) ≡ put (flatOf (mapOf (now (s .entry)) (now (list .entry)) direction (length (now (map .entry))) .segments)) (now (map .entry)) ⌝ }
+{
+    let parsed = trim::parse(list, ranges);
+    let f = parsed.number;
+    if f != 0 {
+        return refused(f);
+    }
+    let count = parsed.count;
+    plan::snap(s, n, direction, ranges, count);
+    let g = keep(s, n, ranges, count, map);
+    if g != 0 {
+        return refused(g);
+    }
+    Made {
+        number: 0,
+        timescale,
+        count,
+    }
+}
+
+// Makes the map of a sheet and a trim list, and writes it from the start of `map`, six numbers to a segment. A refusal writes nothing.
+pub fn make(sheet: &[u8], list: &[u8], direction: u32, map: &mut [u64]) -> Made
+    ensures { λ r. ⌜ r ≡ madeOf (mapOf (now (sheet .entry)) (now (list .entry)) direction (length (now (map .entry)))) ⌝ }
+    ensures { λ _. ⌜ now (map .exit) ≡ put (flatOf (mapOf (now (sheet .entry)) (now (list .entry)) direction (length (now (map .entry))) .segments)) (now (map .entry)) ⌝ }
+{
+    if map.len() < 6 * base::MOST_SEGMENTS {
+        return refused(16);
+    }
+    if 1 < direction {
+        return refused(16);
+    }
+    let a = sheet::check(sheet);
+    match a {
+        Sheet::Refused(k) => refused(k),
+        Sheet::Sound(h) => {
+            let mut ranges = [0; 2048];
+            map_ranges(
+                sheet,
+                h.timescale,
+                h.frames,
+                list,
+                direction,
+                &mut ranges,
+                map,
+            )
+        }
+    }
+}
