@@ -1,2 +1,6 @@
 pub mod ColumnBounds
 pub mod KindLaws
+pub mod Bare
+pub mod PlainAss
+pub mod PlainSrt
+pub mod PlainText
