@@ -4,3 +4,5 @@ pub mod Bare
 pub mod PlainAss
 pub mod PlainSrt
 pub mod PlainText
+pub mod PartLaws
+pub mod DemandText
