@@ -6,3 +6,5 @@ pub mod PlainSrt
 pub mod PlainText
 pub mod PartLaws
 pub mod DemandText
+pub mod BlockShape
+pub mod EmptyPiece
