@@ -1,17 +1,16 @@
 -- Laws of what the functions of a block answer.
 use mathlib.Core.Path.{_≡_, refl, sym, ap, subst, _∙_}
-use mathlib.Core.Bool.{Bool, true, false, cond, _&&_, true≢false}
-use mathlib.Core.List.{List, [], _∷_, _++_, append-nil}
-use Prim.Native.Nat.{ℕ, zero, suc, _+_, _*_, _-_, _/_, _≤_, _<_, _^_}
+use mathlib.Core.Bool.{Bool, true, false, _&&_, true≢false}
+use mathlib.Core.List.{List, [], _++_}
+use Prim.Native.Nat.{ℕ, _+_, _*_, _-_, _/_, _≤_, _<_}
 use native.Mathlib.Omega.{arith}
 use borrow.Author.Tests.{lt-ltb, le-ltb}
-use lib.Dec.{ltb}
-use lib.ListN.{length, take, drop, length-drop}
+use lib.ListN.{length, take, drop}
 use Rattle.base.specs.Put.{put, placed, placedLength}
 use Rattle.base.proofs.PartLaws.{part-lengths}
 use Rattle.base.proofs.PutLaws.{put-nil, placed-yes, length-yes}
 use Rattle.text.specs.Find.{upTo}
-use Rattle.text.specs.Line.{linesOf, concat, lineCount, textOf, terminatorOf}
+use Rattle.text.specs.Line.{linesOf, textOf, terminatorOf}
 use Rattle.text.proofs.LineLaws.{lines-joined}
 use Rattle.time.specs.declared.read.Time.{Time}
 use Rattle.time.specs.declared.read.Time.the-variants.{At, Bad}
@@ -27,16 +26,19 @@ use Rattle.event.specs.declared.retiming.Decision.{Decision}
 use Rattle.event.specs.declared.retiming.Decision.the-variants.{Strange, Dropped, Kept}
 use Rattle.event.specs.Decide.{decideIn}
 use Rattle.event.specs.Fates.{fateFor}
-use Rattle.event.specs.Says.{Piece, Cue, Part, stays, cue}
+use Rattle.event.specs.Says.{Piece, Cue, stays, badTime}
 use Rattle.event.specs.Emit.{Warning, decided, warnIf, placesOf, render, emitBy}
 use Rattle.event.specs.Told.{Answer, refusal, countedOf, cueIn, partIn, Tells}
+use Rattle.block.specs.declared.srt.Times.{Times}
+use Rattle.block.specs.declared.srt.Reading.{Reading}
+use Rattle.block.specs.declared.srt.Reading.the-variants.{Bad as Unread, Both}
 use Rattle.block.specs.declared.timing.Place.{Place}
 use Rattle.block.specs.Style.{srtEnd, srt}
 use Rattle.block.specs.Block
-use Rattle.block.specs.Block.{arrow, afterArrow, blockFrame, blockCue, timesSay, endText, trailing, lineSays, timingSays, blockSays, timingOf, Timing, BlockSays, faulty, says}
-use Rattle.block.specs.Answer.{answerTo, blockIn, refusedWith}
+use Rattle.block.specs.Block.{arrow, afterArrow, blockFrame, blockCue, timesSay, endText, trailing, lineSays, timingSays, blockSays, timingOf, Timing, faulty, says}
+use Rattle.block.specs.Answer.{answerTo, blockIn, refusedWith, readingOf}
 use Rattle.block.specs.Place.{placeIn}
-use Rattle.block.proofs.PlaceLaws.{Stands, Apart, stands}
+use Rattle.block.proofs.PlaceLaws.{Stands, stands}
 use Rattle.block.proofs.WriteLaws.{line-long}
 
 -- an answer that writes nothing
@@ -57,91 +59,114 @@ pub tells-same : {a b : Answer} {r : Told} {o o′ w w′ : List ℕ} → a ≡ 
 tells-same {a} {b} {r} {o} {o′} {w} {w′} e h = subst (λ (x : Answer). Tells x r o o′ w w′) (sym e) h
 
 -- ---- settle: D is the decision by the definition, and d the one that the code was told
-module _ (kind : ℕ) (q : Cue) (D d : Decision) (ed : d ≡ D) (o w : List ℕ) where
+module _ (kind : ℕ) (q : Cue) (D d : Decision) (ed : d ≡ D) where
   by-told : (v : Decision) → d ≡ v → cueIn kind q D ≡ cueIn kind q v
   by-told v p = ap (cueIn kind q) (sym ed ∙ p)
 
-  pub settle-strange : (r : Told) → d ≡ Strange → r ≡ refusedWith 15 → Tells (cueIn kind q D) r o o w w
-  settle-strange r p e = tells-same (by-told Strange p) (tells-refused 15 r o w e)
+  pub settle-strange : (r : Told) (o w : List ℕ) → d ≡ Strange → r ≡ refusedWith 15 → Tells (cueIn kind q D) r o o w w
+  settle-strange r o w p e = tells-same (by-told Strange p) (tells-refused 15 r o w e)
 
-  pub settle-dropped : d ≡ Dropped → Tells (cueIn kind q D) (record { number = 0; counted = Lost; written = 0; warned = 0 }) o o w w
+  pub settle-dropped : (o w : List ℕ) → d ≡ Dropped → Tells (cueIn kind q D) (record { number = 0; counted = Lost; written = 0; warned = 0 }) o o w w
   unfolding placesOf
-  settle-dropped p =
+  settle-dropped o w p =
       tells-same (by-told Dropped p)
       (record { number = refl; counted = refl; written = refl; warned = refl; text = sym (put-nil o); warnings = sym (put-nil w) })
+
+  pub settle-kept : (x : Retimed) (r : Told) (o o′ w w′ : List ℕ) → d ≡ Kept x → Tells (cueIn kind q (Kept x)) r o o′ w w′ → Tells (cueIn kind q D) r o o′ w w′
+  settle-kept x r o o′ w w′ p h = tells-same (by-told (Kept x) p) h
 
 -- without a tag there is no warning 3
 no-tag : (t : Bool) (n : ℕ) (l : List Warning) → warnIf (t && false) 3 n ++ l ≡ l
 no-tag true n l = refl
 no-tag false n l = refl
 
-module _ (kind n S a E b : ℕ) (ps : List Piece) (D d : Decision) (ed : d ≡ D) (o w o′ w′ : List ℕ) (r : Retimed) (c : Counted) (i j : ℕ) where
-  pub settle-kept : d ≡ Kept r → c ≡ countedOf (decided (fateFor r))
-      → (o′ ≡ put (render ps (timeText kind a (r .start)) (timeText kind b (r .stop))) o) × (i ≡ length (render ps (timeText kind a (r .start)) (timeText kind b (r .stop))))
-      → (w′ ≡ put (placesOf (warnIf (r .lost) 4 n)) w) × (j ≡ length (placesOf (warnIf (r .lost) 4 n)))
-      → Tells (cueIn kind (blockCue n S a E b ps) D) (record { number = 0; counted = c; written = i; warned = j }) o o′ w w′
-  settle-kept p ec eo ew =
-      let t : warnIf (r .«start_cut» && false) 3 n ++ warnIf (r .lost) 4 n ≡ warnIf (r .lost) 4 n = no-tag (r .«start_cut») n (warnIf (r .lost) 4 n) in
-      tells-same (by-told kind (blockCue n S a E b ps) D d ed o w (Kept r) p)
-      (record {
-        number = refl;
-        counted = ec;
-        written = eo .1;
-        warned = ew .1 ∙ ap (λ (x : List Warning). length (placesOf x)) (sym t);
-        text = eo .0;
-        warnings = ew .0 ∙ ap (λ (x : List Warning). put (placesOf x) w) (sym t);
-      })
+-- ---- keep
+pub keep-told : (kind n S a E b : ℕ) (ps : List Piece) (r : Retimed) (c : Counted) (i j : ℕ) (o o′ w w′ : List ℕ) → c ≡ countedOf (decided (fateFor r))
+    → (o′ ≡ put (render ps (timeText kind a (r .start)) (timeText kind b (r .stop))) o) × (i ≡ length (render ps (timeText kind a (r .start)) (timeText kind b (r .stop))))
+    → (w′ ≡ put (placesOf (warnIf (r .lost) 4 n)) w) × (j ≡ length (placesOf (warnIf (r .lost) 4 n)))
+    → Tells (cueIn kind (blockCue n S a E b ps) (Kept r)) (record { number = 0; counted = c; written = i; warned = j }) o o′ w w′
+keep-told kind n S a E b ps r c i j o o′ w w′ ec eo ew =
+    let t : warnIf (r .«start_cut» && false) 3 n ++ warnIf (r .lost) 4 n ≡ warnIf (r .lost) 4 n = no-tag (r .«start_cut») n (warnIf (r .lost) 4 n) in
+    record {
+      number = refl;
+      counted = ec;
+      written = eo .1;
+      warned = ew .1 ∙ ap (λ (x : List Warning). length (placesOf x)) (sym t);
+      text = eo .0;
+      warnings = ew .0 ∙ ap (λ (x : List Warning). put (placesOf x) w) (sym t);
+    }
+
+-- ---- read_times
+pub read-1 : (s v : List ℕ) (x : Time) → x ≡ timeIn 1 s → x ≡ Bad → Unread ≡ readingOf (timeIn 1 s) (timeIn 1 v)
+read-1 s v x e p = ap (λ (X : Time). readingOf X (timeIn 1 v)) (sym p ∙ e)
+
+pub read-2 : (s v : List ℕ) (x y : Time) (S a : ℕ) → x ≡ timeIn 1 s → x ≡ At S a → y ≡ timeIn 1 v → y ≡ Bad → Unread ≡ readingOf (timeIn 1 s) (timeIn 1 v)
+read-2 s v x y S a e p f q = ap (λ (Y : Time). readingOf (At S a) Y) (sym q ∙ f) ∙ ap (λ (X : Time). readingOf X (timeIn 1 v)) (sym p ∙ e)
+
+pub read-3 : (s v : List ℕ) (x y : Time) (S a E b : ℕ) → x ≡ timeIn 1 s → x ≡ At S a → y ≡ timeIn 1 v → y ≡ At E b
+    → Both (record { start = S; «start_mark» = a; stop = E; «stop_mark» = b }) ≡ readingOf (timeIn 1 s) (timeIn 1 v)
+read-3 s v x y S a E b e p f q = ap (λ (Y : Time). readingOf (At S a) Y) (sym q ∙ f) ∙ ap (λ (X : Time). readingOf X (timeIn 1 v)) (sym p ∙ e)
+
+not-both : {A : Type 0} {o : Times} → Unread ≡ Both o → A
+not-both e = absurd (let z : _≡_ {A = ℕ} 0 1 = ap (λ (r : Reading). elim r [ Unread ↦ 0 | Both o ↦ 1 ]) e in omega arith)
+
+-- a bad time, and both times, told of
+times-bad : (n : ℕ) (ps : List Piece) (X Y : Time) → readingOf X Y ≡ Unread → timesSay n ps X Y ≡ faulty badTime
+times-bad n ps Bad Y e = refl
+times-bad n ps (At S a) Bad e = refl
+times-bad n ps (At S a) (At E b) e = not-both (sym e)
+
+times-both : (X Y : Time) (o : Times) → readingOf X Y ≡ Both o → (X ≡ At (o .start) (o .«start_mark»)) × (Y ≡ At (o .stop) (o .«stop_mark»))
+times-both Bad Y o e = not-both e
+times-both (At S a) Bad o e = not-both e
+times-both (At S a) (At E b) o e =
+    let v : record { start = S; «start_mark» = a; stop = E; «stop_mark» = b } ≡ o = ap (λ (r : Reading). elim r [ Unread ↦ o | Both v ↦ v ]) e in
+    (ap (λ (v : Times). At (v .start) (v .«start_mark»)) v, ap (λ (v : Times). At (v .stop) (v .«stop_mark»)) v)
 
 -- ---- timed
-module _ (config : Config) (m : List Segment) (k n : ℕ) (b l a T B u : List ℕ) (x : Time) (et : T ≡ textOf l) (eb : B ≡ afterArrow T) (en : n ≡ srtEnd B) (eu : u ≡ upTo arrow T) (ex : x ≡ timeIn 1 u) where
-  start-is : timeIn 1 (upTo arrow (textOf l)) ≡ x
-  start-is = sym (ex ∙ ap (timeIn 1) (eu ∙ ap (upTo arrow) et))
-
+module _ (config : Config) (m : List Segment) (k n : ℕ) (b l a T B t z u v : List ℕ) (x : Reading) (et : T ≡ textOf l) (eb : B ≡ afterArrow T) (en : n ≡ srtEnd B) (ew : t ≡ drop n B) (ez : z ≡ terminatorOf l) (eu : u ≡ upTo arrow T) (ev : v ≡ take n B) (ex : x ≡ readingOf (timeIn 1 u) (timeIn 1 v)) where
   behind-is : B ≡ afterArrow (textOf l)
   behind-is = eb ∙ ap afterArrow et
 
-  abbrev frameOf : List Piece
-  frameOf = blockFrame b (trailing srt (textOf l)) (terminatorOf l) a
+  start-is : u ≡ upTo arrow (textOf l)
+  start-is = eu ∙ ap (upTo arrow) et
 
-  pub timed-1 : (r : Told) (o w : List ℕ) → x ≡ Bad → r ≡ refusedWith 22 → Tells (answerTo config m (lineSays srt k b l a)) r o o w w
+  end-is : v ≡ endText srt (textOf l)
+  end-is = ev ∙ ap (λ (j : ℕ). take j B) en ∙ ap (λ (c : List ℕ). take (srtEnd c) c) behind-is
+
+  trailing-is : t ≡ trailing srt (textOf l)
+  trailing-is = ew ∙ ap (λ (j : ℕ). drop j B) en ∙ ap (λ (c : List ℕ). drop (srtEnd c) c) behind-is
+
+  -- the line in the words of the code
+  line-is : lineSays srt k b l a ≡ timesSay k (blockFrame b t z a) (timeIn 1 u) (timeIn 1 v)
   unfolding lineSays
-  timed-1 r o w p q =
-      tells-same (ap (λ (X : Time). answerTo config m (timesSay k frameOf X (timeIn 1 (endText srt (textOf l))))) (start-is ∙ p)) (tells-refused 22 r o w q)
+  line-is = rw (start-is, end-is, trailing-is, ez)
 
-  module _ (v : List ℕ) (y : Time) (ev : v ≡ take n B) (ey : y ≡ timeIn 1 v) where
-    end-is : timeIn 1 (endText srt (textOf l)) ≡ y
-    end-is =
-        sym (ey ∙ ap (timeIn 1) (ev ∙ ap (λ (j : ℕ). take j B) en ∙ ap (λ (c : List ℕ). take (srtEnd c) c) behind-is))
+  pub timed-bad : (r : Told) (o w : List ℕ) → x ≡ Unread → r ≡ refusedWith 22 → Tells (answerTo config m (lineSays srt k b l a)) r o o w w
+  timed-bad r o w p q =
+      tells-same (ap (answerTo config m) (line-is ∙ times-bad k (blockFrame b t z a) (timeIn 1 u) (timeIn 1 v) (sym ex ∙ p))) (tells-refused 22 r o w q)
 
-    line-is : (X Y : Time) → x ≡ X → y ≡ Y → lineSays srt k b l a ≡ timesSay k frameOf X Y
-    unfolding lineSays
-    line-is X Y p q =
-        ap (λ (i : Time). timesSay k frameOf i (timeIn 1 (endText srt (textOf l)))) (start-is ∙ p)
-        ∙ ap (timesSay k frameOf X) (end-is ∙ q)
+  module _ (old : Times) (p : x ≡ Both old) where
+    both : (timeIn 1 u ≡ At (old .start) (old .«start_mark»)) × (timeIn 1 v ≡ At (old .stop) (old .«stop_mark»))
+    both = times-both (timeIn 1 u) (timeIn 1 v) old (sym ex ∙ p)
 
-    pub timed-2 : (r : Told) (o w : List ℕ) (S i : ℕ) → x ≡ At S i → y ≡ Bad → r ≡ refusedWith 22 → Tells (answerTo config m (lineSays srt k b l a)) r o o w w
-    timed-2 r o w S i p q e = tells-same (ap (answerTo config m) (line-is (At S i) Bad p q)) (tells-refused 22 r o w e)
+    pub timed-room : (o : List ℕ) → 3 * (length b + length l + length a) ≤ length o → length b + length t + length z + length a + 51 ≤ length o
+    timed-room o h =
+        let f = line-long l (old .start) (old .stop) (old .«start_mark») (old .«stop_mark») (ap (timeIn 1) (sym start-is) ∙ both .0) (ap (timeIn 1) (sym end-is) ∙ both .1) in
+        let g : length t ≡ length (trailing srt (textOf l)) = ap length trailing-is in
+        let d : length z ≡ length (terminatorOf l) = ap length ez in
+        omega arith
 
-    module _ (t z : List ℕ) (S i E j : ℕ) (p : x ≡ At S i) (q : y ≡ At E j) (ew : t ≡ drop n B) (ez : z ≡ terminatorOf l) where
-      trailing-is : t ≡ trailing srt (textOf l)
-      trailing-is = ew ∙ ap (λ (j : ℕ). drop j B) en ∙ ap (λ (c : List ℕ). drop (srtEnd c) c) behind-is
-
-      pub timed-room : (o : List ℕ) → 3 * (length b + length l + length a) ≤ length o → length b + length t + length z + length a + 51 ≤ length o
-      timed-room o h =
-          let f = line-long l S E i j (start-is ∙ p) (end-is ∙ q) in
-          let g : length t ≡ length (trailing srt (textOf l)) = ap length trailing-is in
-          let d : length z ≡ length (terminatorOf l) = ap length ez in
-          omega arith
-
-      pub timed-3 : (r : Told) (o o′ w w′ : List ℕ) → Tells (cueIn (config .kind) (blockCue k S i E j (blockFrame b t z a)) (decideIn config m S E)) r o o′ w w′
-          → Tells (answerTo config m (lineSays srt k b l a)) r o o′ w w′
-      unfolding partIn
-      timed-3 r o o′ w w′ h =
-          tells-same
-          (ap (answerTo config m) (line-is (At S i) (At E j) p q)
-          ∙ ap (λ (c : List ℕ). cueIn (config .kind) (blockCue k S i E j (blockFrame b c (terminatorOf l) a)) (decideIn config m S E)) (sym trailing-is)
-          ∙ ap (λ (c : List ℕ). cueIn (config .kind) (blockCue k S i E j (blockFrame b t c a)) (decideIn config m S E)) (sym ez))
-          h
+    pub timed-both : (r : Told) (o o′ w w′ : List ℕ)
+        → Tells (cueIn (config .kind) (blockCue k (old .start) (old .«start_mark») (old .stop) (old .«stop_mark») (blockFrame b t z a)) (decideIn config m (old .start) (old .stop))) r o o′ w w′
+        → Tells (answerTo config m (lineSays srt k b l a)) r o o′ w w′
+    unfolding partIn
+    timed-both r o o′ w w′ h =
+        tells-same
+        (ap (answerTo config m)
+        (line-is ∙ ap (λ (X : Time). timesSay k (blockFrame b t z a) X (timeIn 1 v)) (both .0) ∙
+        ap (λ (Y : Time). timesSay k (blockFrame b t z a) (At (old .start) (old .«start_mark»)) Y) (both .1)))
+        h
 
 -- ---- block
 module _ (config : Config) (m : List Segment) (first : ℕ) (s : List ℕ) (room places : ℕ) where

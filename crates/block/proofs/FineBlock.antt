@@ -1,13 +1,11 @@
 -- Within the limits the code's answer to a block is document 01's; and a block as one row of bytes is the block as its lines.
 use mathlib.Core.Path.{_≡_, refl, sym, ap, subst, _∙_}
-use mathlib.Core.Bool.{Bool, true, false, cond}
+use mathlib.Core.Bool.{false}
 use mathlib.Core.List.{List, [], _∷_, _++_, append-nil}
 use Prim.Native.Nat.{ℕ, _+_, _*_, _≤_, _<_}
 use native.Mathlib.Omega.{arith}
 use borrow.Author.Tests.{le-ltb}
-use lib.Dec.{ltb}
 use lib.ListN.{length}
-use Rattle.base.specs.Limits.{mostUnits}
 use Rattle.text.specs.Find.{upTo}
 use Rattle.text.specs.Line.{linesOf, concat, lineCount, textOf, terminatorOf, hasLf}
 use Rattle.text.proofs.LineLaws.{Finished, lines-back, line-last}
@@ -16,17 +14,14 @@ use Rattle.time.specs.declared.read.Time.the-variants.{At, Bad}
 use Rattle.time.specs.Kind.{unitsOf, markOf}
 use Rattle.time.specs.Read.{timeIn}
 use Rattle.time.specs.Convert.{ticksOf, coreUnits}
-use Rattle.time.proofs.Reading.{time-most, time-below, time-mark}
-use Rattle.segmap.specs.declared.segment.Segment.{Segment}
+use Rattle.time.proofs.Reading.{time-below, time-mark}
 use Rattle.segmap.specs.Segment.{segmentsOf, mapBad}
 use Rattle.event.specs.declared.setting.Config.{Config}
-use Rattle.event.specs.declared.retiming.Decision.{Decision}
-use Rattle.event.specs.declared.retiming.Decision.the-variants.{Strange, Dropped, Kept}
 use Rattle.event.specs.Hit.{Found, miss, hit, findHit}
-use Rattle.event.specs.Decide.{decideHit, decideTicks, decideOf, decideIn}
-use Rattle.event.specs.Says.{Piece, Cue, Part, stays, passes, cue}
+use Rattle.event.specs.Decide.{decideHit, decideTicks, decideOf}
+use Rattle.event.specs.Says.{Cue, stays, passes, cue}
 use Rattle.event.specs.Emit.{cueEmit, emitBy, emitOf}
-use Rattle.event.specs.Told.{Answer, answered, cueIn, partIn}
+use Rattle.event.specs.Told.{answered, cueIn, partIn}
 use Rattle.event.proofs.FineLaws.{Set, decide-fine}
 use Rattle.block.specs.Style.{Style, srt}
 use Rattle.block.specs.Block

@@ -1,14 +1,12 @@
 -- Room: what a block becomes has at most three bytes for each of its own, and at most one warning.
 use mathlib.Core.Path.{_≡_, refl, sym, ap, subst, _∙_}
 use mathlib.Core.Bool.{Bool, true, false, cond, _&&_}
-use mathlib.Core.List.{List, [], _∷_, _++_}
-use Prim.Native.Nat.{ℕ, zero, suc, _+_, _*_, _≤_, _<_, _^_}
+use mathlib.Core.List.{List, [], _++_}
+use Prim.Native.Nat.{ℕ, _+_, _*_, _≤_, _<_, _^_}
 use native.Mathlib.Omega.{arith}
 use native.Mathlib.Nat.{le-refl, mul-le-mul}
-use borrow.Author.Tests.{ltb-false}
 use lib.Dec.{ltb}
 use lib.ListN.{length, length-append}
-use Rattle.base.specs.Limits.{mostUnits, mostTicks}
 use Rattle.text.specs.Find.{upTo}
 use Rattle.text.specs.Line.{linesOf, concat, lineCount, textOf, terminatorOf}
 use Rattle.text.proofs.LineLaws.{lines-joined}
@@ -16,9 +14,9 @@ use Rattle.time.specs.declared.read.Time.{Time}
 use Rattle.time.specs.declared.read.Time.the-variants.{At, Bad}
 use Rattle.time.specs.Kind.{unitsOf}
 use Rattle.time.specs.Read.{timeIn}
-use Rattle.time.specs.Convert.{startUnits, endUnits, coreTimescale, coreUnits, coreTicks, coreHolds, startWithin, endWithin}
+use Rattle.time.specs.Convert.{startUnits, endUnits, coreUnits, coreTicks, coreHolds, startWithin, endWithin}
 use Rattle.time.proofs.Conversions.{start-low, end-start}
-use Rattle.time.proofs.Limits.{Within, core-within, start-within, end-within, units-high}
+use Rattle.time.proofs.Limits.{core-within, units-high}
 use Rattle.time.proofs.Reading.{time-most}
 use Rattle.segmap.specs.declared.segment.Segment.{Segment}
 use Rattle.segmap.specs.Segment.{sourceOf, outputOf, segmentsOf, endBad, mapBad}
@@ -28,8 +26,8 @@ use Rattle.event.specs.declared.retiming.Decision.the-variants.{Strange, Droppe
 use Rattle.event.specs.Hit.{Found, miss, hit, findHit, metOf}
 use Rattle.event.specs.Decide.{retimedBy, limitedHit, decideIn, decideOf}
 use Rattle.event.specs.Says.{Part, stays, passes, cue}
-use Rattle.event.specs.Emit.{Emit, Warning, warning, warnIf, cueEmit, emitBy, emitOf}
-use Rattle.event.specs.Told.{Answer, refusal, cueIn, partIn}
+use Rattle.event.specs.Emit.{Emit, warnIf, cueEmit, emitBy, emitOf}
+use Rattle.event.specs.Told.{refusal, cueIn, partIn}
 use Rattle.event.proofs.FineLaws.{Set, decide-fine}
 use Rattle.block.specs.Style.{srt}
 use Rattle.block.specs.Block

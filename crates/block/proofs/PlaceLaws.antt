@@ -1,19 +1,18 @@
 -- Laws of the timing line: where it stands in the block.
 use mathlib.Core.Path.{_≡_, refl, sym, ap, subst, _∙_}
-use mathlib.Core.Bool.{Bool, true, false, cond, true≢false}
+use mathlib.Core.Bool.{Bool, true, false, cond}
 use mathlib.Core.List.{List, [], _∷_, _++_, append-assoc}
-use Prim.Native.Nat.{ℕ, zero, suc, _+_, _*_, _-_, _≤_, _<_}
-use native.Mathlib.Nat.{add-zero, not-suc-le-zero}
+use Prim.Native.Nat.{ℕ, suc, _+_, _-_, _≤_, _<_}
+use native.Mathlib.Nat.{add-zero}
 use native.Mathlib.Omega.{arith}
 use borrow.Author.Tests.{lt-ltb, le-ltb}
-use lib.Dec.{ltb}
-use lib.Seq.{length-take-le, take-at, drop-at, drop-drop}
-use lib.ListN.{length, take, drop, getD, length-drop, length-take, length-append}
+use lib.Seq.{length-take-le, take-at, drop-at}
+use lib.ListN.{length, take, drop, getD, length-drop, length-append}
 use Rattle.base.proofs.Laws.{yes!, no! }
 use Rattle.text.specs.Utf8.{tail}
 use Rattle.text.specs.White.{trimHead}
-use Rattle.text.specs.Find.{contains, upTo, past}
-use Rattle.text.specs.Line.{lineLength, linesOf, concat, lineCount, textOf, terminatorOf}
+use Rattle.text.specs.Find.{contains, past}
+use Rattle.text.specs.Line.{lineLength, linesOf, concat, lineCount, textOf}
 use Rattle.text.proofs.LineLaws.{line-some, line-le, lines-cut, lines-end, lines-joined}
 use Rattle.block.specs.declared.timing.Place.{Place}
 use Rattle.block.specs.Style.{srtEnd}

@@ -1,10 +1,10 @@
 -- Laws of the new block: written piece by piece, and no longer than three times the old one.
-use mathlib.Core.Path.{_≡_, refl, sym, ap, subst, _∙_}
-use mathlib.Core.Bool.{Bool, true, false, cond, _&&_}
+use mathlib.Core.Path.{_≡_, refl, sym, ap, _∙_}
+use mathlib.Core.Bool.{Bool, true, false}
 use mathlib.Core.List.{List, [], _∷_, _++_, append-assoc, append-nil}
-use Prim.Native.Nat.{ℕ, zero, suc, _+_, _*_, _-_, _≤_, _<_, _^_}
+use Prim.Native.Nat.{ℕ, _+_, _-_, _≤_, _<_, _^_}
 use native.Mathlib.Omega.{arith}
-use lib.ListN.{length, take, drop, length-append, length-take, length-drop}
+use lib.ListN.{length, take, drop, length-append}
 use Rattle.base.specs.Put.{put, placedAt, placeAfter}
 use Rattle.base.proofs.PartLaws.{part-lengths}
 use Rattle.base.proofs.PutLaws.{put-nil, then-placed}
@@ -12,7 +12,7 @@ use Rattle.text.specs.Find.{upTo, past}
 use Rattle.text.specs.White.{trimHead}
 use Rattle.text.specs.Line.{textOf, terminatorOf}
 use Rattle.text.proofs.LineLaws.{text-terminator, up-past, trim-head-length}
-use Rattle.time.specs.declared.read.Time.the-variants.{At, Bad}
+use Rattle.time.specs.declared.read.Time.the-variants.{At}
 use Rattle.time.specs.Read.{timeIn}
 use Rattle.time.specs.Write.{timeText}
 use Rattle.time.proofs.Reading.{time-long}

@@ -1,17 +1,22 @@
 -- What the code answers to an SRT block at every input: the block said, then put through the map.
-use mathlib.Core.Bool.{Bool, true, false, cond}
+use mathlib.Core.Bool.{cond}
 use mathlib.Core.List.{List, []}
 use Prim.Native.Nat.{ℕ, _*_}
 use lib.Dec.{ltb}
 use lib.ListN.{length}
 use Rattle.text.specs.Line.{linesOf}
 use Rattle.segmap.specs.declared.segment.Segment.{Segment}
+use Rattle.time.specs.declared.read.Time.{Time}
+use Rattle.time.specs.declared.read.Time.the-variants.{At, Bad as NoTime}
 use Rattle.event.specs.declared.setting.Config.{Config}
 use Rattle.event.specs.declared.telling.Told.{Told}
 use Rattle.event.specs.declared.telling.Counted.the-variants.{Nothing}
 use Rattle.event.specs.Says.{faultNumber}
 use Rattle.event.specs.Emit.{emitOf}
 use Rattle.event.specs.Told.{Answer, refusal, answered, partIn}
+use Rattle.block.specs.declared.srt.Times.{Times}
+use Rattle.block.specs.declared.srt.Reading.{Reading}
+use Rattle.block.specs.declared.srt.Reading.the-variants.{Bad, Both}
 use Rattle.block.specs.Style.{srt}
 use Rattle.block.specs.Block.{BlockSays, faulty, says, blockSays}
 
@@ -35,3 +40,9 @@ blockIn s m first b room places =
 -- a refusal, handed back
 abbrev pub refusedWith : ℕ → Told
 refusedWith n = record { number = n; counted = Nothing; written = 0; warned = 0 }
+
+-- what is read of a start and an end
+abbrev pub readingOf : Time → Time → Reading
+readingOf NoTime y = Bad
+readingOf (At S a) NoTime = Bad
+readingOf (At S a) (At E b) = Both (record { start = S; «start_mark» = a; stop = E; «stop_mark» = b })

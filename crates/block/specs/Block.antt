@@ -1,11 +1,11 @@
 -- What a block says by the text alone. A block is its non-blank lines, each with its terminator; the last may have none.
-use mathlib.Core.Bool.{Bool, true, false, cond}
-use mathlib.Core.List.{List, [], _∷_, _++_}
-use Prim.Native.Nat.{ℕ, suc, _+_}
-use lib.ListN.{length, take, drop}
+use mathlib.Core.Bool.{false, cond}
+use mathlib.Core.List.{List, [], _∷_}
+use Prim.Native.Nat.{ℕ, _+_}
+use lib.ListN.{take, drop}
 use Rattle.text.specs.White.{trimHead}
 use Rattle.text.specs.Find.{contains, upTo, past}
-use Rattle.text.specs.Line.{linesOf, concat, lineCount, textOf, terminatorOf}
+use Rattle.text.specs.Line.{concat, lineCount, textOf, terminatorOf}
 use Rattle.time.specs.declared.read.Time.{Time}
 use Rattle.time.specs.declared.read.Time.the-variants.{At, Bad}
 use Rattle.event.specs.Says.{Piece, bytes, start, stop, Cue, Part, stays, cue, Fault, badTime}

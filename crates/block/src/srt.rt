@@ -10,21 +10,20 @@ use event::Retimed;
 use event::Told;
 use time::Time;
 ghost use mathlib.Core.Path.{_≡_};
-ghost use mathlib.Core.Bool.{Bool, true, false, cond, _||_};
-ghost use mathlib.Core.List.{[], _∷_};
 ghost use Prim.Native.Nat.{_+_, _*_, _≤_};
 ghost use lib.ListN.{length};
 ghost use Rattle.base.specs.Put.{put, placedAt, placeAfter};
+ghost use Rattle.time.specs.Read.{timeIn};
 ghost use Rattle.time.specs.Write.{timeText};
 ghost use Rattle.segmap.specs.Segment.{segmentsOf};
+ghost use Rattle.event.specs.declared.retiming.Decision.the-variants.{Kept};
 ghost use Rattle.event.specs.Decide.{decideIn};
 ghost use Rattle.event.specs.Fates.{fateFor};
-ghost use Rattle.event.specs.Says.{stays};
 ghost use Rattle.event.specs.Emit.{decided, warnIf, placesOf, render};
-ghost use Rattle.event.specs.Told.{countedOf, cueIn, partIn, Tells};
+ghost use Rattle.event.specs.Told.{countedOf, cueIn, Tells};
 ghost use Rattle.block.specs.Style.{srt};
 ghost use Rattle.block.specs.Block.{writtenArrow, blockFrame, blockCue, lineSays};
-ghost use Rattle.block.specs.Answer.{refusedWith, answerTo, blockIn};
+ghost use Rattle.block.specs.Answer.{readingOf, refusedWith, answerTo, blockIn};
 
 // The times of a timing line, each with its mark.
 struct Times {
@@ -32,6 +31,12 @@ struct Times {
     start_mark: u8,
     stop: u64,
     stop_mark: u8,
+}
+
+// What was read of them: a bad time, or both.
+enum Reading {
+    Bad,
+    Both(Times),
 }
 
 fn refused(number: u32) -> Told
@@ -97,6 +102,40 @@ fn counted_by(r: Retimed) -> Counted
     Counted::Shifted
 }
 
+// A caption that is kept.
+fn keep(
+    kind: u32,
+    new: Retimed,
+    old: Times,
+    before: &[u8],
+    trailing: &[u8],
+    end: &[u8],
+    after: &[u8],
+    line: u64,
+    out: &mut [u8],
+    warnings: &mut [u64],
+) -> Told
+    requires { ⌜ (length (now before) + length (now trailing) + length (now end) + length (now after) + 51 ≤ length (now out)) × (2 ≤ length (now warnings)) ⌝ }
+    ensures { λ r. ⌜ Tells (cueIn kind (blockCue line (old .start) (old .«start_mark») (old .stop) (old .«stop_mark») (blockFrame (now (before .entry)) (now (trailing .entry)) (now (end .entry)) (now (after .entry)))) (Kept new)) r (now (out .entry)) (now (out .exit)) (now (warnings .entry)) (now (warnings .exit)) ⌝ }
+{
+    let times = Times {
+        start: new.start,
+        start_mark: old.start_mark,
+        stop: new.stop,
+        stop_mark: old.stop_mark,
+    };
+    let lost = new.lost;
+    let counted = counted_by(new);
+    let written = write_kept(kind, times, before, trailing, end, after, out);
+    let warned = warn(lost, line, warnings);
+    Told {
+        number: 0,
+        counted,
+        written,
+        warned,
+    }
+}
+
 // A caption whose times are read.
 fn settle(
     config: Config,
@@ -122,25 +161,37 @@ fn settle(
             written: 0,
             warned: 0,
         },
-        Decision::Kept(r) => {
-            let new = Times {
-                start: r.start,
-                start_mark: old.start_mark,
-                stop: r.stop,
-                stop_mark: old.stop_mark,
-            };
-            let lost = r.lost;
-            let counted = counted_by(r);
-            let written = write_kept(kind, new, before, trailing, end, after, out);
-            let warned = warn(lost, line, warnings);
-            Told {
-                number: 0,
-                counted,
-                written,
-                warned,
-            }
-        }
+        Decision::Kept(new) => keep(
+            kind,
+            new,
+            old,
+            before,
+            trailing,
+            end,
+            after,
+            line,
+            out,
+            warnings,
+        ),
     }
+}
+
+// The start's text and the end's, read.
+fn read_times(start: &[u8], stop: &[u8]) -> Reading
+    ensures { λ r. ⌜ r ≡ readingOf (timeIn 1 (now (start .entry))) (timeIn 1 (now (stop .entry))) ⌝ }
+{
+    let Time::At(from, from_mark) = time::read_time(start, 1) else {
+        return Reading::Bad;
+    };
+    let Time::At(to, to_mark) = time::read_time(stop, 1) else {
+        return Reading::Bad;
+    };
+    Reading::Both(Times {
+        start: from,
+        start_mark: from_mark,
+        stop: to,
+        stop_mark: to_mark,
+    })
 }
 
 // A block with a timing line.
@@ -160,32 +211,23 @@ fn timed(
     let text = text::text_of(line);
     let behind = after_arrow(text);
     let n = end_length(behind);
-    let Time::At(start, start_mark) = time::read_time(before_arrow(text), 1) else {
-        return refused(22);
-    };
-    let Time::At(stop, stop_mark) = time::read_time(base::front(behind, n), 1) else {
-        return refused(22);
-    };
-    let old = Times {
-        start,
-        start_mark,
-        stop,
-        stop_mark,
-    };
     let trailing = base::rest(behind, n);
     let end = text::terminator_of(line);
-    settle(
-        config,
-        map,
-        old,
-        before,
-        trailing,
-        end,
-        after,
-        number,
-        out,
-        warnings,
-    )
+    match read_times(before_arrow(text), base::front(behind, n)) {
+        Reading::Bad => refused(22),
+        Reading::Both(old) => settle(
+            config,
+            map,
+            old,
+            before,
+            trailing,
+            end,
+            after,
+            number,
+            out,
+            warnings,
+        ),
+    }
 }
 
 // What becomes of a block: `text` is its non-blank lines, and `first` the number of the first of them, from 1.

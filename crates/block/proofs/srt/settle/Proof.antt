@@ -4,10 +4,8 @@ use Rattle.block.proofs.srt.settle.Statement.{statement}
 use Rattle.block.proofs.srt.settle.Tie as tie
 use Rattle.block.proofs.srt.settle.Reads as reads
 use Rattle.block.proofs.srt.settle.Lts as lts
-use Rattle.block.proofs.srt.counted_by.Reads as counted-by-reads
+use Rattle.block.proofs.srt.keep.Reads as keep-reads
 use Rattle.block.proofs.srt.refused.Reads as refused-reads
-use Rattle.block.proofs.srt.warn.Reads as warn-reads
-use Rattle.block.proofs.srt.write_kept.Reads as write-kept-reads
 use Rattle.event.proofs.decide.Reads as decide-reads
 
 decide-requires : tie.Need-decide-requires
@@ -22,17 +20,11 @@ refused-requires c κs = search needs
 enum-told-2 : tie.Need-enum-told-2
 enum-told-2 c = search needs
 
-enum-known-r : tie.Need-enum-known-r
-enum-known-r c = search needs
+enum-known-new : tie.Need-enum-known-new
+enum-known-new c = search needs
 
-counted-by-requires : tie.Need-counted-by-requires
-counted-by-requires c κs = search needs
-
-write-kept-requires : tie.Need-write-kept-requires
-write-kept-requires c κs = search needs
-
-warn-requires : tie.Need-warn-requires
-warn-requires c κs = search needs
+keep-requires : tie.Need-keep-requires
+keep-requires c κs = search needs
 
 returns : tie.Need-returns
 returns c = settle-strange _ _ _ _ (c .before .before .before .decide .ensures) _ _ _ (c .before .enum-told .given .1) (c .refused .ensures)
@@ -47,7 +39,7 @@ same-length-2 : tie.Need-same-length-2
 same-length-2 c = search needs
 
 returns-3 : tie.Need-returns-3
-returns-3 c = settle-kept _ _ _ _ _ _ _ _ _ (c .before .before .before .before .before .before .before .before .before .before .before .before .decide .ensures) _ _ _ _ _ _ _ _ (c .before .before .before .before .before .before .before .before .before .before .r .given .1) (c .before .before .before .before .before .before .before .before .counted-by .ensures) (c .before .before .before .before .before .before .write-kept .ensures) (c .before .before .warn .ensures)
+returns-3 c = settle-kept _ _ _ _ (c .before .before .before .before .before .before .before .before .before .before .decide .ensures) _ _ _ _ _ _ (c .before .before .before .before .before .before .before .before .new .given .1) (c .before .before .before .before .keep .ensures)
 
 pub settle-spec : {M : Type 1} → statement M
 settle-spec =
@@ -57,10 +49,8 @@ settle-spec =
     enum-told
     refused-requires
     enum-told-2
-    enum-known-r
-    counted-by-requires
-    write-kept-requires
-    warn-requires
+    enum-known-new
+    keep-requires
     returns
     returns-2
     same-length

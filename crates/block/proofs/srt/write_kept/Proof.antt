@@ -1,3 +1,4 @@
+use Rattle.time.specs.Write.{timeText}
 use Prim.Native.Nat.{_<_, _^_}
 use native.Mathlib.Omega.{arith}
 use Rattle.time.proofs.Written.{text-23}
@@ -39,7 +40,7 @@ same-length : tie.Need-same-length
 same-length c = search needs
 
 returns : tie.Need-returns
-returns c = let s = c .before .before .before .before .before .before .before .before .before .before .before .before .before .before .before .before .before .before .before .before .before .before .before .before .before .before .before .before .before .before .before .before .before in frame-written _ _ _ _ _ _ _ _ _ _ _ _ _ _ _ _ _ _ _ _ _ (text-23 _ _ _ (words s .0)) (text-23 _ _ _ (words s .1)) (s .pre) (c .before .before .before .before .before .before .before .before .before .before .before .before .before .before .before .before .before .before .before .before .before .before .before .before .before .before .bytes-at .ensures) (c .before .before .before .before .before .before .before .before .before .before .before .before .before .before .before .before .before .before .before .before .before .before .write-time-at .ensures) (c .before .before .before .before .before .before .before .before .before .before .before .before .before .before .before .before .before .before .put-arrow .ensures) (c .before .before .before .before .before .before .before .before .before .before .before .before .before .before .write-time-at2 .ensures) (c .before .before .before .before .before .before .before .before .before .before .bytes-at2 .ensures) (c .before .before .before .before .before .before .bytes-at3 .ensures) (c .before .before .bytes-at4 .ensures)
+returns c = let s = c .before .before .before .before .before .before .before .before .before .before .before .before .before .before .before .before .before .before .before .before .before .before .before .before .before .before .before .before .before .before .before .before .before in frame-written _ (timeText (s .args .kind) (s .args .new .«start_mark») (s .args .new .start)) (timeText (s .args .kind) (s .args .new .«stop_mark») (s .args .new .stop)) _ _ _ _ _ _ _ _ _ _ _ _ _ _ _ _ _ _ (text-23 _ _ _ (words s .0)) (text-23 _ _ _ (words s .1)) (s .pre) (c .before .before .before .before .before .before .before .before .before .before .before .before .before .before .before .before .before .before .before .before .before .before .before .before .before .before .bytes-at .ensures) (c .before .before .before .before .before .before .before .before .before .before .before .before .before .before .before .before .before .before .before .before .before .before .write-time-at .ensures) (c .before .before .before .before .before .before .before .before .before .before .before .before .before .before .before .before .before .before .put-arrow .ensures) (c .before .before .before .before .before .before .before .before .before .before .before .before .before .before .write-time-at2 .ensures) (c .before .before .before .before .before .before .before .before .before .before .bytes-at2 .ensures) (c .before .before .before .before .before .before .bytes-at3 .ensures) (c .before .before .bytes-at4 .ensures)
 
 pub write-kept-spec : {M : Type 1} → statement M
 write-kept-spec =

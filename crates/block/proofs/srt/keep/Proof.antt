@@ -1,0 +1,39 @@
+use Rattle.block.specs.Block.{blockFrame}
+use Rattle.block.proofs.BlockLaws.{keep-told}
+use borrow.Author.Needs.{needs}
+use Rattle.block.proofs.srt.keep.Statement.{statement}
+use Rattle.block.proofs.srt.keep.Tie as tie
+use Rattle.block.proofs.srt.keep.Reads as reads
+use Rattle.block.proofs.srt.keep.Lts as lts
+use Rattle.block.proofs.srt.counted_by.Reads as counted-by-reads
+use Rattle.block.proofs.srt.warn.Reads as warn-reads
+use Rattle.block.proofs.srt.write_kept.Reads as write-kept-reads
+
+counted-by-requires : tie.Need-counted-by-requires
+counted-by-requires c κs = search needs
+
+write-kept-requires : tie.Need-write-kept-requires
+write-kept-requires c κs = search needs
+
+warn-requires : tie.Need-warn-requires
+warn-requires c κs = search needs
+
+same-length : tie.Need-same-length
+same-length c = search needs
+
+same-length-2 : tie.Need-same-length-2
+same-length-2 c = search needs
+
+returns : tie.Need-returns
+returns c = let A = c .before .before .before .before .before .before .before .before .before .before .before .before .before .before .before .args in keep-told _ (A .line) (A .old .start) _ (A .old .stop) _ (blockFrame (A .before .now) (A .trailing .now) (A .end .now) (A .after .now)) (A .new) _ _ _ _ _ _ _ (c .before .before .before .before .before .before .before .before .counted-by .ensures) (c .before .before .before .before .before .before .write-kept .ensures) (c .before .before .warn .ensures)
+
+pub keep-spec : {M : Type 1} → statement M
+keep-spec =
+    tie.close
+    (tie.spec
+    counted-by-requires
+    write-kept-requires
+    warn-requires
+    same-length
+    same-length-2
+    returns)
