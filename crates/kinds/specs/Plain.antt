@@ -41,14 +41,14 @@ abbrev pub unlessFault : ℕ → Reading → Reading
 unlessFault zero r = r
 unlessFault (suc k) r = fails (suc k)
 
--- ---- ASS: line by line; n lines came before
+-- ---- ASS: line by line; n lines came before, and `end` is what comes behind the last one
 abbrev pub lineThen : LineSays → (Columns → Reading) → Reading
 lineThen (lineFaulty f) after = fails (faultNumber f)
 lineThen (lineSaid c p) after = (p ∷ []) ⊕ after c
 
-unfoldable pub assRead : (x : ℕ) → Columns → (n : ℕ) → List (List ℕ) → Reading
-assRead x c n [] = fails 0
-assRead x c n (l ∷ ls) = unlessFault (lineFault x l) (lineThen (lineSays c n l) (λ d. assRead 0 d (suc n) ls))
+unfoldable pub assRead : (end : Reading) → (x : ℕ) → Columns → (n : ℕ) → List (List ℕ) → Reading
+assRead end x c n [] = end
+assRead end x c n (l ∷ ls) = unlessFault (lineFault x l) (lineThen (lineSays c n l) (λ d. assRead end 0 d (suc n) ls))
 
 -- ---- SRT: a block is the non-blank lines, then the blank ones
 pub record Block : Type 0 where
@@ -100,17 +100,17 @@ abbrev pub blankMark : (x : ℕ) → (body : List (List ℕ)) → ℕ
 blankMark x [] = x
 blankMark x (l ∷ ls) = 0
 
--- a block ends at its first blank line, behind that line's own checks, or at finish
+-- a block ends at its first blank line, behind that line's own checks, or at finish; one that neither has closed is left out
 abbrev pub closesBlock : (finished : Bool) → (x n : ℕ) → (body blanks : List (List ℕ)) → Reading → Reading
 closesBlock true x n body [] after = bodyThen n body after
-closesBlock false x n body [] after = fails 0
+closesBlock false x n body [] after = after
 closesBlock f x n body (l ∷ ls) after = unlessFault (lineFault (blankMark x body) l) (bodyThen n body ((stays l ∷ []) ⊕ blanksThen ls after))
 
-unfoldable pub srtRead : (finished : Bool) → (x n : ℕ) → List Block → Reading
-srtRead f x n [] = fails 0
-srtRead f x n (b ∷ bs) =
+unfoldable pub srtRead : (finished : Bool) → (end : Reading) → (x n : ℕ) → List Block → Reading
+srtRead f end x n [] = end
+srtRead f end x n (b ∷ bs) =
     unlessFault (bodyFault x 0 (b .body))
-    (closesBlock f x n (b .body) (b .blanks) (srtRead f 0 (n + lineCount (b .body) + lineCount (b .blanks)) bs))
+    (closesBlock f x n (b .body) (b .blanks) (srtRead f end 0 (n + lineCount (b .body) + lineCount (b .blanks)) bs))
 
 -- ---- the text
 -- each line that LF closes, after a finish the rest too
@@ -118,17 +118,14 @@ abbrev pub linesRead : (finished : Bool) → List ℕ → List (List ℕ)
 linesRead true t = linesOf t
 linesRead false t = closedLines t
 
-unfoldable pub linesSay : (kind : ℕ) → (finished : Bool) → (x : ℕ) → List (List ℕ) → Reading
-linesSay kind f x ls = cond (eqb kind 0) (assRead x noColumns 0 ls) (srtRead f x 0 (blocksOf ls))
+unfoldable pub linesSay : (kind : ℕ) → (finished : Bool) → (end : Reading) → (x : ℕ) → List (List ℕ) → Reading
+linesSay kind f end x ls = cond (eqb kind 0) (assRead end x noColumns 0 ls) (srtRead f end x 0 (blocksOf ls))
 
 -- until a finish the rest is only tested for 19
 abbrev pub restFault : (finished : Bool) → (x : ℕ) → (lines : List (List ℕ)) → (rest : List ℕ) → ℕ
 restFault true x ls r = 0
 restFault false x [] r = faultUnless (leb (x + length r) mostLine) 19
 restFault false x (l ∷ ls) r = faultUnless (leb (length r) mostLine) 19
-
-abbrev pub thenFault : Reading → ℕ → Reading
-thenFault r k = record { fault = r .fault orElse k; parts = r .parts }
 
 -- the BOM is written back where the first line passes its checks (19 and 20; in SRT also 21), or at finish where there is no line
 abbrev pub firstFault : (kind x : ℕ) → List ℕ → ℕ
@@ -145,7 +142,7 @@ markWritten false = []
 module _ (kind : ℕ) (finished : Bool) where
   -- t: the text behind its BOM of x bytes
   abbrev pub readBehind : (x : ℕ) → (t : List ℕ) → Reading
-  readBehind x t = thenFault (linesSay kind finished x (linesRead finished t)) (restFault finished x (closedLines t) (unfinished t))
+  readBehind x t = linesSay kind finished (fails (restFault finished x (closedLines t) (unfinished t))) x (linesRead finished t)
 
   unfoldable pub plainRead : (text : List ℕ) → Reading
   plainRead text =

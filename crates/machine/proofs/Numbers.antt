@@ -99,6 +99,23 @@ module _ {σ κ : Type 0} (K : Kit σ κ) where
   pub call-number : (s : Session κ) (c : Call) → OfCall (answer K s c .number)
   call-number s c = by-gate (foreign K s) (s .ended) (mapBad (lentOf c .map)) (argumentBad (s .taken) c) s c
 
+  -- 15 to 18 write nothing, and the session comes back equal
+  not-of-text : {A : Type 0} (k : ℕ) → OfText k → 15 ≤ k → k ≤ 18 → A
+  not-of-text k (inl e) l h = absurd (omega arith)
+  not-of-text k (inr g) l h = absurd (omega (arith, g .0))
+
+  refused-by : (f e m a : Bool) (s : Session κ) (c : Call) → 15 ≤ respond K (gate f e m a) s c .number → respond K (gate f e m a) s c .number ≤ 18
+      → (respond K (gate f e m a) s c .session ≡ s) × (respond K (gate f e m a) s c .emits ≡ [])
+  refused-by true e m a s c l h = (refl, refl)
+  refused-by false true m a s c l h = (refl, refl)
+  refused-by false false true a s c l h = (refl, refl)
+  refused-by false false false true s c l h = (refl, refl)
+  refused-by false false false false s c l h = not-of-text (accepted K s c .number) (accepted-number s c) l h
+
+  pub refused-same : (s : Session κ) (c : Call) → 15 ≤ answer K s c .number → answer K s c .number ≤ 18
+      → (answer K s c .session ≡ s) × (answer K s c .emits ≡ [])
+  refused-same s c l h = refused-by (foreign K s) (s .ended) (mapBad (lentOf c .map)) (argumentBad (s .taken) c) s c l h
+
   open-by : (m a : Bool) (c : Config) → OfOpen (openBy K (gate false false m a) c .number)
   open-by true a c = inr (omega arith, omega arith)
   open-by false true c = inr (omega arith, omega arith)
