@@ -2,6 +2,7 @@
 ghost use mathlib.Core.Path.{_≡_};
 ghost use mathlib.Core.Bool.{cond};
 ghost use Rattle.text.specs.Utf8.{utf8};
+ghost use Rattle.segmap.specs.Map.{mapOf};
 
 // 1 for UTF-8, else 0.
 #[no_mangle]
@@ -12,4 +13,14 @@ pub extern "C" fn bench_is_utf8(text: &[u8]) -> u32
         return 1;
     }
     0
+}
+
+// The number of a map that is built and thrown away.
+#[no_mangle]
+pub extern "C" fn bench_map(sheet: &[u8], list: &[u8], direction: u32) -> u32
+    ensures { λ r. ⌜ r ≡ mapOf (now (sheet .entry)) (now (list .entry)) direction 6144 .number ⌝ }
+{
+    let mut map = [0u64; 6144];
+    let made = segmap::make(sheet, list, direction, &mut map);
+    made.number
 }

@@ -1,0 +1,83 @@
+// The answer to a case, by its op.
+use libc::STDOUT_FILENO;
+
+fn print_list(list: &[u8]) {
+    let mut ranges = [0u32; 2048];
+    let p = trim::parse(list, &mut ranges);
+    let number = p.number;
+    if number != 0 {
+        mapfile::print_number(b"refused ", number);
+        return;
+    }
+    io::write_all(STDOUT_FILENO, b"ranges ");
+    io::print_decimal(STDOUT_FILENO, p.count as u64);
+    io::write_all(STDOUT_FILENO, b"\n");
+    let mut i: usize = 0;
+    while i < 1024 {
+        if p.count <= i {
+            return;
+        }
+        io::print_decimal(STDOUT_FILENO, ranges[2 * i] as u64);
+        io::write_all(STDOUT_FILENO, b" ");
+        io::print_decimal(STDOUT_FILENO, ranges[2 * i + 1] as u64);
+        io::write_all(STDOUT_FILENO, b"\n");
+        i += 1;
+    }
+}
+
+// The kind whose unit is u; there is none for any other.
+fn kind_of(u: u32) -> u32 {
+    if u == 100 {
+        return 0;
+    }
+    if u == 1000 {
+        return 1;
+    }
+    2
+}
+
+fn print_converted(head: &[u8], x: &[u8]) {
+    let low = blocks::word(x, 0) as u64;
+    let high = blocks::word(x, 1) as u64;
+    let value = low + 4294967296 * high;
+    let timescale = blocks::word(head, 1);
+    let kind = kind_of(blocks::word(head, 2));
+    let way = blocks::word(head, 3);
+    if way == 0 {
+        print_value(time::units_to_ticks(value, timescale, kind));
+        return;
+    }
+    if way == 1 {
+        print_value(time::ticks_to_units_floor(value, timescale, kind));
+        return;
+    }
+    print_value(time::ticks_to_units_ceil(value, timescale, kind));
+}
+
+fn print_value(c: time::Converted) {
+    let number = c.number;
+    if number != 0 {
+        mapfile::print_number(b"refused ", number);
+        return;
+    }
+    io::write_all(STDOUT_FILENO, b"converted ");
+    io::print_decimal(STDOUT_FILENO, c.value);
+    io::write_all(STDOUT_FILENO, b"\n");
+}
+
+pub fn answer(head: &[u8], x: &[u8], y: &[u8]) {
+    let op = blocks::word(head, 0);
+    if op == 1 {
+        print_list(x);
+        return;
+    }
+    if op == 2 {
+        mapfile::print_map_of(x, y, blocks::word(head, 1));
+        return;
+    }
+    if op == 4 {
+        print_converted(head, x);
+        return;
+    }
+    mapfile::print_number(b"unknown op ", op);
+}

@@ -1,0 +1,28 @@
+// Parts of a case, read from standard input.
+
+// Reads n bytes that do not fit and throws them away.
+fn skip(n: usize) {
+    let mut left = n;
+    while 0 < left {
+        let mut buf = [0u8; 4096];
+        let mut k = left;
+        if 4096 < left {
+            k = 4096;
+        }
+        let got = io::read_full(0, &mut buf[..k]);
+        if got == 0 {
+            return;
+        }
+        left = base::less(left, got);
+    }
+}
+
+// Reads n bytes to the start of buf where they fit, and answers whether they did.
+pub fn take(buf: &mut [u8], n: usize) -> bool {
+    if buf.len() < n {
+        skip(n);
+        return false;
+    }
+    io::read_full(0, &mut buf[..n]);
+    true
+}
