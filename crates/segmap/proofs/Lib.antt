@@ -2,3 +2,4 @@ pub mod SegmentLaws
 pub mod TicksLaws
 pub mod BuildLaws
 pub mod MapLaws
+pub mod Built

@@ -1,0 +1,300 @@
+-- What holds of every map that is made: its number, its count, its segments' order, and that open never refuses it (15).
+use mathlib.Core.Path.{_≡_, refl, sym, ap, subst, _∙_}
+use mathlib.Core.Bool.{Bool, true, false, cond}
+use mathlib.Core.Logic.{_⊎_, inl, inr, ⊎-elim}
+use mathlib.Core.List.{List, [], _∷_, _++_}
+use Prim.Native.Nat.{ℕ, zero, suc, _+_, _-_, _*_, _%_, _^_, _≤_, _<_}
+use native.Mathlib.Omega.{arith}
+use borrow.Author.Tests.{le-ltb, eq-eqb, le-leb, leb-true}
+use lib.Dec.{ltb, leb, eqb}
+use lib.ListN.{length, getD, take}
+use Rattle.base.specs.Limits.{mostFrames, mostFrame, mostTicks, mostSegments, mostTrims}
+use Rattle.base.specs.Put.{put}
+use Rattle.base.specs.Refusal.{_orElse_, faultUnless}
+use Rattle.base.proofs.Laws.{yes!, no! }
+use Rattle.base.proofs.PutLaws.{put-nil, take-put}
+use Rattle.base.proofs.RefusalLaws.{else-zero, held}
+use Rattle.sheet.specs.Sheet.{sheetFault, framesOf, timescaleOf, decodeOf}
+use Rattle.sheet.proofs.RefusalNumbers.{else-numbers, unless-numbers}
+use Rattle.sheet.proofs.SheetLaws.{SheetNumber, sheet-numbers, sound-head}
+use Rattle.trim.specs.TrimList.{listNumber, rangesOf, rangeCount}
+use Rattle.trim.proofs.RangeLaws.{OfList, list-number-table, range-count-most, ranges-length}
+use Rattle.plan.specs.Snap.{snapAll, overlapsFault}
+use Rattle.plan.proofs.SnapMeaning.{Bounded, snap-bounded, OverlapNumber, overlap-numbers, overlap-apart}
+use Rattle.segmap.specs.declared.segment.Segment.{Segment}
+use Rattle.segmap.specs.Segment.{segment, numbersOf, flatOf, segmentsOf, endBad, segmentBad, anyBad, mapBad}
+use Rattle.segmap.specs.Build.{ticksFrom, sourceStart, rangeTicks, rangeFault, rangesFault, segmentIn, segmentsIn}
+use Rattle.segmap.specs.Map.{rangesFor, snappedOf, mapNumber, Map, answer, mapOf}
+use Rattle.segmap.proofs.SegmentLaws.{flat-back}
+use Rattle.segmap.proofs.TicksLaws.{ticks-none, ticks-split, ticks-more, ticks-most, ticks-within}
+use Rattle.segmap.proofs.BuildLaws.{fault-free, faults-cut}
+use Rattle.segmap.proofs.MapLaws.{segments-count, snapped-length}
+
+-- ---- the numbers of document 01's table: 0 to 14, 16 and 20
+abbrev pub MapNumber : ℕ → Type 0
+MapNumber k = (k ≤ 14) ⊎ ((k ≡ 16) ⊎ (k ≡ 20))
+
+range-number : (s : List ℕ) (n a e : ℕ) → rangeFault s n a e ≤ 10
+unfolding rangeFault
+range-number s n a e =
+    else-numbers (λ (k : ℕ). k ≤ 10) (faultUnless (leb a e) 9) (faultUnless (leb (decodeOf s a + (e - a)) n) 10)
+    (unless-numbers (λ (k : ℕ). k ≤ 10) (omega arith) (leb a e) 9 (omega arith))
+    (unless-numbers (λ (k : ℕ). k ≤ 10) (omega arith) (leb (decodeOf s a + (e - a)) n) 10 (omega arith))
+
+ranges-number : (s : List ℕ) (n : ℕ) (l : List ℕ) → rangesFault s n l ≤ 10
+unfolding rangesFault
+ranges-number s n [] = omega arith
+ranges-number s n (a ∷ []) = omega arith
+ranges-number s n (a ∷ e ∷ r) = else-numbers (λ (k : ℕ). k ≤ 10) (rangeFault s n a e) (rangesFault s n r) (range-number s n a e) (ranges-number s n r)
+
+or-else : {a b : ℕ} → MapNumber a → MapNumber b → MapNumber (a orElse b)
+or-else {a} {b} p q = else-numbers MapNumber a b p q
+
+argument : (t : Bool) → MapNumber (faultUnless t 16)
+argument t = unless-numbers MapNumber (inl (omega arith)) t 16 (inr (inl refl))
+
+pub map-numbers : (sheet list : List ℕ) (d lent : ℕ) → MapNumber (mapNumber sheet list d lent)
+unfolding mapNumber
+map-numbers sheet list d lent =
+    or-else (argument (leb (6 * mostSegments) lent))
+    (or-else (argument (leb d 1))
+    (or-else (⊎-elim (λ e. inl (omega (arith, e))) (λ h. inl (omega (arith, h .1))) (sheet-numbers sheet))
+    (or-else (⊎-elim (λ h. inl (omega (arith, h))) (λ e. inr (inr e)) (list-number-table list))
+    (or-else (⊎-elim (λ e. inl (omega (arith, e))) (λ e. inl (omega (arith, e))) (overlap-numbers 0 (snappedOf sheet list d)))
+    (inl (omega (arith, ranges-number sheet (framesOf sheet) (snappedOf sheet list d))))))))
+
+-- ---- segments of ranges that have passed 8, 9 and 10
+-- their durations together
+unfoldable pub keptTicks : List ℕ → List ℕ → ℕ
+keptTicks s [] = 0
+keptTicks s (a ∷ []) = 0
+keptTicks s (a ∷ e ∷ r) = rangeTicks s a e + keptTicks s r
+
+-- source start and duration end where the sum of the samples up to there ends
+pub source-end : (s : List ℕ) (a e : ℕ) → sourceStart s a + rangeTicks s a e ≡ ticksFrom s 0 (decodeOf s a + (e - a))
+unfolding sourceStart rangeTicks
+source-end s a e = sym (ticks-split s (decodeOf s a) (e - a))
+
+end-within : (a d : ℕ) → a + d ≤ mostTicks → endBad a d ≡ false
+unfolding endBad
+end-within a d h = le-ltb mostTicks (a + d) h
+
+segment-good : (a b q k o d : ℕ) → a ≤ mostFrame → b ≤ mostFrame → k ≤ mostFrame → q + d ≤ mostTicks → o + d ≤ mostTicks → segmentBad a b q k o d ≡ false
+unfolding segmentBad
+segment-good a b q k o d ha hb hk hq ho =
+    rw (le-ltb mostFrame a ha, le-ltb mostFrame b hb, le-ltb mostFrame k hk, end-within q d hq) (end-within o d ho)
+
+any-cut : (x : Segment) (xs : List Segment)
+    → segmentBad (x .«source_start_frame») (x .«source_end_frame») (x .«source_start_dts») (x .«frame_count») (x .«output_start») (x .duration) ≡ false
+    → anyBad xs ≡ false → anyBad (x ∷ xs) ≡ false
+unfolding anyBad
+any-cut x xs p q = rw p q
+
+-- no segment is bad, where two sums are within the limit: that of all samples, and that of what is kept, the output starting at o
+pub none-bad : (s : List ℕ) (n o : ℕ) (l : List ℕ) → n ≤ mostFrames → Bounded n l → rangesFault s n l ≡ 0 → ticksFrom s 0 n ≤ mostTicks → o + keptTicks s l ≤ mostTicks
+    → anyBad (segmentsIn s o l) ≡ false
+unfolding segmentsIn segmentIn anyBad keptTicks
+none-bad s n o [] f b z t k = refl
+none-bad s n o (a ∷ []) f b z t k = refl
+none-bad s n o (a ∷ e ∷ r) f b z t k =
+    let h = else-zero _ _ (sym (faults-cut s n a e r) ∙ z) in
+    let g = fault-free s n a e (h .0) in
+    let p : sourceStart s a + rangeTicks s a e ≤ mostTicks = omega (arith, source-end s a e, ticks-more s (decodeOf s a + (e - a)) n (g .1)) in
+    any-cut (segment a e (sourceStart s a) (e - a) o (rangeTicks s a e)) (segmentsIn s (o + rangeTicks s a e) r)
+    (segment-good a e (sourceStart s a) (e - a) o (rangeTicks s a e) (omega (arith, b .0)) (omega (arith, b .1 .0)) (omega (arith, b .1 .0)) p (omega arith))
+    (none-bad s n (o + rangeTicks s a e) r f (b .1 .1) (h .1) t (omega arith))
+
+-- ---- 32-bit durations give both sums
+module _ (s : List ℕ) (bytes : (j : ℕ) → getD s j 0 < 256) (n : ℕ) where
+  range-most : (a e : ℕ) → rangeTicks s a e ≤ 4294967295 * (e - a)
+  unfolding rangeTicks
+  range-most a e = ticks-most s bytes (decodeOf s a) (e - a)
+
+  -- ranges that come one after the other from p on take no more than the frames from there
+  kept-most : (p : ℕ) (l : List ℕ) → p ≤ n → Bounded n l → overlapsFault p l ≡ 0 → rangesFault s n l ≡ 0 → keptTicks s l ≤ 4294967295 * (n - p)
+  unfolding keptTicks
+  kept-most p [] h b v z = omega arith
+  kept-most p (a ∷ []) h b v z = omega arith
+  kept-most p (a ∷ e ∷ r) h b v z =
+      let w = else-zero _ _ (sym (faults-cut s n a e r) ∙ z) in
+      let g = fault-free s n a e (w .0) in
+      let u = overlap-apart p a e r v in
+      omega (arith, g .0, u .0, b .1 .0, range-most a e, kept-most e r (b .1 .0) (b .1 .1) (u .1) (w .1))
+
+  pub samples-within : n ≤ mostFrames → ticksFrom s 0 n ≤ mostTicks
+  samples-within h = ticks-within s bytes 0 n h
+
+  pub kept-within : (l : List ℕ) → n ≤ mostFrames → Bounded n l → overlapsFault 0 l ≡ 0 → rangesFault s n l ≡ 0 → keptTicks s l ≤ mostTicks
+  kept-within l h b v z = omega (arith, kept-most 0 l (omega arith) b v z)
+
+-- ---- the flat numbers of segments
+pub flat-length : (xs : List Segment) → length (flatOf xs) ≡ 6 * length xs
+unfolding flatOf
+flat-length [] = refl
+flat-length (x ∷ xs) = omega (arith, flat-length xs)
+
+pub flat-good : (xs : List Segment) → length xs ≤ mostSegments → anyBad xs ≡ false → mapBad (flatOf xs) ≡ false
+unfolding mapBad
+flat-good xs h g =
+    let w : length (flatOf xs) % 6 ≡ 0 = omega (arith, flat-length xs) in
+    let m : length (flatOf xs) ≤ 6 * mostSegments = omega (arith, flat-length xs) in
+    sym (yes! _ (eq-eqb (length (flatOf xs) % 6) 0 w) (no! _ (le-ltb (6 * mostSegments) (length (flatOf xs)) m) (sym (ap anyBad (flat-back xs) ∙ g))))
+
+-- ---- segments one by one
+-- start and end frame of each
+abbrev pub framesIn : List Segment → List ℕ
+framesIn [] = []
+framesIn (x ∷ xs) = x .«source_start_frame» ∷ x .«source_end_frame» ∷ framesIn xs
+
+pub segments-frames : (s : List ℕ) (o k : ℕ) (l : List ℕ) → length l ≡ 2 * k → framesIn (segmentsIn s o l) ≡ l
+unfolding segmentsIn segmentIn
+segments-frames s o k [] h = refl
+segments-frames s o k (a ∷ []) h = absurd (omega arith)
+segments-frames s o k (a ∷ e ∷ r) h = ap (λ (t : List ℕ). a ∷ e ∷ t) (segments-frames s (o + rangeTicks s a e) (k - 1) r (omega arith))
+
+-- each output starts where the one before it ends, the first at o
+abbrev pub Chained : ℕ → List Segment → Type 0
+Chained o [] = Unit
+Chained o (x ∷ xs) = (x .«output_start» ≡ o) × Chained (o + x .duration) xs
+
+pub segments-chained : (s : List ℕ) (o : ℕ) (l : List ℕ) → Chained o (segmentsIn s o l)
+unfolding segmentsIn segmentIn
+segments-chained s o [] = tt
+segments-chained s o (a ∷ []) = tt
+segments-chained s o (a ∷ e ∷ r) = (refl, segments-chained s (o + rangeTicks s a e) r)
+
+-- start equal to end gives duration 0
+abbrev pub Still : List Segment → Type 0
+Still [] = Unit
+Still (x ∷ xs) = (x .«source_start_frame» ≡ x .«source_end_frame» → x .duration ≡ 0) × Still xs
+
+pub segments-still : (s : List ℕ) (o : ℕ) (l : List ℕ) → Still (segmentsIn s o l)
+unfolding segmentsIn segmentIn rangeTicks
+segments-still s o [] = tt
+segments-still s o (a ∷ []) = tt
+segments-still s o (a ∷ e ∷ r) = (λ q. ticks-none s (decodeOf s a) (e - a) (omega arith), segments-still s (o + ticksFrom s (decodeOf s a) (e - a)) r)
+
+-- ---- an answer, made or refused
+answer-number : (k t : ℕ) (xs : List Segment) → answer k t xs .number ≡ k
+unfolding answer
+answer-number zero t xs = refl
+answer-number (suc k) t xs = refl
+
+answer-count : (k t : ℕ) (xs : List Segment) → answer k t xs .count ≡ length (answer k t xs .segments)
+unfolding answer
+answer-count zero t xs = refl
+answer-count (suc k) t xs = refl
+
+answer-refused : (k t : ℕ) (xs : List Segment) → (k ≡ 0 → ⊥) → answer k t xs .segments ≡ []
+unfolding answer
+answer-refused zero t xs h = absurd (h refl)
+answer-refused (suc k) t xs h = refl
+
+module _ (sheet list : List ℕ) (d lent : ℕ) where
+  pub map-number : mapOf sheet list d lent .number ≡ mapNumber sheet list d lent
+  unfolding mapOf
+  map-number = answer-number _ _ _
+
+  -- its count is the number of its segments, and its numbers as they are written are six to each
+  pub map-count : mapOf sheet list d lent .count ≡ length (mapOf sheet list d lent .segments)
+  unfolding mapOf
+  map-count = answer-count _ _ _
+
+  pub map-length : length (flatOf (mapOf sheet list d lent .segments)) ≡ 6 * mapOf sheet list d lent .count
+  map-length = flat-length (mapOf sheet list d lent .segments) ∙ ap (λ (k : ℕ). 6 * k) (sym map-count)
+
+  -- the first 6 x count places that a call leaves are the map
+  pub map-front : (m : List ℕ) → take (6 * mapOf sheet list d lent .count) (put (flatOf (mapOf sheet list d lent .segments)) m) ≡ flatOf (mapOf sheet list d lent .segments)
+  map-front m =
+      ap (λ (k : ℕ). take k (put (flatOf (mapOf sheet list d lent .segments)) m)) (sym map-length) ∙ take-put (flatOf (mapOf sheet list d lent .segments)) m
+
+  -- a refusal has no segments, and writes nothing
+  pub map-refused : (mapNumber sheet list d lent ≡ 0 → ⊥) → mapOf sheet list d lent .segments ≡ []
+  unfolding mapOf
+  map-refused h = answer-refused (mapNumber sheet list d lent) (timescaleOf sheet) (segmentsIn sheet 0 (snappedOf sheet list d)) h
+
+  pub map-kept : (m : List ℕ) → (mapNumber sheet list d lent ≡ 0 → ⊥) → put (flatOf (mapOf sheet list d lent .segments)) m ≡ m
+  unfolding flatOf
+  map-kept m h = ap (λ (xs : List Segment). put (flatOf xs) m) (map-refused h) ∙ put-nil m
+
+-- ---- a map that is made: the number is 0
+pub record MadeParts (sheet list : List ℕ) (d lent : ℕ) : Type 0 where
+  pub room : 6 * mostSegments ≤ lent
+  pub direction : d ≤ 1
+  pub sheet-sound : sheetFault sheet ≡ 0
+  pub list-sound : listNumber list ≡ 0
+  pub apart : overlapsFault 0 (snappedOf sheet list d) ≡ 0
+  pub ranges : rangesFault sheet (framesOf sheet) (snappedOf sheet list d) ≡ 0
+
+module _ (sheet list : List ℕ) (d lent : ℕ) (made : mapNumber sheet list d lent ≡ 0) where
+  -- it has passed every test
+  pub made-parts : MadeParts sheet list d lent
+  unfolding mapNumber
+  made-parts =
+      let a = else-zero _ _ made in
+      let b = else-zero _ _ (a .1) in
+      let c = else-zero _ _ (b .1) in
+      let e = else-zero _ _ (c .1) in
+      let f = else-zero _ _ (e .1) in
+      record {
+        room = leb-true _ _ (held _ 16 (omega arith) (a .0));
+        direction = leb-true _ _ (held _ 16 (omega arith) (b .0));
+        sheet-sound = c .0;
+        list-sound = e .0;
+        apart = f .0;
+        ranges = f .1;
+      }
+
+  answer-made : mapOf sheet list d lent ≡ answer 0 (timescaleOf sheet) (segmentsIn sheet 0 (snappedOf sheet list d))
+  unfolding mapOf
+  answer-made = ap (λ (k : ℕ). answer k (timescaleOf sheet) (segmentsIn sheet 0 (snappedOf sheet list d))) made
+
+  -- its timescale is the sheet's, and its segments are those of the snapped ranges
+  pub made-timescale : mapOf sheet list d lent .timescale ≡ timescaleOf sheet
+  unfolding answer
+  made-timescale = ap (λ (m : Map). m .timescale) answer-made
+
+  pub made-segments : mapOf sheet list d lent .segments ≡ segmentsIn sheet 0 (snappedOf sheet list d)
+  unfolding answer
+  made-segments = ap (λ (m : Map). m .segments) answer-made
+
+  -- as many as the list has ranges, and so at most 1,024
+  pub made-count : mapOf sheet list d lent .count ≡ rangeCount list
+  made-count =
+      map-count sheet list d lent ∙ ap length made-segments
+      ∙ segments-count sheet 0 (rangeCount list) (snappedOf sheet list d) (snapped-length sheet list d (made-parts .list-sound))
+
+  pub made-few : mapOf sheet list d lent .count ≤ mostSegments
+  made-few = omega (arith, made-count, range-count-most list (made-parts .list-sound))
+
+  -- no number of a snapped range is above the frame count
+  pub made-bounded : Bounded (framesOf sheet) (snappedOf sheet list d)
+  unfolding snappedOf rangesFor
+  made-bounded = snap-bounded sheet (framesOf sheet) d (rangeCount list) (rangesOf list) (ranges-length list (made-parts .list-sound))
+
+  -- its segments' frames are the snapped ranges, in the list's order
+  pub made-frames : framesIn (mapOf sheet list d lent .segments) ≡ snappedOf sheet list d
+  made-frames =
+      ap framesIn made-segments ∙ segments-frames sheet 0 (rangeCount list) (snappedOf sheet list d) (snapped-length sheet list d (made-parts .list-sound))
+
+  -- each output starts where the one before it ends, and a segment without frames has no duration
+  pub made-chained : Chained 0 (mapOf sheet list d lent .segments)
+  made-chained = subst (Chained 0) (sym made-segments) (segments-chained sheet 0 (snappedOf sheet list d))
+
+  pub made-still : Still (mapOf sheet list d lent .segments)
+  made-still = subst Still (sym made-segments) (segments-still sheet 0 (snappedOf sheet list d))
+
+  -- where the sums of all samples and of what is kept are within the limit, open does not refuse it (15)
+  pub made-within : ticksFrom sheet 0 (framesOf sheet) ≤ mostTicks → keptTicks sheet (snappedOf sheet list d) ≤ mostTicks → mapBad (flatOf (mapOf sheet list d lent .segments)) ≡ false
+  made-within t k =
+      let few : length (mapOf sheet list d lent .segments) ≤ mostSegments = omega (arith, map-count sheet list d lent, made-few) in
+      flat-good (mapOf sheet list d lent .segments) few
+      (ap anyBad made-segments
+      ∙ none-bad sheet (framesOf sheet) 0 (snappedOf sheet list d) (sound-head sheet (made-parts .sheet-sound) .frames-high) made-bounded (made-parts .ranges) t (omega arith))
+
+  -- and they are, since a sheet's durations are of 32 bits
+  pub made-good : ((j : ℕ) → getD sheet j 0 < 256) → mapBad (flatOf (mapOf sheet list d lent .segments)) ≡ false
+  made-good bytes =
+      let few : framesOf sheet ≤ mostFrames = sound-head sheet (made-parts .sheet-sound) .frames-high in
+      made-within (samples-within sheet bytes (framesOf sheet) few)
+      (kept-within sheet bytes (framesOf sheet) (snappedOf sheet list d) few made-bounded (made-parts .apart) (made-parts .ranges))
