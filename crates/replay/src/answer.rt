@@ -1,6 +1,35 @@
 // The answer to a case, by its op.
 use libc::STDOUT_FILENO;
 
+fn wide(x: u32) -> u64 {
+    x as u64
+}
+
+fn number_at(ranges: &[u32], k: usize) -> u64 {
+    if k < ranges.len() {
+        return wide(ranges[k]);
+    }
+    0
+}
+
+fn print_range(ranges: &[u32], i: usize) {
+    if 1024 <= i {
+        return;
+    }
+    io::print_decimal(STDOUT_FILENO, number_at(ranges, 2 * i));
+    io::write_all(STDOUT_FILENO, b" ");
+    io::print_decimal(STDOUT_FILENO, number_at(ranges, 2 * i + 1));
+    io::write_all(STDOUT_FILENO, b"\n");
+}
+
+fn print_ranges(ranges: &[u32], count: usize) {
+    let mut i: usize = 0;
+    while i < count {
+        print_range(ranges, i);
+        i += 1;
+    }
+}
+
 fn print_list(list: &[u8]) {
     let mut ranges = [0u32; 2048];
     let p = trim::parse(list, &mut ranges);
@@ -12,17 +41,7 @@ fn print_list(list: &[u8]) {
     io::write_all(STDOUT_FILENO, b"ranges ");
     io::print_decimal(STDOUT_FILENO, p.count as u64);
     io::write_all(STDOUT_FILENO, b"\n");
-    let mut i: usize = 0;
-    while i < 1024 {
-        if p.count <= i {
-            return;
-        }
-        io::print_decimal(STDOUT_FILENO, ranges[2 * i] as u64);
-        io::write_all(STDOUT_FILENO, b" ");
-        io::print_decimal(STDOUT_FILENO, ranges[2 * i + 1] as u64);
-        io::write_all(STDOUT_FILENO, b"\n");
-        i += 1;
-    }
+    print_ranges(&ranges, p.count);
 }
 
 // The kind whose unit is u; there is none for any other.

@@ -1,0 +1,22 @@
+use mathlib.Core.Path.{ap}
+use Rattle.segmap.specs.declared.whole.Made.{Made}
+use Rattle.segmap.specs.Map.{madeOf}
+use borrow.Author.Needs.{needs}
+use Rattle.bench.proofs.bench_map.Statement.{statement}
+use Rattle.bench.proofs.bench_map.Tie as tie
+use Rattle.bench.proofs.bench_map.Reads as reads
+use Rattle.bench.proofs.bench_map.Lts as lts
+use Rattle.segmap.proofs.make.Reads as make-reads
+
+slice-aggregate-make : tie.Need-slice-aggregate-make
+slice-aggregate-make c = search needs
+
+make-requires : tie.Need-make-requires
+make-requires c κs = search needs
+
+returns : tie.Need-returns
+unfolding madeOf
+returns c = ap (λ (x : Made). x .number) (c .make .ensures .0)
+
+pub bench-map-spec : {M : Type 1} → statement M
+bench-map-spec = tie.close (tie.spec slice-aggregate-make make-requires returns)
