@@ -1,0 +1,71 @@
+-- What the definitions say of the small sheet and of damaged ones, by computation.
+use Prim.Native.Nat.{ℕ}
+use mathlib.Core.Bool.{true, false}
+use mathlib.Core.List.{List, [], _∷_, _++_, map}
+use mathlib.Core.Path.{_≡_, refl, sym, ap, _∙_}
+use lib.ListN.{set, take}
+use Rattle.base.specs.Refusal.{_orElse_, faultUnless, firstOf}
+use Rattle.blocks.specs.Block.{wordAt, sumWords, blockHolds}
+use Rattle.sheet.specs.Sheet.{timescaleOf, framesOf, rateNumOf, rateDenOf, spareFault, headFault, recordWord, decodeOf, syncOf, durationOf}
+use Rattle.sheet.specs.Sheet.{recordFault, checkFault, blockFault, recordBlocks, sheetFault, headOf, answer, sheetOf, numberOf}
+use Rattle.sheet.proofs.SheetLaws.{number-is}
+use Rattle.sheet.specs.declared.answer.Sheet.the-variants.{Sound}
+use Rattle.sheet_vectors.specs.Small.{blockOf, syncFrame, smallRecords, sheetWith, smallSheet}
+
+-- the small sheet is sound, with its head
+pub small-sound : sheetOf smallSheet ≡ Sound (record { timescale = 30000; frames = 10; «rate_num» = 30000; «rate_den» = 1001 })
+unfolding smallSheet sheetOf answer headOf sheetFault checkFault blockHolds headFault blockFault recordFault recordWord decodeOf recordBlocks spareFault timescaleOf framesOf rateNumOf rateDenOf sumWords wordAt firstOf faultUnless _orElse_
+small-sound = refl
+
+pub small-fault : sheetFault smallSheet ≡ 0
+small-fault = sym (number-is smallSheet) ∙ ap numberOf small-sound
+
+pub small-timescale : timescaleOf smallSheet ≡ 30000
+unfolding smallSheet timescaleOf wordAt
+small-timescale = refl
+
+pub small-frames : framesOf smallSheet ≡ 10
+unfolding smallSheet framesOf wordAt
+small-frames = refl
+
+-- its records, and one past them
+abbrev places : List ℕ
+places = 0 ∷ 1 ∷ 2 ∷ 3 ∷ 4 ∷ 5 ∷ 6 ∷ 7 ∷ 8 ∷ 9 ∷ 10 ∷ []
+
+pub small-decode : map (decodeOf smallSheet) places ≡ 0 ∷ 1 ∷ 2 ∷ 3 ∷ 4 ∷ 5 ∷ 6 ∷ 7 ∷ 8 ∷ 9 ∷ 0 ∷ []
+unfolding smallSheet decodeOf recordWord wordAt
+small-decode = refl
+
+pub small-sync : map (syncOf smallSheet) places ≡ true ∷ false ∷ false ∷ true ∷ false ∷ false ∷ true ∷ false ∷ false ∷ false ∷ false ∷ []
+unfolding smallSheet syncOf recordWord wordAt
+small-sync = refl
+
+pub small-durations : map (durationOf smallSheet) places ≡ 1001 ∷ 1001 ∷ 1001 ∷ 1001 ∷ 1001 ∷ 1001 ∷ 1001 ∷ 1001 ∷ 1001 ∷ 1001 ∷ 0 ∷ []
+unfolding smallSheet durationOf recordWord wordAt
+small-durations = refl
+
+-- 11: no byte, not whole blocks, and not as long as the frame count asks for
+pub refused-length : map sheetFault ([] ∷ take 1023 smallSheet ∷ sheetWith 30000 64 smallRecords ∷ []) ≡ 11 ∷ 11 ∷ 11 ∷ []
+unfolding smallSheet sheetFault checkFault blockHolds headFault blockFault recordFault recordWord decodeOf recordBlocks spareFault timescaleOf framesOf sumWords wordAt firstOf faultUnless _orElse_
+refused-length = refl
+
+-- 12: another number or another check, in block 0 before the head, in block 1 before its records
+pub refused-block : map sheetFault (set smallSheet 0 1 ∷ set smallSheet 6 255 ∷ set smallSheet 512 2 ∷ set smallSheet 516 10 ∷ []) ≡ 12 ∷ 12 ∷ 12 ∷ 12 ∷ []
+unfolding smallSheet sheetFault checkFault blockHolds headFault blockFault recordFault recordWord decodeOf recordBlocks spareFault timescaleOf framesOf sumWords wordAt firstOf faultUnless _orElse_
+refused-block = refl
+
+-- 13: T or n outside its limits, before the full length; a spare word that is not zero
+pub refused-head :
+    map sheetFault
+    (sheetWith 1000001 64 smallRecords
+    ∷ sheetWith 30000 0 smallRecords
+    ∷ (blockOf (0 ∷ 30000 ∷ 10 ∷ 30000 ∷ 1001 ∷ 1 ∷ []) ++ blockOf (1 ∷ smallRecords))
+    ∷ [])
+    ≡ 13 ∷ 13 ∷ 13 ∷ []
+unfolding smallSheet sheetFault checkFault blockHolds headFault blockFault recordFault recordWord decodeOf recordBlocks spareFault timescaleOf framesOf sumWords wordAt firstOf faultUnless _orElse_
+refused-head = refl
+
+-- 14: a decode index that is n; a record past n
+pub refused-record : map sheetFault (sheetWith 30000 10 (syncFrame 10) ∷ sheetWith 30000 9 smallRecords ∷ []) ≡ 14 ∷ 14 ∷ []
+unfolding smallSheet sheetFault checkFault blockHolds headFault blockFault recordFault recordWord decodeOf recordBlocks spareFault timescaleOf framesOf sumWords wordAt firstOf faultUnless _orElse_
+refused-record = refl

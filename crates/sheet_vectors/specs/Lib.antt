@@ -1,0 +1,2 @@
+-- Sheets by their words, and document 01's small sheet.
+pub mod Small
