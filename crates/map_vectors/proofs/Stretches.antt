@@ -1,13 +1,12 @@
 -- What snapping and segments come to on small sheets, by computation. Document 01's own map is in the table of its examples.
 use mathlib.Core.Path.{_≡_, refl}
-use mathlib.Core.List.{List, [], _∷_}
-use Prim.Native.Nat.{ℕ}
+use mathlib.Core.List.{[], _∷_}
 use Rattle.base.specs.Refusal.{_orElse_, faultUnless}
 use Rattle.blocks.specs.Block.{wordAt}
 use Rattle.sheet.specs.Sheet.{recordWord, decodeOf, syncOf, durationOf}
 use Rattle.sheet_vectors.specs.Small.{smallSheet}
 use Rattle.plan.specs.Snap.{lastBelow, firstFrom, floorSync, ceilSync, snapStart, snapEnd, snapAll, overlapsFault}
-use Rattle.segmap.specs.Segment.{segment, flatOf}
+use Rattle.segmap.specs.Segment.{flatOf}
 use Rattle.segmap.specs.Build.{ticksFrom, sourceStart, rangeTicks, rangeFault, rangesFault, segmentIn, segmentsIn}
 use Rattle.map_vectors.specs.Turned.{crossed, backward}
 
