@@ -4,13 +4,11 @@ use mathlib.Core.List.{List, [], _∷_}
 use Prim.Native.Nat.{ℕ, zero, suc, _+_, _-_, _*_, _≤_, _<_}
 use native.Mathlib.Omega.{arith}
 use borrow.Author.Tests.{le-leb, lt-leb}
-use lib.Dec.{leb}
-use lib.ListN.{length, take, drop, getD, set, length-take}
+use lib.ListN.{length, take, getD, set, length-take}
 use lib.Seq.{sets}
 use Rattle.base.specs.Refusal.{_orElse_, faultUnless}
 use Rattle.base.specs.Put.{put}
 use Rattle.base.proofs.PutLaws.{sets-put}
-use Rattle.base.proofs.RefusalLaws.{unless-held, unless-failed, else-none, else-found}
 use Rattle.plan.specs.Snap.{floorSync, ceilSync, snapStart, snapEnd, snapAll, overlapsFault}
 use Rattle.plan.proofs.PairLaws.{leftOf, left-start, left-cut, left-short, left-done, left-stored, left-same}
 

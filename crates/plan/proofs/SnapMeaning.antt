@@ -1,5 +1,5 @@
 -- What snapping means in plain words, and how large what it gives can be.
-use mathlib.Core.Path.{_≡_, refl, sym, ap, subst, _∙_}
+use mathlib.Core.Path.{_≡_, refl, sym, subst, _∙_}
 use mathlib.Core.Bool.{Bool, true, false, cond, true≢false}
 use mathlib.Core.Logic.{_⊎_, inl, inr, ⊎-elim}
 use mathlib.Core.List.{List, [], _∷_}
@@ -9,7 +9,7 @@ use native.Mathlib.Nat.{eq-or-lt-of-le}
 use borrow.Author.Tests.{leb-true}
 use lib.Dec.{leb}
 use lib.ListN.{length}
-use Rattle.base.specs.Refusal.{_orElse_, faultUnless}
+use Rattle.base.specs.Refusal.{faultUnless}
 use Rattle.base.proofs.RefusalLaws.{held, else-zero}
 use Rattle.sheet.specs.Sheet.{syncOf}
 use Rattle.sheet.proofs.RefusalNumbers.{else-numbers, unless-numbers}

@@ -1,11 +1,11 @@
 -- Laws of the two searches for a sync frame, one step each.
 use Prim.Native.Nat.{ℕ, zero, suc, _+_, _-_, _<_, _≤_, min}
-use mathlib.Core.Bool.{Bool, true, false}
+use mathlib.Core.Bool.{true, false}
 use mathlib.Core.List.{List}
-use mathlib.Core.Path.{_≡_, refl, sym, ap, ap₂, subst, _∙_}
+use mathlib.Core.Path.{_≡_, refl, sym, ap, ap₂, _∙_}
 use native.Mathlib.Omega.{arith}
 use Rattle.sheet.specs.Sheet.{syncOf}
-use Rattle.plan.specs.Snap.{lastBelow, firstFrom, floorSync, ceilSync}
+use Rattle.plan.specs.Snap.{lastBelow, firstFrom, ceilSync}
 
 -- one step of each definition
 last-suc-here : (s : List ℕ) (k : ℕ) → syncOf s k ≡ true → lastBelow s (suc k) ≡ k

@@ -1,7 +1,7 @@
 -- Snapping (document 01, "plan.rs"): ranges of display frames moved to sync frames, and the refusal of ranges that then overlap.
 -- s is the sheet's bytes and n its frame count. A list of ranges is flat: start, end, start, end, the end excluded.
 use Prim.Native.Nat.{ℕ, zero, suc, _+_, _-_, min}
-use mathlib.Core.Bool.{Bool, true, false, cond}
+use mathlib.Core.Bool.{cond}
 use mathlib.Core.List.{List, [], _∷_}
 use lib.Dec.{leb}
 use Rattle.base.specs.Refusal.{_orElse_, faultUnless}

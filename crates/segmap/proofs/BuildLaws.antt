@@ -1,14 +1,12 @@
 -- Laws of the refusals of ranges, and of the segments that they give, range by range.
-use mathlib.Core.Path.{_≡_, refl, sym, ap, subst, _∙_}
-use mathlib.Core.Bool.{Bool, true, false}
+use mathlib.Core.Path.{_≡_, refl, sym, ap, _∙_}
 use mathlib.Core.List.{List, [], _∷_, _++_}
-use Prim.Native.Nat.{ℕ, zero, suc, _+_, _-_, _*_, _≤_, _<_}
+use Prim.Native.Nat.{ℕ, suc, _+_, _-_, _*_, _≤_, _<_}
 use native.Mathlib.Omega.{arith}
 use borrow.Author.Tests.{le-leb, lt-leb, leb-true}
-use lib.Dec.{leb}
-use lib.ListN.{length, take, drop, getD, length-take}
+use lib.ListN.{length, take, getD, length-take}
 use lib.Seq.{sets}
-use Rattle.base.specs.Limits.{mostFrames, mostTicks}
+use Rattle.base.specs.Limits.{mostFrames}
 use Rattle.base.specs.Put.{put}
 use Rattle.base.specs.Refusal.{_orElse_, faultUnless}
 use Rattle.base.proofs.PutLaws.{sets-put}

@@ -1,14 +1,14 @@
 -- What holds of every map that is made: its number, its count, its segments' order, and that open never refuses it (15).
 use mathlib.Core.Path.{_≡_, refl, sym, ap, subst, _∙_}
-use mathlib.Core.Bool.{Bool, true, false, cond}
+use mathlib.Core.Bool.{Bool, false}
 use mathlib.Core.Logic.{_⊎_, inl, inr, ⊎-elim}
-use mathlib.Core.List.{List, [], _∷_, _++_}
-use Prim.Native.Nat.{ℕ, zero, suc, _+_, _-_, _*_, _%_, _^_, _≤_, _<_}
+use mathlib.Core.List.{List, [], _∷_}
+use Prim.Native.Nat.{ℕ, zero, suc, _+_, _-_, _*_, _%_, _≤_, _<_}
 use native.Mathlib.Omega.{arith}
-use borrow.Author.Tests.{le-ltb, eq-eqb, le-leb, leb-true}
-use lib.Dec.{ltb, leb, eqb}
+use borrow.Author.Tests.{le-ltb, eq-eqb, leb-true}
+use lib.Dec.{leb}
 use lib.ListN.{length, getD, take}
-use Rattle.base.specs.Limits.{mostFrames, mostFrame, mostTicks, mostSegments, mostTrims}
+use Rattle.base.specs.Limits.{mostFrames, mostFrame, mostTicks, mostSegments}
 use Rattle.base.specs.Put.{put}
 use Rattle.base.specs.Refusal.{_orElse_, faultUnless}
 use Rattle.base.proofs.Laws.{yes!, no! }
@@ -16,15 +16,16 @@ use Rattle.base.proofs.PutLaws.{put-nil, take-put}
 use Rattle.base.proofs.RefusalLaws.{else-zero, held}
 use Rattle.sheet.specs.Sheet.{sheetFault, framesOf, timescaleOf, decodeOf}
 use Rattle.sheet.proofs.RefusalNumbers.{else-numbers, unless-numbers}
-use Rattle.sheet.proofs.SheetLaws.{SheetNumber, sheet-numbers, sound-head}
+use Rattle.sheet.proofs.SheetLaws.{sheet-numbers, sound-head}
 use Rattle.trim.specs.TrimList.{listNumber, rangesOf, rangeCount}
-use Rattle.trim.proofs.RangeLaws.{OfList, list-number-table, range-count-most, ranges-length}
-use Rattle.plan.specs.Snap.{snapAll, overlapsFault}
-use Rattle.plan.proofs.SnapMeaning.{Bounded, snap-bounded, OverlapNumber, overlap-numbers, overlap-apart}
+use Rattle.trim.proofs.RangeLaws.{list-number-table, range-count-most, ranges-length}
+use Rattle.plan.specs.Snap.{overlapsFault}
+use Rattle.plan.proofs.SnapMeaning.{Bounded, snap-bounded, overlap-numbers, overlap-apart}
 use Rattle.segmap.specs.declared.segment.Segment.{Segment}
-use Rattle.segmap.specs.Segment.{segment, numbersOf, flatOf, segmentsOf, endBad, segmentBad, anyBad, mapBad}
+use Rattle.segmap.specs.declared.whole.Made.{Made}
+use Rattle.segmap.specs.Segment.{segment, flatOf, endBad, segmentBad, anyBad, mapBad}
 use Rattle.segmap.specs.Build.{ticksFrom, sourceStart, rangeTicks, rangeFault, rangesFault, segmentIn, segmentsIn}
-use Rattle.segmap.specs.Map.{rangesFor, snappedOf, mapNumber, Map, answer, mapOf}
+use Rattle.segmap.specs.Map.{rangesFor, snappedOf, mapNumber, Map, answer, mapOf, madeOf}
 use Rattle.segmap.proofs.SegmentLaws.{flat-back}
 use Rattle.segmap.proofs.TicksLaws.{ticks-none, ticks-split, ticks-more, ticks-most, ticks-within}
 use Rattle.segmap.proofs.BuildLaws.{fault-free, faults-cut}
@@ -207,6 +208,20 @@ module _ (sheet list : List ℕ) (d lent : ℕ) where
   pub map-front : (m : List ℕ) → take (6 * mapOf sheet list d lent .count) (put (flatOf (mapOf sheet list d lent .segments)) m) ≡ flatOf (mapOf sheet list d lent .segments)
   map-front m =
       ap (λ (k : ℕ). take k (put (flatOf (mapOf sheet list d lent .segments)) m)) (sym map-length) ∙ take-put (flatOf (mapOf sheet list d lent .segments)) m
+
+  -- what a call tells of it
+  module _ (r : Made) (e : r ≡ madeOf (mapOf sheet list d lent)) where
+    pub told-number : r .number ≡ mapNumber sheet list d lent
+    unfolding madeOf
+    told-number = ap (λ (x : Made). x .number) e ∙ map-number
+
+    pub told-timescale : r .timescale ≡ mapOf sheet list d lent .timescale
+    unfolding madeOf
+    told-timescale = ap (λ (x : Made). x .timescale) e
+
+    pub told-count : r .count ≡ mapOf sheet list d lent .count
+    unfolding madeOf
+    told-count = ap (λ (x : Made). x .count) e
 
   -- a refusal has no segments, and writes nothing
   pub map-refused : (mapNumber sheet list d lent ≡ 0 → ⊥) → mapOf sheet list d lent .segments ≡ []

@@ -1,11 +1,9 @@
 -- Laws of the whole call: its refusals in their order, and the map that it makes.
-use mathlib.Core.Path.{_≡_, refl, sym, ap, subst, _∙_}
-use mathlib.Core.Bool.{Bool, true, false}
+use mathlib.Core.Path.{_≡_, refl, sym, ap, _∙_}
 use mathlib.Core.List.{List, [], _∷_}
 use Prim.Native.Nat.{ℕ, zero, suc, _+_, _-_, _*_, _≤_, _<_}
 use native.Mathlib.Omega.{arith}
 use borrow.Author.Tests.{le-leb, lt-leb}
-use lib.Dec.{leb}
 use lib.ListN.{length, take}
 use Rattle.base.specs.Limits.{mostFrames, mostPlaces, mostSegments}
 use Rattle.base.specs.Put.{put}
@@ -26,7 +24,7 @@ use Rattle.segmap.specs.declared.segment.Segment.{Segment}
 use Rattle.segmap.specs.declared.whole.Made.{Made}
 use Rattle.segmap.specs.Segment.{flatOf}
 use Rattle.segmap.specs.Build.{rangeTicks, rangesFault, segmentsIn}
-use Rattle.segmap.specs.Map.{rangesFor, snappedOf, mapNumber, Map, answer, mapOf, made, madeOf}
+use Rattle.segmap.specs.Map.{rangesFor, snappedOf, mapNumber, answer, mapOf, made, madeOf}
 
 -- ---- snapped ranges tested: f is the overlap's number and g that of the ranges
 pub keep-none : (a b f g : ℕ) → f ≡ a → f ≡ 0 → g ≡ b → g ≡ 0 → 0 ≡ a orElse b

@@ -1,7 +1,7 @@
 use Rattle.plan.proofs.SnapLaws.{crossing-start}
 use native.Mathlib.Omega.{arith}
-use Prim.Native.Nat.{_+_, _-_, _*_, _≤_}
-use mathlib.Core.Path.{_≡_, refl}
+use Prim.Native.Nat.{_-_, _*_, _≤_}
+use mathlib.Core.Path.{_≡_}
 use lib.ListN.{length, take}
 use Rattle.plan.specs.Snap.{overlapsFault}
 use Rattle.plan.proofs.PairLaws.{leftOf}

@@ -1,13 +1,13 @@
 use Rattle.segmap.proofs.BuildLaws.{testing-zero}
 use native.Mathlib.Omega.{arith}
 use mathlib.Core.Path.{_≡_, refl}
-use Prim.Native.Nat.{_+_, _-_, _*_, _≤_}
-use lib.ListN.{length, take}
+use Prim.Native.Nat.{_-_, _*_, _≤_}
+use lib.ListN.{length}
 use Rattle.base.specs.Limits.{mostTicks}
 use Rattle.plan.proofs.PairLaws.{leftOf}
 use Rattle.segmap.specs.Build.{ticksFrom, rangesFault}
 use Rattle.segmap.proofs.TicksLaws.{ticks-start}
-use Rattle.segmap.proofs.BuildLaws.{Building, building-start, building-next, building-done, testing-start, free-next, free-ordered, free-within}
+use Rattle.segmap.proofs.BuildLaws.{Building, building-start, building-next, building-done, free-next, free-ordered, free-within}
 use borrow.Author.Needs.{needs}
 use Rattle.segmap.proofs.building.build.Statement.{statement}
 use Rattle.segmap.proofs.building.build.Tie as tie

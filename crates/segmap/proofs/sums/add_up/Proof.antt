@@ -2,9 +2,8 @@ use Prim.Native.Nat.{ℕ, _<_}
 use lib.ListN.{getD}
 use Rattle.segmap.proofs.TicksLaws.{ticks-done}
 use native.Mathlib.Omega.{arith}
-use mathlib.Core.Path.{_≡_, refl}
-use Prim.Native.Nat.{_+_, _-_, _≤_}
-use Rattle.base.specs.Limits.{mostFrames}
+use mathlib.Core.Path.{_≡_}
+use Prim.Native.Nat.{_-_, _≤_}
 use Rattle.segmap.specs.Build.{ticksFrom}
 use Rattle.segmap.proofs.TicksLaws.{ticks-next, ticks-fit}
 use borrow.Author.Needs.{needs}

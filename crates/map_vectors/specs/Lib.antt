@@ -1,0 +1,2 @@
+-- Small sheets for worked examples.
+pub mod Turned

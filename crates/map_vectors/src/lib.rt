@@ -1,0 +1,1 @@
+// Worked examples of snapping and of segments, in specs/ and proofs/. No function.
