@@ -4,7 +4,7 @@ use mathlib.Core.List.{List}
 use Prim.Native.Nat.{ℕ, _≤_, _<_}
 use lib.ListN.{length}
 use borrow.Author.Tests.{lt-ltb, le-ltb}
-use Rattle.base.proofs.Laws.{yes!, no!}
+use Rattle.base.proofs.Laws.{yes!, no! }
 use Rattle.segmap.specs.declared.whole.Made.{Made}
 use Rattle.segmap.specs.Map.{Map, mapOf, madeOf}
 use Rattle.mapfile.specs.Printed.{printedNumber}

@@ -1,6 +1,5 @@
 use Rattle.mapfile.proofs.NumberLaws.{number-told, number-zero}
 use mathlib.Core.Path.{refl}
-
 use borrow.Author.Needs.{needs}
 use Rattle.mapfile.proofs.print.print_map_of.Statement.{statement}
 use Rattle.mapfile.proofs.print.print_map_of.Tie as tie
