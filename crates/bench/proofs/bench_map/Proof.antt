@@ -16,7 +16,7 @@ make-requires c κs = search needs
 
 returns : tie.Need-returns
 unfolding madeOf
-returns c = ap (λ (x : Made). x .number) (c .make .ensures .0)
+returns c = ap (λ (x : Made). x .number) (c .before .make .ensures .0)
 
 pub bench-map-spec : {M : Type 1} → statement M
 bench-map-spec = tie.close (tie.spec slice-aggregate-make make-requires returns)
