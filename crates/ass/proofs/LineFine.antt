@@ -21,9 +21,10 @@ use Rattle.event.specs.Says.{Cue, unplaced, short, Part, stays, passes, cue}
 use Rattle.event.specs.Emit.{emitBy, emitOf}
 use Rattle.event.specs.Told.{partIn}
 use Rattle.event.proofs.FineLaws.{Set}
-use Rattle.ass.specs.declared.layout.Columns.{Columns}
-use Rattle.ass.specs.Columns.{columnsIn, fields, fieldAt}
-use Rattle.ass.specs.Line.{eventsName, formatWord, dialogueWord, commentWord, bracketed, inside, inSection, LineSays, faulty, says, timesSay, captionSays, wordSays, textSays, lineSays}
+use Rattle.assline.specs.declared.layout.Columns.{Columns}
+use Rattle.assline.specs.Columns.{columnsIn, fields, fieldAt}
+use Rattle.assline.specs.Section.{eventsName, bracketed, inside, inSection}
+use Rattle.ass.specs.Line.{formatWord, dialogueWord, commentWord, LineSays, faulty, says, timesSay, captionSays, wordSays, textSays, lineSays}
 use Rattle.ass.specs.Answer.{columnsAfter, answerOf, answerTo, lineIn, columnsNext}
 use Rattle.ass.proofs.DecisionLaws.{cue-fine}
 

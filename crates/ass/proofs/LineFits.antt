@@ -26,12 +26,14 @@ use Rattle.event.specs.Says.{unplaced, short, Part, stays, passes, cue}
 use Rattle.event.specs.Emit.{Emit, warnIf, cueEmit, emitBy, emitOf}
 use Rattle.event.specs.Told.{refusal, cueIn, partIn}
 use Rattle.event.proofs.FineLaws.{Set, decide-fine}
-use Rattle.ass.specs.declared.layout.Columns.{Columns}
-use Rattle.ass.specs.Columns.{columnsIn, fields, fieldAt}
-use Rattle.ass.specs.Line.{eventsName, formatWord, dialogueWord, commentWord, bracketed, inside, inSection, LineSays, faulty, says, lineFrame, lineCue, timesSay, captionSays, wordSays, textSays, lineSays}
+use Rattle.assline.specs.declared.layout.Columns.{Columns}
+use Rattle.assline.specs.Columns.{columnsIn, fields, fieldAt}
+use Rattle.assline.specs.Section.{eventsName, bracketed, inside, inSection}
+use Rattle.assline.specs.Frame.{lineFrame}
+use Rattle.ass.specs.Line.{formatWord, dialogueWord, commentWord, LineSays, faulty, says, lineCue, timesSay, captionSays, wordSays, textSays, lineSays}
 use Rattle.ass.specs.Answer.{answerTo, lineIn}
 use Rattle.ass.proofs.TellLaws.{render-most}
-use Rattle.ass.proofs.FitLaws.{rest-long, line-most}
+use Rattle.assline.proofs.FitLaws.{rest-long, line-most}
 use Rattle.ass.proofs.SayLaws.{starts-long, parts-room}
 use Rattle.ass.proofs.DecisionLaws.{Words, decide-words}
 
