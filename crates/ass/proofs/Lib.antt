@@ -1,8 +1,5 @@
-pub mod ColumnLaws
-pub mod SectionLaws
-pub mod TagLaws
-pub mod FieldLaws
-pub mod WriteLaws
 pub mod TellLaws
-pub mod FitLaws
 pub mod SayLaws
+pub mod DecisionLaws
+pub mod LineFits
+pub mod LineFine

@@ -24,13 +24,14 @@ use Rattle.event.specs.Fates.{passed}
 use Rattle.event.specs.Says.{Reason, unplaced, short, reasonNumber, Part, stays, passes, cue, badTime}
 use Rattle.event.specs.Emit.{none, decided, emit, emitBy, warning}
 use Rattle.event.specs.Told.{Answer, refusal, answered, cueIn, partIn, Tells}
-use Rattle.ass.specs.declared.layout.Columns.{Columns}
-use Rattle.ass.specs.Columns.{columnsIn, fields, fieldAt}
-use Rattle.ass.specs.Line.{eventsName, formatWord, dialogueWord, commentWord, bracketed, inside, inSection, LineSays, faulty, says, lineFrame, lineCue, timesSay, captionSays, wordSays, textSays, lineSays}
-use Rattle.ass.specs.Write.{frameMost}
+use Rattle.assline.specs.declared.layout.Columns.{Columns}
+use Rattle.assline.specs.Columns.{columnsIn, fields, fieldAt}
+use Rattle.assline.specs.Section.{eventsName, bracketed, inside, inSection}
+use Rattle.assline.specs.Frame.{lineFrame, frameMost}
+use Rattle.ass.specs.Line.{formatWord, dialogueWord, commentWord, LineSays, faulty, says, lineCue, timesSay, captionSays, wordSays, textSays, lineSays}
 use Rattle.ass.specs.Answer.{columnsAfter, answerTo, lineIn, columnsNext, refusedWith, stayedWith}
 use Rattle.ass.proofs.TellLaws.{tells-same, tells-refused, tells-stayed}
-use Rattle.ass.proofs.FitLaws.{line-most}
+use Rattle.assline.proofs.FitLaws.{line-most}
 
 -- ---- a caption
 module _ (c : Columns) (n : ℕ) (l v r : List ℕ) where

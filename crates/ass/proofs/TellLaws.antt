@@ -19,13 +19,13 @@ use Rattle.event.specs.Fates.{passed, fateFor}
 use Rattle.event.specs.Says.{Piece, bytes, start, stop, Cue}
 use Rattle.event.specs.Emit.{Warning, none, decided, emit, warning, warnIf, placesOf, render, keptEmit}
 use Rattle.event.specs.Told.{Answer, refusal, answered, countedOf, cueIn, Tells}
-use Rattle.ass.specs.declared.layout.Columns.{Columns}
-use Rattle.ass.specs.Columns.{fields, fieldAt}
-use Rattle.ass.specs.Tags.{tagged}
-use Rattle.ass.specs.Line.{lineFrame, lineCue}
-use Rattle.ass.specs.Write.{framePlaced, frameAfter, frameMost}
+use Rattle.assline.specs.declared.layout.Columns.{Columns}
+use Rattle.assline.specs.Columns.{fields, fieldAt}
+use Rattle.assline.specs.Tags.{tagged}
+use Rattle.assline.specs.Frame.{lineFrame, framePlaced, frameAfter, frameMost}
+use Rattle.ass.specs.Line.{lineCue}
 use Rattle.ass.specs.Answer.{refusedWith, stayedWith}
-use Rattle.ass.proofs.WriteLaws.{frame-put}
+use Rattle.assline.proofs.WriteLaws.{frame-put}
 
 -- an answer that is equal to another
 pub tells-same : {a b : Answer} {r : Told} {o o′ w w′ : List ℕ} → a ≡ b → Tells b r o o′ w w′ → Tells a r o o′ w w′

@@ -1,24 +1,23 @@
 -- What an ASS line says by the text alone. A line is given with its terminator and without a BOM.
-use mathlib.Core.Bool.{Bool, true, false, _&&_, cond}
-use mathlib.Core.List.{List, [], _∷_, _++_}
-use Prim.Native.Nat.{ℕ, suc, _-_}
-use lib.Dec.{eqb, ltb, leb}
-use lib.ListN.{length, take, drop, getD}
+use mathlib.Core.Bool.{Bool, true, false, cond}
+use mathlib.Core.List.{List, [], _∷_}
+use Prim.Native.Nat.{ℕ, suc}
+use lib.Dec.{eqb, ltb}
+use lib.ListN.{length, drop}
 use Rattle.text.specs.White.{trim}
 use Rattle.text.specs.Find.{starts, equals}
 use Rattle.text.specs.Line.{textOf, terminatorOf}
 use Rattle.time.specs.Read.{timeIn}
 use Rattle.time.specs.declared.read.Time.{Time}
 use Rattle.time.specs.declared.read.Time.the-variants.{At, Bad}
-use Rattle.event.specs.Says.{Piece, bytes, start, stop, unplaced, short, Cue, Part, stays, passes, cue, Fault, badTime}
-use Rattle.ass.specs.declared.layout.Columns.{Columns}
-use Rattle.ass.specs.Columns.{comma, columnsIn, fields, fieldAt}
-use Rattle.ass.specs.Tags.{tagged}
+use Rattle.event.specs.Says.{unplaced, short, Cue, Part, stays, passes, cue, Fault, badTime}
+use Rattle.assline.specs.declared.layout.Columns.{Columns}
+use Rattle.assline.specs.Columns.{columnsIn, fields, fieldAt}
+use Rattle.assline.specs.Section.{eventsName, bracketed, inside, inSection}
+use Rattle.assline.specs.Tags.{tagged}
+use Rattle.assline.specs.Frame.{lineFrame}
 
--- `Events`, `Format:`, `Dialogue:`, `Comment:`
-abbrev pub eventsName : List ℕ
-eventsName = 69 ∷ 118 ∷ 101 ∷ 110 ∷ 116 ∷ 115 ∷ []
-
+-- `Format:`, `Dialogue:`, `Comment:`
 abbrev pub formatWord : List ℕ
 formatWord = 70 ∷ 111 ∷ 114 ∷ 109 ∷ 97 ∷ 116 ∷ 58 ∷ []
 
@@ -28,33 +27,7 @@ dialogueWord = 68 ∷ 105 ∷ 97 ∷ 108 ∷ 111 ∷ 103 ∷ 117 ∷ 101 ∷ 58 
 abbrev pub commentWord : List ℕ
 commentWord = 67 ∷ 111 ∷ 109 ∷ 109 ∷ 101 ∷ 110 ∷ 116 ∷ 58 ∷ []
 
--- ---- sections: a trimmed text from `[` to `]`, two bytes or more
-unfoldable pub bracketed : List ℕ → Bool
-bracketed t = cond (ltb (length t) 2) false (cond (eqb (getD t 0 0) 91) (eqb (getD t (length t - 1) 0) 93) false)
-
--- what stands between the brackets
-unfoldable pub inside : List ℕ → List ℕ
-inside t = take (length t - 2) (drop 1 t)
-
--- only exactly `Events` counts
-abbrev pub inSection : Bool → Columns → Columns
-inSection b c = record { events = b; columns = c .columns; start = c .start; «end» = c .«end» }
-
--- ---- captions
--- the piece of the field at place k: the end's time, the start's, or the field as it stands. (Where both have one place, the end's wins.)
-unfoldable pub pieceAt : (start stop k : ℕ) → List ℕ → Piece
-pieceAt i j k f = cond (eqb k j) stop (cond (eqb k i) start (bytes f))
-
--- the fields from place k on, with commas between them
-unfoldable pub fieldPieces : (start stop k : ℕ) → List (List ℕ) → List Piece
-fieldPieces i j k [] = []
-fieldPieces i j k (f ∷ []) = pieceAt i j k f ∷ []
-fieldPieces i j k (f ∷ g ∷ fs) = pieceAt i j k f ∷ bytes comma ∷ fieldPieces i j (suc k) (g ∷ fs)
-
--- the word, the fields and the terminator
-abbrev pub lineFrame : Columns → (word : List ℕ) → List (List ℕ) → (end : List ℕ) → List Piece
-lineFrame c word fs end = bytes word ∷ (fieldPieces (c .start) (c .«end») 1 fs ++ (bytes end ∷ []))
-
+-- a fault, or the columns after the line and the part that it is
 pub data LineSays : Type 0 where
   faulty : Fault → LineSays
   says : Columns → Part → LineSays

@@ -1,14 +1,14 @@
 // One ASS line: what it says, put through the map.
-use crate::fields::enough;
-use crate::fields::field;
-use crate::layout::Columns;
-use crate::layout::columns_of;
-use crate::section::in_section;
-use crate::section::is_section;
-use crate::section::names_events;
-use crate::tags::has_tag;
-use crate::writing::Times;
-use crate::writing::write_kept;
+use assline::Columns;
+use assline::Times;
+use assline::columns_of;
+use assline::enough;
+use assline::field;
+use assline::has_tag;
+use assline::in_section;
+use assline::is_section;
+use assline::names_events;
+use assline::write_kept;
 use event::Config;
 use event::Counted;
 use event::Decision;
@@ -28,10 +28,10 @@ ghost use Rattle.event.specs.Decide.{decideIn};
 ghost use Rattle.event.specs.Fates.{passed, fateFor};
 ghost use Rattle.event.specs.Emit.{none, decided, emit, warning, warnIf, placesOf, keptEmit};
 ghost use Rattle.event.specs.Told.{countedOf, answered, cueIn, Tells};
-ghost use Rattle.ass.specs.Columns.{fields, fieldAt};
-ghost use Rattle.ass.specs.Tags.{tagged};
-ghost use Rattle.ass.specs.Line.{lineFrame, lineCue, timesSay, captionSays, wordSays};
-ghost use Rattle.ass.specs.Write.{frameMost};
+ghost use Rattle.assline.specs.Columns.{fields, fieldAt};
+ghost use Rattle.assline.specs.Tags.{tagged};
+ghost use Rattle.assline.specs.Frame.{lineFrame, frameMost};
+ghost use Rattle.ass.specs.Line.{lineCue, timesSay, captionSays, wordSays};
 ghost use Rattle.ass.specs.Answer.{columnsAfter, answerTo, lineIn, columnsNext, refusedWith, stayedWith};
 
 // What a line tells, and the columns for the next one.

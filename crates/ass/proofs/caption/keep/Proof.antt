@@ -9,7 +9,7 @@ use Rattle.ass.proofs.caption.keep.Lts as lts
 use Rattle.ass.proofs.caption.counted_by.Reads as counted-by-reads
 use Rattle.ass.proofs.caption.tag_cut.Reads as tag-cut-reads
 use Rattle.ass.proofs.caption.warn.Reads as warn-reads
-use Rattle.ass.proofs.writing.write_kept.Reads as write-kept-reads
+use Rattle.assline.proofs.write_kept.Reads as write-kept-reads
 
 words : (c : tie.Start) → (c .args .r .start < 2 ^ 64) × (c .args .r .stop < 2 ^ 64)
 words c = (omega arith, omega arith)

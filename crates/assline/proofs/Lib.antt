@@ -1,0 +1,6 @@
+pub mod ColumnLaws
+pub mod SectionLaws
+pub mod TagLaws
+pub mod FieldLaws
+pub mod WriteLaws
+pub mod FitLaws
