@@ -8,3 +8,6 @@ pub mod PartLaws
 pub mod DemandText
 pub mod BlockShape
 pub mod EmptyPiece
+pub mod Native
+pub mod KindRoom
+pub mod Fits

@@ -82,7 +82,7 @@ module _ {σ κ : Type 0} (K : Kit σ κ) (c : Config) (m : List ℕ) (L : Lawfu
   readerFed t k = record { number = k; reader = readerAt t false (not (eqb k 0)) }
 
   fed-by : (t : List ℕ) (s : σ) (n : ℕ) (h : List ℕ) (ps : List Part) (piece : List ℕ) (q : Run σ)
-      → run M (begin M) (t ++ piece) ≡ after ps q → ByFault q → Ok K (c .kind) L (length (t ++ piece)) (after ps q)
+      → run M (begin M) (t ++ piece) ≡ after ps q → ByFault q → Ok K (c .kind) L 0 (length (t ++ piece)) (after ps q)
       → read false (t ++ piece) ≡ ranTo (after ps q) → length t + length piece ≤ mostTaken
       → Kept (settle K (liveSession (length t) s n h (counted ps)) (length t + length piece) m q) ps (readerFed (t ++ piece) (ranTo (after ps q) .fault))
   fed-by t s n h ps piece (going s2 n2 h2 new) e f o w q =
@@ -103,7 +103,7 @@ module _ {σ κ : Type 0} (K : Kit σ κ) (c : Config) (m : List ℕ) (L : Lawfu
         inv =
             subst (λ (x : Session κ). Inv x (ps ++ new) (readerFed (t ++ piece) k .reader))
             (ap₂ (λ (a : ℕ) (b : Counts). deadSession a k b) (length-append t piece) (counted-more ps new))
-            (rw f (dead (t ++ piece) false k (ps ++ new) w o (rw (length-append t piece) q)));
+            (rw f (dead (t ++ piece) false k (ps ++ new) w (omega (arith, o)) (rw (length-append t piece) q)));
       }
 
   fed : (t : List ℕ) (s : σ) (n : ℕ) (h : List ℕ) (ps : List Part) → run M (begin M) t ≡ going s n h ps
@@ -114,7 +114,7 @@ module _ {σ κ : Type 0} (K : Kit σ κ) (c : Config) (m : List ℕ) (L : Lawfu
       subst (λ (k : ℕ). Kept (settle K (liveSession (length t) s n h (counted ps)) (length t + length piece) m (run M (going s n h []) piece)) ps (readerFed (t ++ piece) k))
       (ap (λ (r : Reading). r .fault) (sym same))
       (fed-by t s n h ps piece (run M (going s n h []) piece) whole (run-fault M (going s n h []) piece tt)
-      (subst (λ (r : Run σ). Ok K (c .kind) L (length (t ++ piece)) r) whole (text-ok K (c .kind) L (t ++ piece))) same q)
+      (subst (λ (r : Run σ). Ok K (c .kind) L 0 (length (t ++ piece)) r) whole (text-ok K (c .kind) L 0 (t ++ piece))) same q)
     where
       whole : run M (begin M) (t ++ piece) ≡ after ps (run M (going s n h []) piece)
       whole =
@@ -130,7 +130,7 @@ module _ {σ κ : Type 0} (K : Kit σ κ) (c : Config) (m : List ℕ) (L : Lawfu
   readerDone t k = record { number = k; reader = readerAt t true true }
 
   done-by : (t : List ℕ) (s : σ) (n : ℕ) (h : List ℕ) (ps : List Part) (q : Run σ)
-      → Stopped M q → Ok K (c .kind) L (length t) (after ps q) → read true t ≡ ranTo (after ps q) → length t ≤ mostTaken
+      → Stopped M q → Ok K (c .kind) L 0 (length t) (after ps q) → read true t ≡ ranTo (after ps q) → length t ≤ mostTaken
       → Kept (settle K (liveSession (length t) s n h (counted ps)) (length t) m q) ps (readerDone t (ranTo (after ps q) .fault))
   done-by t s n h ps (going s2 n2 h2 new) f o w q = absurd f
   done-by t s n h ps (stopped k new) f o w q =
@@ -141,7 +141,7 @@ module _ {σ κ : Type 0} (K : Kit σ κ) (c : Config) (m : List ℕ) (L : Lawfu
         inv =
             subst (λ (x : Session κ). Inv x (ps ++ new) (readerAt t true true))
             (ap (λ (b : Counts). deadSession (length t) k b) (counted-more ps new))
-            (dead t true k (ps ++ new) w o q);
+            (dead t true k (ps ++ new) w (omega (arith, o)) q);
       }
 
   done : (t : List ℕ) (s : σ) (n : ℕ) (h : List ℕ) (ps : List Part) → run M (begin M) t ≡ going s n h ps → length t ≤ mostTaken
@@ -150,9 +150,9 @@ module _ {σ κ : Type 0} (K : Kit σ κ) (c : Config) (m : List ℕ) (L : Lawfu
       subst (λ (k : ℕ). Kept (settle K (liveSession (length t) s n h (counted ps)) (length t) m (finishRun M (going s n h []))) ps (readerDone t k))
       (ap (λ (r : Reading). r .fault) (sym same))
       (done-by t s n h ps (finishRun M (going s n h [])) (finish-stops M (restOf n h) s n h [])
-      (subst (λ (r : Run σ). Ok K (c .kind) L (length t) r) (finish-after M ps (going s n h []))
-      (subst (λ (x : List Part). Ok K (c .kind) L (length t) (finishRun M (going s n h x))) (sym (append-nil ps))
-      (finish-ok K (c .kind) L (length t) s n h ps (subst (λ (r : Run σ). Ok K (c .kind) L (length t) r) e (text-ok K (c .kind) L t))))) same q)
+      (subst (λ (r : Run σ). Ok K (c .kind) L 0 (length t) r) (finish-after M ps (going s n h []))
+      (subst (λ (x : List Part). Ok K (c .kind) L 0 (length t) (finishRun M (going s n h x))) (sym (append-nil ps))
+      (finish-ok K (c .kind) L 0 (length t) s n h ps (subst (λ (r : Run σ). Ok K (c .kind) L 0 (length t) r) e (text-ok K (c .kind) L 0 t))))) same q)
     where
       whole : finishRun M (run M (begin M) t) ≡ after ps (finishRun M (going s n h []))
       whole =
@@ -168,8 +168,8 @@ module _ {σ κ : Type 0} (K : Kit σ κ) (c : Config) (m : List ℕ) (L : Lawfu
       ltb-false mostTaken (t + length (pieceOf x))
       (or-right (ltb (lentOf x .placeCount) leastPlaces) _ (or-right (ltb (lentOf x .outLength) leastOutput) _ (or-right (ltb mostPiece (length (pieceOf x))) _ e)))
 
-  reached : (t : List ℕ) (s : σ) (n : ℕ) (h : List ℕ) (ps : List Part) → run M (begin M) t ≡ going s n h ps → GoingOk K (c .kind) L (length t) s n h ps
-  reached t s n h ps e = subst (λ (r : Run σ). Ok K (c .kind) L (length t) r) e (text-ok K (c .kind) L t)
+  reached : (t : List ℕ) (s : σ) (n : ℕ) (h : List ℕ) (ps : List Part) → run M (begin M) t ≡ going s n h ps → GoingOk K (c .kind) L 0 (length t) s n h ps
+  reached t s n h ps e = subst (λ (r : Run σ). Ok K (c .kind) L 0 (length t) r) e (text-ok K (c .kind) L 0 t)
 
   -- the session holds what the machine knows
   resumed : (t : List ℕ) (s : σ) (n : ℕ) (h : List ℕ) (ps : List Part) → run M (begin M) t ≡ going s n h ps

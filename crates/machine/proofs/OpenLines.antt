@@ -70,6 +70,13 @@ bom-then t = refl
 pub bom-ends : (l : List ℕ) → hasBom l ≡ true → endsLine l ≡ true → endsLine (drop 3 l) ≡ true
 bom-ends l q e = sym (bom-then (drop 3 l)) ∙ ap endsLine (sym (bom-behind l q)) ∙ e
 
+bom-then-open : (t : List ℕ) → hasLf (bom ++ t) ≡ hasLf t
+unfolding hasLf
+bom-then-open t = refl
+
+pub bom-open : (l : List ℕ) → hasBom l ≡ true → hasLf l ≡ false → hasLf (drop 3 l) ≡ false
+bom-open l q e = sym (bom-then-open (drop 3 l)) ∙ ap hasLf (sym (bom-behind l q)) ∙ e
+
 pub bom-length : (l : List ℕ) → hasBom l ≡ true → length l ≡ 3 + length (drop 3 l)
 bom-length l q = ap length (bom-behind l q) ∙ omega arith
 
