@@ -1,11 +1,11 @@
 -- The columns of a session stay within their bounds: a line of ASS leaves them so.
-use mathlib.Core.Path.{_≡_, refl, sym, ap, subst, _∙_}
+use mathlib.Core.Path.{_≡_, refl}
 use mathlib.Core.Bool.{Bool, true, false, cond, _||_}
-use mathlib.Core.List.{List, [], _∷_, _++_, map}
-use Prim.Native.Nat.{ℕ, zero, suc, _+_, _-_, _≤_, _<_}
+use mathlib.Core.List.{List, [], _∷_}
+use Prim.Native.Nat.{ℕ, zero, suc, _-_, _≤_, _<_}
 use native.Mathlib.Omega.{arith}
 use lib.Dec.{eqb, ltb}
-use lib.ListN.{length, take, drop, length-drop, length-take, length-map}
+use lib.ListN.{length, drop, length-drop, length-take, length-map}
 use borrow.Author.Tests.{le-ltb, ltb-false}
 use Rattle.base.specs.Limits.{mostLine, mostColumns}
 use Rattle.base.proofs.Laws.{or-left, or-right}
@@ -16,7 +16,6 @@ use Rattle.text.specs.Line.{ontoFirst, terminatorLength, textOf, terminatorOf}
 use Rattle.time.specs.Read.{timeIn}
 use Rattle.time.specs.declared.read.Time.{Time}
 use Rattle.time.specs.declared.read.Time.the-variants.{At, Bad}
-use Rattle.event.specs.Says.{Reason, unplaced, short, Part, stays, passes, cue}
 use Rattle.ass.specs.declared.layout.Columns.{Columns}
 use Rattle.ass.specs.Columns.{comma, startName, endName, namesIn, further, placeIn, columnsIn, fields, fieldAt}
 use Rattle.ass.specs.Line.{formatWord, dialogueWord, commentWord, eventsName, bracketed, inside, inSection, timesSay, captionSays, textSays, lineSays, LineSays, faulty, says}

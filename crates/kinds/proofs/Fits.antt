@@ -1,8 +1,8 @@
 -- What any call writes fits the output and the places that it is lent, whatever session it is given.
-use mathlib.Core.Path.{_≡_, refl, sym, ap, subst, _∙_}
-use mathlib.Core.Bool.{Bool, true, false, _||_}
-use mathlib.Core.List.{List, [], _∷_, _++_}
-use Prim.Native.Nat.{ℕ, zero, suc, _+_, _*_, _≤_, _<_}
+use mathlib.Core.Path.{_≡_, refl}
+use mathlib.Core.Bool.{Bool, true, false}
+use mathlib.Core.List.{List, [], _∷_}
+use Prim.Native.Nat.{ℕ, zero, suc, _+_, _*_, _≤_}
 use native.Mathlib.Omega.{arith}
 use lib.Dec.{ltb}
 use lib.ListN.{length}
@@ -17,12 +17,12 @@ use Rattle.event.specs.Emit.{Emit, Warning, outputOf, warningsOf, placesOf, emi
 use Rattle.event.proofs.FineLaws.{Set}
 use Rattle.ass.specs.declared.layout.Columns.{Columns}
 use Rattle.ass.specs.Line.{lineSays, says as lineSaid}
-use Rattle.machine.specs.Machine.{Machine, Run, going, stopped, run, finishRun}
-use Rattle.machine.specs.Session.{Session, Lent, Call, feed, finish, lentOf, pieceOf, argumentBad, gate, foreign, settle, resume, accepted, respond, answer}
-use Rattle.machine.proofs.Emits.{parts-none, output-none, warnings-none}
+use Rattle.machine.specs.Machine.{Run, going, stopped, run, finishRun}
+use Rattle.machine.specs.Session.{Session, Call, feed, finish, lentOf, argumentBad, gate, foreign, settle, resume, accepted, respond, answer}
+use Rattle.machine.proofs.Emits.{parts-none}
 use Rattle.machine.proofs.CutLaws.{cut-length}
 use Rattle.machine.proofs.Laws.{Lawful}
-use Rattle.machine.proofs.Native.{GoingOk, Ok}
+use Rattle.machine.proofs.Native.{GoingOk}
 use Rattle.machine.proofs.Room.{outLen, warnLen, out-none, warn-none, GoingRoom, Room, Roomy, run-room, finish-room}
 use Rattle.kinds.specs.Takes.{State}
 use Rattle.kinds.specs.Kit.{kit}

@@ -2,29 +2,27 @@
 use mathlib.Core.Path.{_≡_, refl, sym, ap, subst, _∙_}
 use mathlib.Core.Bool.{Bool, true, false, cond, _||_, not}
 use mathlib.Core.List.{List, [], _∷_, _++_, append-nil, append-assoc}
-use Prim.Native.Nat.{ℕ, zero, suc, _+_, _-_, _≤_, _<_}
+use Prim.Native.Nat.{ℕ, zero, suc, _+_, _-_, _≤_}
 use native.Mathlib.Omega.{arith}
-use lib.Dec.{eqb, ltb, leb}
-use lib.ListN.{length, drop, length-append}
-use borrow.Author.Tests.{le-ltb, ltb-false, leb-true}
-use Rattle.base.specs.Limits.{mostLine, mostBlock, mostColumns}
+use lib.Dec.{ltb, leb}
+use lib.ListN.{length, length-append}
+use borrow.Author.Tests.{le-ltb, leb-true}
+use Rattle.base.specs.Limits.{mostLine, mostBlock}
 use Rattle.text.specs.Utf8.{utf8}
 use Rattle.text.specs.Line.{concat, lineCount, hasLf, endsLine}
 use Rattle.text.proofs.LineLaws.{Finished}
 use Rattle.time.specs.Kind.{kindBad}
 use Rattle.time.proofs.Limits.{by-kind}
-use Rattle.event.specs.Says.{Part, stays, passes, cue, captionsIn, Fault, notUtf8, longBlock}
-use Rattle.ass.specs.declared.layout.Columns.{Columns}
+use Rattle.event.specs.Says.{Part, stays, passes, cue, captionsIn, Fault, notUtf8}
 use Rattle.ass.specs.Line.{LineSays, lineSays, faulty as lineFaulty, says as lineSaid}
-use Rattle.block.specs.Style.{Style, srt, blankIn}
+use Rattle.block.specs.Style.{srt, blankIn}
 use Rattle.block.specs.Block.{BlockSays, blockSays, faulty as blockFaulty, says as blockSaid}
 use Rattle.machine.specs.Cut.{Cut, cut, isLf, closedLines, unfinished}
-use Rattle.machine.specs.Machine.{Machine, Says, faulty, says}
-use Rattle.machine.specs.Session.{Kit}
-use Rattle.machine.proofs.CutLaws.{cut-held, has-none}
-use Rattle.machine.proofs.Laws.{StepFacts, StepOk, CloseOk, Lawful}
-use Rattle.kinds.specs.Takes.{State, noColumns, blankState, ofLine, lineTakes, withBlock, ofBlock, closes, adds, blockTakes, takes, ends, machineOf}
-use Rattle.kinds.specs.Kit.{linesBad, heldBad, columnsBad, strange, kit}
+use Rattle.machine.specs.Machine.{Says, faulty, says}
+use Rattle.machine.proofs.CutLaws.{cut-held}
+use Rattle.machine.proofs.Laws.{StepOk, CloseOk, Lawful}
+use Rattle.kinds.specs.Takes.{State, blankState, ofLine, lineTakes, withBlock, ofBlock, closes, adds, blockTakes, takes, ends}
+use Rattle.kinds.specs.Kit.{linesBad, heldBad, kit}
 use Rattle.kinds.proofs.ColumnBounds.{Bounded, bounded-good, none-bounded, After, line-bounded}
 
 -- ---- by kind

@@ -2,11 +2,11 @@
 use mathlib.Core.Path.{_≡_, refl, sym, ap, subst, _∙_}
 use mathlib.Core.Bool.{Bool, true, false, cond, true≢false}
 use mathlib.Core.List.{List, [], _∷_, _++_}
-use Prim.Native.Nat.{ℕ, zero, suc, _+_, _-_, _*_, _≤_, _<_}
+use Prim.Native.Nat.{ℕ, suc, _+_, _-_, _*_, _≤_, _<_}
 use native.Mathlib.Omega.{arith}
 use lib.Dec.{leb}
 use lib.ListN.{length, length-append}
-use Rattle.base.specs.Limits.{mostLine, mostBlock}
+use Rattle.base.specs.Limits.{mostBlock}
 use Rattle.text.specs.Utf8.{utf8}
 use Rattle.text.specs.White.{headFrom, trimHead}
 use Rattle.text.specs.Line.{linesOf, concat, lineCount, hasLf, blank}
@@ -15,19 +15,19 @@ use Rattle.segmap.specs.declared.segment.Segment.{Segment}
 use Rattle.segmap.specs.Segment.{segmentsOf, mapBad}
 use Rattle.event.specs.declared.setting.Config.{Config}
 use Rattle.event.specs.Says.{Part, stays, Fault, notUtf8}
-use Rattle.event.specs.Emit.{Emit, emitOf}
+use Rattle.event.specs.Emit.{emitOf}
 use Rattle.event.proofs.FineLaws.{Set}
 use Rattle.ass.specs.declared.layout.Columns.{Columns}
 use Rattle.ass.specs.Line.{LineSays, lineSays, faulty as lineFaulty, says as lineSaid}
 use Rattle.block.specs.Style.{srt, blankIn}
 use Rattle.block.specs.Block.{BlockSays, blockSays, faulty as blockFaulty, says as blockSaid}
-use Rattle.block.proofs.Fits.{Small, block-fits}
+use Rattle.block.proofs.Fits.{block-fits}
 use Rattle.block.proofs.FineBlock.{lines-held, lines-open}
 use Rattle.machine.specs.Machine.{Says, faulty, says}
-use Rattle.machine.proofs.Room.{outLen, warnLen, out-none, warn-none, out-cons, warn-cons, out-stay, warn-stay, RoomFacts, RoomOf, Leaves, Roomy}
-use Rattle.kinds.specs.Takes.{State, ofLine, lineTakes, withBlock, ofBlock, closes, adds, blockTakes, takes, ends}
+use Rattle.machine.proofs.Room.{outLen, warnLen, out-none, warn-none, out-cons, warn-cons, out-stay, warn-stay, RoomOf, Leaves, Roomy}
+use Rattle.kinds.specs.Takes.{State, ofLine, lineTakes, withBlock, ofBlock, closes, adds, blockTakes, takes}
 use Rattle.kinds.specs.Kit.{kit}
-use Rattle.kinds.proofs.KindLaws.{takes-ass, takes-srt, ends-ass, ends-srt, concat-snoc, Fit, size, ass-laws, srt-laws}
+use Rattle.kinds.proofs.KindLaws.{takes-ass, takes-srt, ends-ass, ends-srt, concat-snoc, size, ass-laws, srt-laws}
 
 module _ (c : Config) (m : List Segment) where
   abbrev Of : State → List ℕ → Says State → Type 0

@@ -1,8 +1,8 @@
 -- A session that passes 17 holds a state that fits its kind, and an unfinished line that is short and open.
-use mathlib.Core.Path.{_≡_, refl, sym, ap, subst, _∙_}
-use mathlib.Core.Bool.{Bool, true, false, _||_}
-use mathlib.Core.List.{List, [], _∷_, _++_}
-use Prim.Native.Nat.{ℕ, zero, suc, _+_, _≤_}
+use mathlib.Core.Path.{_≡_, sym, ap, _∙_}
+use mathlib.Core.Bool.{false, _||_}
+use mathlib.Core.List.{List, []}
+use Prim.Native.Nat.{ℕ, _≤_}
 use native.Mathlib.Omega.{arith}
 use lib.Dec.{ltb}
 use lib.ListN.{length}
@@ -14,10 +14,9 @@ use Rattle.time.specs.Kind.{kindBad}
 use Rattle.time.specs.Convert.{timescaleBad}
 use Rattle.time.proofs.Limits.{by-kind}
 use Rattle.ass.specs.declared.layout.Columns.{Columns}
-use Rattle.machine.specs.Cut.{Cut, cut, isLf, closedLines, unfinished}
+use Rattle.machine.specs.Cut.{Cut, closedLines, unfinished}
 use Rattle.machine.specs.Session.{Session, configBad, countsAbove, foreign}
 use Rattle.machine.proofs.CutLaws.{cut-rest, cut-ends, cut-open, cut-length}
-use Rattle.kinds.specs.Takes.{State}
 use Rattle.kinds.specs.Kit.{linesBad, heldBad, columnsBad, kit}
 use Rattle.kinds.proofs.ColumnBounds.{Bounded, good-bounded}
 use Rattle.kinds.proofs.KindLaws.{held-ass, held-srt, Fit}

@@ -1,9 +1,9 @@
 -- For every list of calls the sessions answer as the plain reader does.
 use mathlib.Core.Path.{_≡_, refl, sym, ap, ap₂, subst, _∙_}
-use mathlib.Core.Logic.{_⊎_, inl, inr}
-use mathlib.Core.Bool.{Bool, true, false, not, _||_, true≢false}
+use mathlib.Core.Logic.{inl, inr}
+use mathlib.Core.Bool.{Bool, true, false, not, true≢false}
 use mathlib.Core.List.{List, [], _∷_, _++_, append-nil, append-assoc}
-use Prim.Native.Nat.{ℕ, zero, suc, _+_, _≤_, _<_}
+use Prim.Native.Nat.{ℕ, _+_, _≤_}
 use native.Mathlib.Omega.{arith}
 use lib.Dec.{ltb, eqb}
 use lib.ListN.{length, length-append}
@@ -18,9 +18,9 @@ use Rattle.machine.specs.declared.counting.Counts.{Counts}
 use Rattle.machine.specs.Counts.{noCounts, countAll, countsOf}
 use Rattle.machine.specs.Machine.{Machine, Run, going, stopped, run, finishRun, restOf}
 use Rattle.machine.specs.Reader.{Reading, reading, readText}
-use Rattle.machine.specs.Session.{configBad, Session, Kit, Lent, Call, feed, finish, lentOf, pieceOf, argumentBad, Gate, refuse, admit, gate}
+use Rattle.machine.specs.Session.{configBad, Session, Kit, Call, feed, finish, lentOf, pieceOf, argumentBad, refuse, gate}
 use Rattle.machine.specs.Session.{foreign, blankOf, fresh, Answer, settle, resume, accepted, respond, answer, emitted}
-use Rattle.machine.specs.Calls.{Played, Reader, Heard, ReaderAnswer, play, ProperCall, Proper, readerAccepts, readerResponds, readerAnswer, newReader, hear, readingOf, emitsIn, SameAsReader}
+use Rattle.machine.specs.Calls.{Played, Reader, Heard, ReaderAnswer, play, ProperCall, Proper, readerAccepts, readerResponds, readerAnswer, newReader, hear, readingOf, SameAsReader}
 use Rattle.machine.proofs.Emits.{emits-append, emits-none, output-append, output-none, warnings-append, warnings-none, count-append, count-none, total-parts}
 use Rattle.machine.proofs.Bytes.{ranTo, begin, bytes-reading}
 use Rattle.machine.proofs.Resume.{after, ByFault, run-append, run-after, finish-after, run-fault, Stopped, finish-stops}

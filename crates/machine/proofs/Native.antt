@@ -1,28 +1,28 @@
 -- No session that calls have led to is taken for a foreign one.
-use mathlib.Core.Path.{_≡_, refl, sym, ap, subst, _∙_}
-use mathlib.Core.Bool.{Bool, true, false, _&&_, _||_}
-use mathlib.Core.List.{List, [], _∷_, _++_, append-nil}
-use Prim.Native.Nat.{ℕ, zero, suc, _+_, _≤_, _<_}
+use mathlib.Core.Path.{_≡_, refl, subst}
+use mathlib.Core.Bool.{Bool, true, false, _&&_}
+use mathlib.Core.List.{List, [], _∷_, _++_}
+use Prim.Native.Nat.{ℕ, suc, _+_, _≤_, _<_}
 use native.Mathlib.Omega.{arith}
-use lib.Dec.{leb, ltb, eqb}
+use lib.Dec.{leb, eqb}
 use lib.ListN.{length, drop, length-append, length-drop}
 use borrow.Author.Tests.{leb-true, le-ltb}
 use Rattle.base.specs.Limits.{mostLine, mostTaken}
-use Rattle.base.proofs.Laws.{and-left, and-right}
-use Rattle.text.specs.Line.{hasLf, endsLine}
+use Rattle.base.proofs.Laws.{and-right}
+use Rattle.text.specs.Line.{hasLf}
 use Rattle.text.specs.Find.{equals}
 use Rattle.event.specs.declared.setting.Config.{Config}
-use Rattle.event.specs.Says.{Part, stays, captionsIn}
+use Rattle.event.specs.Says.{Part, captionsIn}
 use Rattle.machine.specs.declared.counting.Counts.{Counts}
 use Rattle.machine.specs.Counts.{total}
-use Rattle.machine.specs.Machine.{Machine, Says, faulty, says, bom, hasBom, takeLine, withBom, lineWith, Rest, nothing, bomAlone, lastLine, restFor, restOf, Run, going, stopped}
+use Rattle.machine.specs.Machine.{Machine, Says, faulty, says, bom, hasBom, takeLine, withBom, lineWith, restFor, Run, going, stopped}
 use Rattle.machine.specs.Machine.{lineEnd, byte, byteStep, run, closed, lastEnd, atEnd, finishRun}
-use Rattle.machine.specs.Session.{Session, Kit, configBad, foreign}
+use Rattle.machine.specs.Session.{Kit, configBad, foreign}
 use Rattle.machine.proofs.Emits.{parts-append, parts-none, parts-stay}
 use Rattle.machine.proofs.CutLaws.{has-none}
 use Rattle.machine.proofs.OpenLines.{has-lf-append, ends-append, bom-ends}
 use Rattle.machine.proofs.Bytes.{begin}
-use Rattle.machine.proofs.Laws.{StepFacts, StepOk, CloseOk, Lawful}
+use Rattle.machine.proofs.Laws.{StepOk, CloseOk, Lawful}
 
 -- k: captions that may be open beside the lines ended. From the start it is 0; in a session that came from elsewhere it is at most what is pending
 module _ {σ κ : Type 0} (K : Kit σ κ) (kind : ℕ) (L : Lawful K kind) (k : ℕ) where

@@ -1,28 +1,27 @@
 -- What a call writes fits: output and warnings are bounded by the bytes held and fed.
-use mathlib.Core.Path.{_≡_, refl, sym, ap, subst, _∙_}
+use mathlib.Core.Path.{_≡_, refl, ap, subst, _∙_}
 use mathlib.Core.Bool.{Bool, true, false, _&&_}
 use mathlib.Core.List.{List, [], _∷_, _++_}
-use Prim.Native.Nat.{ℕ, zero, suc, _+_, _-_, _*_, _≤_, _<_}
-use native.Mathlib.Nat.{mul-le-mul-left}
+use Prim.Native.Nat.{ℕ, suc, _+_, _*_, _≤_}
 use native.Mathlib.Omega.{arith}
 use lib.Dec.{leb, eqb}
 use lib.ListN.{length, drop, length-append, length-drop}
 use borrow.Author.Tests.{leb-true}
 use Rattle.base.specs.Limits.{mostLine}
-use Rattle.base.proofs.Laws.{and-left, and-right}
+use Rattle.base.proofs.Laws.{and-right}
 use Rattle.text.specs.Find.{equals}
 use Rattle.text.specs.Line.{hasLf}
 use Rattle.segmap.specs.declared.segment.Segment.{Segment}
 use Rattle.event.specs.declared.setting.Config.{Config}
 use Rattle.event.specs.Says.{Part, stays}
 use Rattle.event.specs.Emit.{Emit, emitBy, emitOf, emitsOf, outputOf, warningsOf}
-use Rattle.machine.specs.Machine.{Machine, Says, faulty, says, bom, hasBom, takeLine, withBom, lineWith, Rest, nothing, bomAlone, lastLine, restFor, restOf, Run, going, stopped}
+use Rattle.machine.specs.Machine.{Machine, Says, faulty, says, bom, hasBom, takeLine, withBom, lineWith, restFor, Run, going, stopped}
 use Rattle.machine.specs.Machine.{lineEnd, byte, byteStep, run, closed, lastEnd, atEnd, finishRun}
 use Rattle.machine.proofs.Emits.{emits-append, output-append, warnings-append}
 use Rattle.machine.specs.Session.{Kit}
 use Rattle.machine.proofs.OpenLines.{bom-length, bom-open, equals-length}
 use Rattle.machine.proofs.Laws.{Lawful}
-use Rattle.machine.proofs.Native.{GoingOk, Ok, step-ok}
+use Rattle.machine.proofs.Native.{Ok, step-ok}
 
 -- bytes written, and warnings given, for parts through a map
 module _ (c : Config) (m : List Segment) where
