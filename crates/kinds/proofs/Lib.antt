@@ -8,6 +8,7 @@ pub mod PartLaws
 pub mod DemandText
 pub mod BlockShape
 pub mod EmptyPiece
+pub mod Refused
 pub mod Native
 pub mod KindRoom
 pub mod Fits
