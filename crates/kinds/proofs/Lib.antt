@@ -12,3 +12,4 @@ pub mod Refused
 pub mod Native
 pub mod KindRoom
 pub mod Fits
+pub mod Examples
