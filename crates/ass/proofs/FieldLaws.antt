@@ -19,7 +19,7 @@ fields-whole : (n : ℕ) (s : List ℕ) → length s ≤ first comma s → field
 unfolding fields contains
 fields-whole n s h = rw (le-ltb (first comma s) (length s) h)
 
-fields-one : (s : List ℕ) → fields 1 s ≡ s ∷ []
+pub fields-one : (s : List ℕ) → fields 1 s ≡ s ∷ []
 unfolding fields
 fields-one s = refl
 
@@ -125,11 +125,11 @@ at-zero : (fs : List (List ℕ)) → fieldAt 0 fs ≡ []
 unfolding fieldAt
 at-zero fs = refl
 
-at-first : (f : List ℕ) (fs : List (List ℕ)) → fieldAt 1 (f ∷ fs) ≡ f
+pub at-first : (f : List ℕ) (fs : List (List ℕ)) → fieldAt 1 (f ∷ fs) ≡ f
 unfolding fieldAt
 at-first f fs = refl
 
-at-next : (k : ℕ) (f : List ℕ) (fs : List (List ℕ)) → 1 < k → fieldAt k (f ∷ fs) ≡ fieldAt (k - 1) fs
+pub at-next : (k : ℕ) (f : List ℕ) (fs : List (List ℕ)) → 1 < k → fieldAt k (f ∷ fs) ≡ fieldAt (k - 1) fs
 unfolding fieldAt
 at-next zero f fs h = absurd (omega arith)
 at-next (suc zero) f fs h = absurd (omega arith)

@@ -3,3 +3,6 @@ pub mod SectionLaws
 pub mod TagLaws
 pub mod FieldLaws
 pub mod WriteLaws
+pub mod TellLaws
+pub mod FitLaws
+pub mod SayLaws

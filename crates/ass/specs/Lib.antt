@@ -3,3 +3,4 @@ pub mod Columns
 pub mod Tags
 pub mod Line
 pub mod Write
+pub mod Answer

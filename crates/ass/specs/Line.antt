@@ -10,7 +10,7 @@ use Rattle.text.specs.Line.{textOf, terminatorOf}
 use Rattle.time.specs.Read.{timeIn}
 use Rattle.time.specs.declared.read.Time.{Time}
 use Rattle.time.specs.declared.read.Time.the-variants.{At, Bad}
-use Rattle.event.specs.Says.{Piece, bytes, start, stop, Reason, unplaced, short, Part, stays, passes, cue, Fault, badTime}
+use Rattle.event.specs.Says.{Piece, bytes, start, stop, unplaced, short, Cue, Part, stays, passes, cue, Fault, badTime}
 use Rattle.ass.specs.declared.layout.Columns.{Columns}
 use Rattle.ass.specs.Columns.{comma, columnsIn, fields, fieldAt}
 use Rattle.ass.specs.Tags.{tagged}
@@ -59,14 +59,10 @@ pub data LineSays : Type 0 where
   faulty : Fault → LineSays
   says : Columns → Part → LineSays
 
--- both times must read
-abbrev pub timesSay : Columns → (line : ℕ) → (word : List ℕ) → List (List ℕ) → (end : List ℕ) → Time → Time → LineSays
-timesSay c n word fs end Bad E = faulty badTime
-timesSay c n word fs end (At S a) Bad = faulty badTime
-timesSay c n word fs end (At S a) (At E b) =
-    says c
-    (cue
-    (record {
+-- a caption whose times read as S to E, with the marks a and b. Tags are looked for in the last field
+abbrev pub lineCue : Columns → (line : ℕ) → (word : List ℕ) → List (List ℕ) → (end : List ℕ) → (S a E b : ℕ) → Cue
+lineCue c n word fs end S a E b =
+    record {
       line = n;
       start = S;
       startMark = a;
@@ -74,7 +70,13 @@ timesSay c n word fs end (At S a) (At E b) =
       stopMark = b;
       tagged = tagged (fieldAt (c .columns) fs);
       frame = lineFrame c word fs end;
-    }))
+    }
+
+-- both times must read
+abbrev pub timesSay : Columns → (line : ℕ) → (word : List ℕ) → List (List ℕ) → (end : List ℕ) → Time → Time → LineSays
+timesSay c n word fs end Bad E = faulty badTime
+timesSay c n word fs end (At S a) Bad = faulty badTime
+timesSay c n word fs end (At S a) (At E b) = says c (cue (lineCue c n word fs end S a E b))
 
 -- a column unknown: warning 1; fewer fields than columns: warning 2; else the two times
 unfoldable pub captionSays : Columns → (line : ℕ) → (l word rest : List ℕ) → LineSays
@@ -86,16 +88,19 @@ captionSays c n l word rest =
     (timeIn 0 (fieldAt (c .start) (fields (c .columns) rest)))
     (timeIn 0 (fieldAt (c .«end») (fields (c .columns) rest))))))
 
--- ---- a line; n lines came before it
--- t is its text. Words count only at its start and in Events
+-- ---- a line; n lines came before it, and t is its text
+-- in Events, by the word at its start
+unfoldable pub wordSays : Columns → (n : ℕ) → (l t : List ℕ) → LineSays
+wordSays c n l t =
+    cond (starts formatWord t) (says (columnsIn (drop 7 t)) (stays l))
+    (cond (starts dialogueWord t) (captionSays c (suc n) l dialogueWord (drop 9 t))
+    (cond (starts commentWord t) (captionSays c (suc n) l commentWord (drop 8 t))
+    (says c (stays l))))
+
 unfoldable pub textSays : Columns → (n : ℕ) → (l t : List ℕ) → LineSays
 textSays c n l t =
     cond (bracketed (trim t)) (says (inSection (equals eventsName (inside (trim t))) c) (stays l))
-    (cond (c .events)
-    (cond (starts formatWord t) (says (columnsIn (drop 7 t)) (stays l))
-    (cond (starts dialogueWord t) (captionSays c (suc n) l dialogueWord (drop 9 t))
-    (cond (starts commentWord t) (captionSays c (suc n) l commentWord (drop 8 t))
-    (says c (stays l)))))
+    (cond (c .events) (wordSays c n l t)
     (says c (stays l)))
 
 unfoldable pub lineSays : Columns → (n : ℕ) → (l : List ℕ) → LineSays

@@ -1,10 +1,12 @@
 // ASS captions: one line, read by its columns and put through the map.
+mod caption;
 mod fields;
 mod layout;
 mod section;
 mod tags;
 mod writing;
 
+pub use caption::LineTold;
 pub use fields::column_text;
 pub use fields::enough;
 pub use fields::field;
@@ -14,5 +16,6 @@ pub use section::in_section;
 pub use section::is_section;
 pub use section::names_events;
 pub use tags::has_tag;
+pub use writing::Times;
 pub use writing::write_kept;
 pub use writing::write_line;

@@ -1,0 +1,51 @@
+-- What the code answers to an ASS line at every input: the line said, then put through the map.
+use mathlib.Core.Bool.{Bool, true, false, cond}
+use mathlib.Core.List.{List, []}
+use Prim.Native.Nat.{ℕ, _*_}
+use lib.Dec.{ltb}
+use lib.ListN.{length}
+use Rattle.segmap.specs.declared.segment.Segment.{Segment}
+use Rattle.event.specs.declared.setting.Config.{Config}
+use Rattle.event.specs.declared.telling.Told.{Told}
+use Rattle.event.specs.declared.telling.Counted.the-variants.{Nothing}
+use Rattle.event.specs.Says.{faultNumber}
+use Rattle.event.specs.Emit.{emitOf}
+use Rattle.event.specs.Told.{Answer, refusal, answered, partIn}
+use Rattle.ass.specs.declared.layout.Columns.{Columns}
+use Rattle.ass.specs.Line.{LineSays, faulty, says, lineSays}
+
+-- the columns after a line: as they were where it is faulty
+abbrev pub columnsAfter : Columns → LineSays → Columns
+columnsAfter c (faulty f) = c
+columnsAfter c (says d p) = d
+
+-- by document 01: a fault's number, or what the part becomes through the map
+abbrev pub answerOf : Config → List Segment → LineSays → Answer
+answerOf s m (faulty f) = refusal (faultNumber f)
+answerOf s m (says c p) = answered (emitOf s m p)
+
+-- by the code, at every input; within the limits both are the same (`line-fine`)
+abbrev pub answerTo : Config → List Segment → LineSays → Answer
+answerTo s m (faulty f) = refusal (faultNumber f)
+answerTo s m (says c p) = partIn s m p
+
+-- 16 where the lent output has less than three bytes for each of the line, or fewer than four warning places
+unfoldable pub lineIn : Config → List Segment → Columns → (n : ℕ) → (l : List ℕ) → (room places : ℕ) → Answer
+lineIn s m c n l room places =
+    cond (ltb room (3 * length l)) (refusal 16)
+    (cond (ltb places 4) (refusal 16)
+    (answerTo s m (lineSays c n l)))
+
+-- the columns for the next line
+unfoldable pub columnsNext : Columns → (n : ℕ) → (l : List ℕ) → (room places : ℕ) → Columns
+columnsNext c n l room places =
+    cond (ltb room (3 * length l)) c
+    (cond (ltb places 4) c
+    (columnsAfter c (lineSays c n l)))
+
+-- a refusal, and a line that stays, handed back
+abbrev pub refusedWith : ℕ → Told
+refusedWith n = record { number = n; counted = Nothing; written = 0; warned = 0 }
+
+abbrev pub stayedWith : ℕ → Told
+stayedWith k = record { number = 0; counted = Nothing; written = k; warned = 0 }
