@@ -18,7 +18,7 @@ use Rattle.time.specs.declared.read.Time.{Time}
 use Rattle.time.specs.declared.read.Time.the-variants.{At, Bad}
 use Rattle.ass.specs.declared.layout.Columns.{Columns}
 use Rattle.ass.specs.Columns.{comma, startName, endName, namesIn, further, placeIn, columnsIn, fields, fieldAt}
-use Rattle.ass.specs.Line.{formatWord, dialogueWord, commentWord, eventsName, bracketed, inside, inSection, timesSay, captionSays, textSays, lineSays, LineSays, faulty, says}
+use Rattle.ass.specs.Line.{formatWord, dialogueWord, commentWord, eventsName, bracketed, inside, inSection, timesSay, captionSays, wordSays, textSays, lineSays, LineSays, faulty, says}
 use Rattle.kinds.specs.Takes.{noColumns}
 use Rattle.kinds.specs.Kit.{columnsBad}
 
@@ -124,14 +124,18 @@ module _ (P : Columns → Type 0) (c : Columns) (h : P c) where
       (timeIn 0 (fieldAt (c .«end») (fields (c .columns) rest))))))
 
   -- sections and Format lines set the columns, all other lines leave them
+  word-after : (n : ℕ) (l t : List ℕ) → P (columnsIn (drop 7 t)) → After P (wordSays c n l t)
+  unfolding wordSays
+  word-after n l t f =
+      either (After P) (starts formatWord t) _ _ f
+      (either (After P) (starts dialogueWord t) _ _ (caption-after (suc n) l dialogueWord (drop 9 t))
+      (either (After P) (starts commentWord t) _ _ (caption-after (suc n) l commentWord (drop 8 t)) h))
+
   text-after : (n : ℕ) (l t : List ℕ) → P (columnsIn (drop 7 t)) → ((b : Bool) → P (inSection b c)) → After P (textSays c n l t)
   unfolding textSays
   text-after n l t f g =
       either (After P) (bracketed (trim t)) _ _ (g (equals eventsName (inside (trim t))))
-      (either (After P) (c .events) _ _
-      (either (After P) (starts formatWord t) _ _ f
-      (either (After P) (starts dialogueWord t) _ _ (caption-after (suc n) l dialogueWord (drop 9 t))
-      (either (After P) (starts commentWord t) _ _ (caption-after (suc n) l commentWord (drop 8 t)) h))) h)
+      (either (After P) (c .events) _ _ (word-after n l t f) h)
 
 pub line-bounded : (c : Columns) (n : ℕ) (l : List ℕ) → Bounded c → length l ≤ mostLine → After Bounded (lineSays c n l)
 unfolding lineSays
