@@ -310,3 +310,40 @@ fn event_line(
     let told = stayed(text, out);
     LineTold { told, columns }
 }
+
+// What becomes of a line: `text` is the line with its terminator and without a BOM, and `n` lines came before it.
+pub fn line(
+    config: Config,
+    map: &[u64],
+    columns: Columns,
+    n: u32,
+    text: &[u8],
+    out: &mut [u8],
+    warnings: &mut [u64],
+) -> LineTold
+    ensures told { λ r. ⌜ Tells (lineIn config (segmentsOf (now (map .entry))) columns n (now (text .entry)) (length (now (out .entry))) (length (now (warnings .entry)))) (r .told) (now (out .entry)) (now (out .exit)) (now (warnings .entry)) (now (warnings .exit)) ⌝ }
+    ensures columns { λ r. ⌜ r .columns ≡ columnsNext columns n (now (text .entry)) (length (now (out .entry))) (length (now (warnings .entry))) ⌝ }
+{
+    if out.len() / 3 < text.len() {
+        let told = refused(16);
+        return LineTold { told, columns };
+    }
+    if warnings.len() < 4 {
+        let told = refused(16);
+        return LineTold { told, columns };
+    }
+    let t = text::trimmed(text::text_of(text));
+    if is_section(t) {
+        let next = in_section(names_events(t), columns);
+        let told = stayed(text, out);
+        return LineTold {
+            told,
+            columns: next,
+        };
+    }
+    if columns.events {
+        return event_line(config, map, columns, n, text, out, warnings);
+    }
+    let told = stayed(text, out);
+    LineTold { told, columns }
+}

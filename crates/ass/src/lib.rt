@@ -7,6 +7,7 @@ mod tags;
 mod writing;
 
 pub use caption::LineTold;
+pub use caption::line;
 pub use fields::column_text;
 pub use fields::enough;
 pub use fields::field;
