@@ -6,6 +6,7 @@ pub mod PlainSrt
 pub mod PlainText
 pub mod PartLaws
 pub mod DemandText
+pub mod Reachable
 pub mod BlockShape
 pub mod EmptyPiece
 pub mod Refused

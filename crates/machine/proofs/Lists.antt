@@ -29,33 +29,33 @@ use Rattle.machine.proofs.Laws.{Lawful}
 use Rattle.machine.proofs.Native.{GoingOk, Ok, text-ok, finish-ok, not-foreign}
 
 module _ {σ κ : Type 0} (K : Kit σ κ) (c : Config) (m : List ℕ) (L : Lawful K (c .kind)) (cOk : configBad c ≡ false) where
-  abbrev M : Machine σ
+  abbrev pub M : Machine σ
   M = K .machine (c .kind)
 
-  abbrev read : Bool → List ℕ → Reading
+  abbrev pub read : Bool → List ℕ → Reading
   read f t = readText M f t
 
   -- the parts through the map, and their counts
-  abbrev E : List Part → List Emit
+  abbrev pub E : List Part → List Emit
   E ps = emitted c m ps
 
-  abbrev counted : List Part → Counts
+  abbrev pub counted : List Part → Counts
   counted ps = countsOf (E ps)
 
   counted-more : (ps new : List Part) → counted (ps ++ new) ≡ countAll (counted ps) (E new)
   counted-more ps new = ap countsOf (emits-append c (segmentsOf m) ps new) ∙ count-append noCounts (E ps) (E new)
 
-  abbrev liveSession : ℕ → σ → ℕ → List ℕ → Counts → Session κ
+  abbrev pub liveSession : ℕ → σ → ℕ → List ℕ → Counts → Session κ
   liveSession t s n h k = record { config = c; taken = t; lines = n; held = K .pack s h; known = K .known s; counts = k; outcome = 0; ended = false }
 
-  abbrev deadSession : ℕ → ℕ → Counts → Session κ
+  abbrev pub deadSession : ℕ → ℕ → Counts → Session κ
   deadSession t x k = blankOf K c x true t k
 
-  abbrev readerAt : List ℕ → Bool → Bool → Reader
+  abbrev pub readerAt : List ℕ → Bool → Bool → Reader
   readerAt t f e = record { text = t; finished = f; ended = e }
 
   -- the session, the parts of all calls so far, and the reader
-  data Inv : Session κ → List Part → Reader → Type 0 where
+  pub data Inv : Session κ → List Part → Reader → Type 0 where
     live : (t : List ℕ) (s : σ) (n : ℕ) (h : List ℕ) (ps : List Part) → run M (begin M) t ≡ going s n h ps → length t ≤ mostTaken
         → Inv (liveSession (length t) s n h (counted ps)) ps (readerAt t false false)
     dead : (t : List ℕ) (f : Bool) (k : ℕ) (ps : List Part) → read f t ≡ reading k ps → captionsIn ps ≤ length t → length t ≤ mostTaken
@@ -289,6 +289,14 @@ module _ {σ κ : Type 0} (K : Kit σ κ) (c : Config) (m : List ℕ) (L : Lawfu
       (ap₂ (λ (x : List ℕ) (y : Counts). record { config = c; taken = 0; lines = 0; held = x; known = K .known (M .start); counts = y; outcome = 0; ended = false })
       (L .start-pack) none-counted)
       (live [] (M .start) 0 [] [] refl (omega arith))
+
+  -- where a list of calls has led to
+  pub record Led (xs : List Call) : Type 0 where
+    pub parts : List Part
+    pub inv : Inv (play K (fresh K c) xs .session) parts (hear read newReader xs .reader)
+
+  pub led : (xs : List Call) → Proper m xs → Led xs
+  led xs p = let w = lists xs p (fresh K c) [] newReader starts in record { parts = w .all; inv = w .inv }
 
   -- from a fresh session, for every list of calls
   pub same-as-reader : (xs : List Call) → Proper m xs → SameAsReader read c m (play K (fresh K c) xs) (hear read newReader xs)
