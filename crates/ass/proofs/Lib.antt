@@ -6,3 +6,6 @@ pub mod WriteLaws
 pub mod TellLaws
 pub mod FitLaws
 pub mod SayLaws
+pub mod DecisionLaws
+pub mod LineFits
+pub mod LineFine
