@@ -19,6 +19,7 @@ use Rattle.event.specs.Emit.{emitOf}
 use Rattle.event.proofs.FineLaws.{Set}
 use Rattle.ass.specs.declared.layout.Columns.{Columns}
 use Rattle.ass.specs.Line.{LineSays, lineSays, faulty as lineFaulty, says as lineSaid}
+use Rattle.ass.proofs.LineFits.{line-fits}
 use Rattle.block.specs.Style.{srt, blankIn}
 use Rattle.block.specs.Block.{BlockSays, blockSays, faulty as blockFaulty, says as blockSaid}
 use Rattle.block.proofs.Fits.{block-fits}
@@ -42,36 +43,39 @@ module _ (c : Config) (m : List Segment) where
     pub output : length (emitOf c m p .out) ≤ 3 * n
     pub warned : 7 * length (emitOf c m p .warnings) ≤ n
 
--- ---- ASS, given that a line's part is small beside the line
-module _ (c : Config) (m : List Segment) (slim : (k d : Columns) (n : ℕ) (l : List ℕ) (p : Part) → lineSays k n l ≡ lineSaid d p → Slim c m (length l) p) where
-  said-room : (s : State) (n : ℕ) (l : List ℕ) (x : LineSays) → lineSays (s .columns) n l ≡ x → Of c m s l (ofLine s x)
+-- ---- ASS
+module _ (c : Config) (set : Set c) (g : List ℕ) (good : mapBad g ≡ false) where
+  abbrev assMap : List Segment
+  assMap = segmentsOf g
+
+  said-room : (s : State) (n : ℕ) (l : List ℕ) (x : LineSays) → lineSays (s .columns) n l ≡ x → Of c assMap s l (ofLine s x)
   said-room s n l (lineFaulty f) e = tt
   said-room s n l (lineSaid d p) e =
-      let z = slim (s .columns) d n l p e in
+      let z = line-fits c set g good (s .columns) n l d p e in
       record {
-        out = rw (out-cons c m p [], out-none c m) (omega (arith, z .output));
-        warn = rw (warn-cons c m p [], warn-none c m) (omega (arith, z .warned));
+        out = rw (out-cons c assMap p [], out-none c assMap) (omega (arith, z .output));
+        warn = rw (warn-cons c assMap p [], warn-none c assMap) (omega (arith, z .warned-long));
       }
 
-  ass-step : (s : State) (n : ℕ) (l : List ℕ) → Of c m s l (lineTakes s n l)
+  ass-step : (s : State) (n : ℕ) (l : List ℕ) → Of c assMap s l (lineTakes s n l)
   unfolding lineTakes
-  ass-step s n l = checked c m (Of c m s l) (utf8 l) (ofLine s (lineSays (s .columns) n l)) notUtf8 tt (λ e. said-room s n l (lineSays (s .columns) n l) refl)
+  ass-step s n l = checked c assMap (Of c assMap s l) (utf8 l) (ofLine s (lineSays (s .columns) n l)) notUtf8 tt (λ e. said-room s n l (lineSays (s .columns) n l) refl)
 
   no-last : (x : Says State) → Leaves (λ s. Unit {0}) x
   no-last (faulty f) = tt
   no-last (says t ps) = tt
 
-  pub ass-roomy : Roomy kit 0 ass-laws c m 3
+  pub ass-roomy : Roomy kit 0 ass-laws c assMap 3
   ass-roomy =
       record {
         positive = omega arith;
         Last = λ s. Unit {0};
         fit-last = λ s f. tt;
-        steps = λ s n l f h. subst (Of c m s l) (sym (takes-ass s n l)) (ass-step s n l);
+        steps = λ s n l f h. subst (Of c assMap s l) (sym (takes-ass s n l)) (ass-step s n l);
         lasts = λ s n l f h e. no-last (takes 0 s n l);
         closes =
-            λ s n z. subst (Of c m s []) (sym (ends-ass s n))
-            (record { out = rw (out-none c m) (omega arith); warn = rw (warn-none c m) (omega arith) });
+            λ s n z. subst (Of c assMap s []) (sym (ends-ass s n))
+            (record { out = rw (out-none c assMap) (omega arith); warn = rw (warn-none c assMap) (omega arith) });
       }
 
 -- ---- SRT
