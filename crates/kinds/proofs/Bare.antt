@@ -1,21 +1,19 @@
 -- The reading of a text as one of its lines without a BOM, for any machine.
-use mathlib.Core.Path.{_≡_, refl, sym, ap, subst, _∙_}
+use mathlib.Core.Path.{_≡_, refl, sym, ap, _∙_}
 use mathlib.Core.Bool.{Bool, true, false, cond, _&&_, true≢false}
 use mathlib.Core.List.{List, [], _∷_, _++_, append-nil, append-assoc}
-use Prim.Native.Nat.{ℕ, zero, suc, _+_, _≤_, _<_}
+use Prim.Native.Nat.{ℕ, suc, _+_}
 use native.Mathlib.Omega.{arith}
 use lib.Dec.{eqb, leb}
 use lib.ListN.{length, drop}
 use borrow.Author.Tests.{ne-eqb}
 use Rattle.base.specs.Limits.{mostLine}
-use Rattle.base.specs.Refusal.{_orElse_, faultUnless}
-use Rattle.base.proofs.Laws.{and-false}
+use Rattle.base.specs.Refusal.{faultUnless}
 use Rattle.text.specs.Find.{starts, equals}
-use Rattle.text.specs.Line.{linesOf, concat}
-use Rattle.event.specs.Says.{Part, stays, faultNumber}
+use Rattle.text.specs.Line.{concat}
 use Rattle.machine.specs.Cut.{Cut, before, push, cut, isLf, closedLines, unfinished}
-use Rattle.machine.specs.Machine.{Machine, Says, faulty, says, bom, hasBom, withBom, lineWith, takeLine, Rest, nothing, bomAlone, lastLine, restFor, restOf}
-use Rattle.machine.specs.Reader.{Reading, reading, fails, _⊕_, readLine, readClose, readLast, readRest, readLines, readText}
+use Rattle.machine.specs.Machine.{Machine, Says, faulty, says, bom, hasBom, withBom, takeLine, Rest, bomAlone, lastLine, restFor, restOf}
+use Rattle.machine.specs.Reader.{Reading, fails, _⊕_, readLine, readClose, readLast, readRest, readLines, readText}
 use Rattle.machine.proofs.CutLaws.{cut-joined, restLines, lines-of-cut}
 use Rattle.machine.proofs.OpenLines.{bom-behind}
 use Rattle.kinds.specs.Plain.{linesRead, markWritten}

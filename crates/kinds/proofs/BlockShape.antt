@@ -1,10 +1,10 @@
 -- What the blocks of a text are: no line is lost; the body's lines are not blank, the others are; only the first block may have no body, only the last no blank line.
-use mathlib.Core.Path.{_≡_, refl, sym, ap, subst, _∙_}
+use mathlib.Core.Path.{_≡_, refl, ap, _∙_}
 use mathlib.Core.Bool.{Bool, true, false, cond}
-use mathlib.Core.List.{List, [], _∷_, _++_, append-assoc}
+use mathlib.Core.List.{List, [], _∷_, _++_}
 use Prim.Native.Nat.{ℕ}
 use Rattle.block.specs.Style.{blankIn}
-use Rattle.kinds.specs.Plain.{Block, blockOf, ontoBlock, ontoBlanks, blankOnto, blocksOf}
+use Rattle.kinds.specs.Plain.{Block, ontoBlock, ontoBlanks, blankOnto, blocksOf}
 
 -- the lines of blocks, in order
 abbrev pub blockLines : List Block → List (List ℕ)

@@ -1,11 +1,11 @@
 -- The columns of a session stay within their bounds: a line of ASS leaves them so.
-use mathlib.Core.Path.{_≡_, refl, sym, ap, subst, _∙_}
+use mathlib.Core.Path.{_≡_, refl}
 use mathlib.Core.Bool.{Bool, true, false, cond, _||_}
-use mathlib.Core.List.{List, [], _∷_, _++_, map}
-use Prim.Native.Nat.{ℕ, zero, suc, _+_, _-_, _≤_, _<_}
+use mathlib.Core.List.{List, [], _∷_}
+use Prim.Native.Nat.{ℕ, zero, suc, _-_, _≤_, _<_}
 use native.Mathlib.Omega.{arith}
 use lib.Dec.{eqb, ltb}
-use lib.ListN.{length, take, drop, length-drop, length-take, length-map}
+use lib.ListN.{length, drop, length-drop, length-take, length-map}
 use borrow.Author.Tests.{le-ltb, ltb-false}
 use Rattle.base.specs.Limits.{mostLine, mostColumns}
 use Rattle.base.proofs.Laws.{or-left, or-right}
@@ -16,10 +16,9 @@ use Rattle.text.specs.Line.{ontoFirst, terminatorLength, textOf, terminatorOf}
 use Rattle.time.specs.Read.{timeIn}
 use Rattle.time.specs.declared.read.Time.{Time}
 use Rattle.time.specs.declared.read.Time.the-variants.{At, Bad}
-use Rattle.event.specs.Says.{Reason, unplaced, short, Part, stays, passes, cue}
 use Rattle.ass.specs.declared.layout.Columns.{Columns}
 use Rattle.ass.specs.Columns.{comma, startName, endName, namesIn, further, placeIn, columnsIn, fields, fieldAt}
-use Rattle.ass.specs.Line.{formatWord, dialogueWord, commentWord, eventsName, bracketed, inside, inSection, timesSay, captionSays, textSays, lineSays, LineSays, faulty, says}
+use Rattle.ass.specs.Line.{formatWord, dialogueWord, commentWord, eventsName, bracketed, inside, inSection, timesSay, captionSays, wordSays, textSays, lineSays, LineSays, faulty, says}
 use Rattle.kinds.specs.Takes.{noColumns}
 use Rattle.kinds.specs.Kit.{columnsBad}
 
@@ -125,14 +124,18 @@ module _ (P : Columns → Type 0) (c : Columns) (h : P c) where
       (timeIn 0 (fieldAt (c .«end») (fields (c .columns) rest))))))
 
   -- sections and Format lines set the columns, all other lines leave them
+  word-after : (n : ℕ) (l t : List ℕ) → P (columnsIn (drop 7 t)) → After P (wordSays c n l t)
+  unfolding wordSays
+  word-after n l t f =
+      either (After P) (starts formatWord t) _ _ f
+      (either (After P) (starts dialogueWord t) _ _ (caption-after (suc n) l dialogueWord (drop 9 t))
+      (either (After P) (starts commentWord t) _ _ (caption-after (suc n) l commentWord (drop 8 t)) h))
+
   text-after : (n : ℕ) (l t : List ℕ) → P (columnsIn (drop 7 t)) → ((b : Bool) → P (inSection b c)) → After P (textSays c n l t)
   unfolding textSays
   text-after n l t f g =
       either (After P) (bracketed (trim t)) _ _ (g (equals eventsName (inside (trim t))))
-      (either (After P) (c .events) _ _
-      (either (After P) (starts formatWord t) _ _ f
-      (either (After P) (starts dialogueWord t) _ _ (caption-after (suc n) l dialogueWord (drop 9 t))
-      (either (After P) (starts commentWord t) _ _ (caption-after (suc n) l commentWord (drop 8 t)) h))) h)
+      (either (After P) (c .events) _ _ (word-after n l t f) h)
 
 pub line-bounded : (c : Columns) (n : ℕ) (l : List ℕ) → Bounded c → length l ≤ mostLine → After Bounded (lineSays c n l)
 unfolding lineSays

@@ -1,43 +1,28 @@
 -- Demand 3: for every configuration and map that open accepts, and for every list of calls that are lent the map or one that 15 refuses.
-use mathlib.Core.Path.{_≡_, refl, sym, ap, subst, _∙_}
-use mathlib.Core.Bool.{Bool, true, false, cond, true≢false}
-use mathlib.Core.List.{List, [], _∷_}
-use Prim.Native.Nat.{ℕ, zero, suc, _+_, _≤_, _<_}
+use mathlib.Core.Path.{_≡_, sym, ap, subst, _∙_}
+use mathlib.Core.Bool.{Bool}
+use mathlib.Core.List.{List}
+use Prim.Native.Nat.{ℕ}
 use native.Mathlib.Omega.{arith}
-use Rattle.time.specs.Kind.{kindBad, unitsOf}
-use Rattle.time.specs.Convert.{timescaleBad}
-use Rattle.time.proofs.Limits.{by-kind, units-low, timescale-low}
+use Rattle.time.proofs.Limits.{units-low, timescale-low}
 use Rattle.segmap.specs.Segment.{segmentsOf}
 use Rattle.event.specs.declared.setting.Config.{Config}
-use Rattle.event.specs.Says.{captionsIn}
-use Rattle.event.specs.Emit.{warningsOf}
 use Rattle.ass.specs.declared.layout.Columns.{Columns}
 use Rattle.machine.specs.declared.counting.Counts.{Counts}
-use Rattle.machine.specs.Counts.{countsOf, total}
-use Rattle.machine.specs.Reader.{Reading, readText}
-use Rattle.machine.specs.Session.{Session, Answer, Call, openSession, fresh, emitted}
-use Rattle.machine.specs.Calls.{Played, play, Proper, newReader, hear, readingOf, emitsIn, SameAsReader}
+use Rattle.machine.specs.Counts.{total}
+use Rattle.machine.specs.Reader.{Reading}
+use Rattle.machine.specs.Session.{Session, Answer, Call, openSession, fresh}
+use Rattle.machine.specs.Calls.{play, Proper, newReader, hear, SameAsReader}
 use Rattle.machine.proofs.Emits.{total-parts}
-use Rattle.machine.proofs.Laws.{Lawful}
 use Rattle.machine.proofs.Lists.{same-as-reader}
 use Rattle.machine.proofs.Numbers.{Opened, opened, opens-fresh, opened-config}
 use Rattle.machine.proofs.Refine.{Returned, Trace, traced, trace-plays}
-use Rattle.kinds.specs.Takes.{State, machineOf}
 use Rattle.kinds.specs.Kit.{kit, said}
 use Rattle.kinds.specs.Plain.{plainRead}
-use Rattle.kinds.specs.Demand.{AllRight, passings, heard, saidIn, played, Demand}
-use Rattle.kinds.proofs.KindLaws.{ass-laws, srt-laws}
+use Rattle.kinds.specs.Demand.{passings, saidIn, played, Demand}
+use Rattle.kinds.proofs.KindLaws.{lawful}
 use Rattle.kinds.proofs.PlainText.{said-plain}
 use Rattle.kinds.proofs.PartLaws.{all-right, passed-warnings}
-
--- the laws hold for every known kind
-known-two : (k : ℕ) → kindBad (suc (suc k)) ≡ false → ⊥
-known-two k e = let z : suc (suc k) ≤ 1 = by-kind (λ n. n ≤ 1) (omega arith) (omega arith) (suc (suc k)) e in omega arith
-
-pub lawful : (kind : ℕ) → kindBad kind ≡ false → Lawful kit kind
-lawful zero e = ass-laws
-lawful (suc zero) e = srt-laws
-lawful (suc (suc k)) e = absurd (known-two k e)
 
 -- from a fresh session the plain reader's answers
 module _ (c : Config) (m : List ℕ) (o : Opened c m) where

@@ -2,28 +2,27 @@
 use mathlib.Core.Path.{_≡_, refl, sym, ap, subst, _∙_}
 use mathlib.Core.Bool.{Bool, true, false, cond, _||_, not}
 use mathlib.Core.List.{List, [], _∷_, _++_, append-nil, append-assoc}
-use Prim.Native.Nat.{ℕ, zero, suc, _+_, _-_, _≤_, _<_}
+use Prim.Native.Nat.{ℕ, zero, suc, _+_, _-_, _≤_}
 use native.Mathlib.Omega.{arith}
-use lib.Dec.{eqb, ltb, leb}
-use lib.ListN.{length, drop, length-append}
-use borrow.Author.Tests.{le-ltb, ltb-false, leb-true}
-use Rattle.base.specs.Limits.{mostLine, mostBlock, mostColumns}
+use lib.Dec.{ltb, leb}
+use lib.ListN.{length, length-append}
+use borrow.Author.Tests.{le-ltb, leb-true}
+use Rattle.base.specs.Limits.{mostLine, mostBlock}
 use Rattle.text.specs.Utf8.{utf8}
 use Rattle.text.specs.Line.{concat, lineCount, hasLf, endsLine}
 use Rattle.text.proofs.LineLaws.{Finished}
 use Rattle.time.specs.Kind.{kindBad}
-use Rattle.event.specs.Says.{Part, stays, passes, cue, captionsIn, Fault, notUtf8, longBlock}
-use Rattle.ass.specs.declared.layout.Columns.{Columns}
+use Rattle.time.proofs.Limits.{by-kind}
+use Rattle.event.specs.Says.{Part, stays, passes, cue, captionsIn, Fault, notUtf8}
 use Rattle.ass.specs.Line.{LineSays, lineSays, faulty as lineFaulty, says as lineSaid}
-use Rattle.block.specs.Style.{Style, srt, blankIn}
+use Rattle.block.specs.Style.{srt, blankIn}
 use Rattle.block.specs.Block.{BlockSays, blockSays, faulty as blockFaulty, says as blockSaid}
 use Rattle.machine.specs.Cut.{Cut, cut, isLf, closedLines, unfinished}
-use Rattle.machine.specs.Machine.{Machine, Says, faulty, says}
-use Rattle.machine.specs.Session.{Kit}
-use Rattle.machine.proofs.CutLaws.{cut-held, has-none}
-use Rattle.machine.proofs.Laws.{StepFacts, StepOk, CloseOk, Lawful}
-use Rattle.kinds.specs.Takes.{State, noColumns, blankState, ofLine, lineTakes, withBlock, ofBlock, closes, adds, blockTakes, takes, ends, machineOf}
-use Rattle.kinds.specs.Kit.{linesBad, heldBad, columnsBad, strange, kit}
+use Rattle.machine.specs.Machine.{Says, faulty, says}
+use Rattle.machine.proofs.CutLaws.{cut-held}
+use Rattle.machine.proofs.Laws.{StepOk, CloseOk, Lawful}
+use Rattle.kinds.specs.Takes.{State, blankState, ofLine, lineTakes, withBlock, ofBlock, closes, adds, blockTakes, takes, ends}
+use Rattle.kinds.specs.Kit.{linesBad, heldBad, kit}
 use Rattle.kinds.proofs.ColumnBounds.{Bounded, bounded-good, none-bounded, After, line-bounded}
 
 -- ---- by kind
@@ -74,13 +73,17 @@ pending s = openBlock (s .block)
 abbrev pub size : State → ℕ
 size s = length (concat (s .block))
 
+pub pending-one : (b : List (List ℕ)) → openBlock b ≤ 1
+pending-one [] = omega arith
+pending-one (l ∷ ls) = omega arith
+
 one-part : (p : Part) → captionsIn (p ∷ []) ≤ 1
 unfolding captionsIn
 one-part (stays l) = omega arith
 one-part (passes r n l) = omega arith
 one-part (cue q) = omega arith
 
-no-part : captionsIn [] ≡ 0
+pub no-part : captionsIn [] ≡ 0
 unfolding captionsIn
 no-part = refl
 
@@ -94,7 +97,7 @@ stays-none : (l : List ℕ) → captionsIn (stays l ∷ []) ≡ 0
 unfolding captionsIn
 stays-none l = refl
 
-abbrev LineOk : (kind : ℕ) → State → List ℕ → Says State → Type 0
+abbrev pub LineOk : (kind : ℕ) → State → List ℕ → Says State → Type 0
 LineOk kind s l x = StepOk (Fit kind) pending size s l x
 
 checked : (kind : ℕ) (s : State) (l : List ℕ) (u : Bool) (x : Says State) (f : Fault) → (u ≡ true → LineOk kind s l x) → LineOk kind s l (cond u x (faulty f))
@@ -111,7 +114,7 @@ said-ok s l (lineSaid c p) h b =
       small = omega arith;
     }
 
-ass-step : (s : State) (n : ℕ) (l : List ℕ) → Fit 0 s → length l ≤ mostLine → LineOk 0 s l (lineTakes s n l)
+pub ass-step : (s : State) (n : ℕ) (l : List ℕ) → Fit 0 s → length l ≤ mostLine → LineOk 0 s l (lineTakes s n l)
 unfolding lineTakes
 ass-step s n l h k =
     checked 0 s l (utf8 l) (ofLine s (lineSays (s .columns) n l)) notUtf8 (λ e. said-ok s l (lineSays (s .columns) n l) h (line-bounded (s .columns) n l (h .bounded) k))
@@ -172,7 +175,7 @@ blank-ok : (s : State) (n : ℕ) (l : List ℕ) → Fit 1 s → utf8 l ≡ true 
 blank-ok s n l h q true p = closes-ok s n l (s .block) refl h
 blank-ok s n l h q false p = adds-ok s l h p q (leb (length (concat (s .block)) + length l) mostBlock) refl
 
-srt-step : (s : State) (n : ℕ) (l : List ℕ) → Fit 1 s → LineOk 1 s l (blockTakes srt s n l)
+pub srt-step : (s : State) (n : ℕ) (l : List ℕ) → Fit 1 s → LineOk 1 s l (blockTakes srt s n l)
 unfolding blockTakes
 srt-step s n l h = checked 1 s l (utf8 l) _ notUtf8 (λ q. blank-ok s n l h q (blankIn 1 l) refl)
 
@@ -181,29 +184,29 @@ block-few : (s : State) (x : BlockSays) → pending s ≡ 1 → CloseOk (Fit 1) 
 block-few s (blockFaulty f) p = tt
 block-few s (blockSaid q) p = omega (arith, one-part q)
 
-srt-close : (s : State) (n : ℕ) (b : List (List ℕ)) → s .block ≡ b → CloseOk (Fit 1) pending size s (closes srt s n b [])
+pub srt-close : (s : State) (n : ℕ) (b : List (List ℕ)) → s .block ≡ b → CloseOk (Fit 1) pending size s (closes srt s n b [])
 srt-close s n [] e = omega (arith, no-part)
 srt-close s n (k ∷ ks) e = block-few s (blockSays srt (suc n - lineCount (k ∷ ks)) (k ∷ ks)) (ap openBlock e)
 
 -- ---- what a session keeps
-held-cut : (kind : ℕ) (s : State) (h : List ℕ) → Fit kind s → hasLf h ≡ false → cut isLf (concat (s .block) ++ h) ≡ record { pieces = s .block; rest = h }
+pub held-cut : (kind : ℕ) (s : State) (h : List ℕ) → Fit kind s → hasLf h ≡ false → cut isLf (concat (s .block) ++ h) ≡ record { pieces = s .block; rest = h }
 held-cut kind s h f e = cut-held (s .block) h (all-finished kind (s .block) (f .block)) e
   where
     all-finished : (kind : ℕ) (ls : List (List ℕ)) → BlockFit kind ls → Finished ls
     all-finished zero ls e = subst Finished (sym e) tt
     all-finished (suc k) ls e = e
 
-held-good-ass : (s : State) (h : List ℕ) → Fit 0 s → length h ≤ mostLine → hasLf h ≡ false → heldBad 0 (concat (s .block) ++ h) ≡ false
+pub held-good-ass : (s : State) (h : List ℕ) → Fit 0 s → length h ≤ mostLine → hasLf h ≡ false → heldBad 0 (concat (s .block) ++ h) ≡ false
 held-good-ass s h f k e =
     ap (λ (ls : List (List ℕ)). heldBad 0 (concat ls ++ h)) (f .block) ∙ held-ass h ∙ rw (le-ltb mostLine (length h) k, e)
 
-held-good-srt : (s : State) (h : List ℕ) → Fit 1 s → length h ≤ mostLine → hasLf h ≡ false → heldBad 1 (concat (s .block) ++ h) ≡ false
+pub held-good-srt : (s : State) (h : List ℕ) → Fit 1 s → length h ≤ mostLine → hasLf h ≡ false → heldBad 1 (concat (s .block) ++ h) ≡ false
 held-good-srt s h f k e =
     held-srt (concat (s .block) ++ h)
     ∙ ap (λ (c : Cut ℕ). ltb mostBlock (length (concat (c .pieces))) || (linesBad 1 (c .pieces) || ltb mostLine (length (c .rest)))) (held-cut 1 s h f e)
     ∙ rw (le-ltb mostBlock (length (concat (s .block))) (f .small), f .lines, le-ltb mostLine (length h) k)
 
-blank-fit : (kind : ℕ) → BlockFit kind [] → Fit kind blankState
+pub blank-fit : (kind : ℕ) → BlockFit kind [] → Fit kind blankState
 blank-fit kind b = record { bounded = none-bounded; small = omega arith; lines = refl; block = b }
 
 -- the fields that both kinds have in common
@@ -211,7 +214,7 @@ module _ (kind : ℕ) (b : BlockFit kind [])
     (steps : (s : State) (n : ℕ) (l : List ℕ) → Fit kind s → length l ≤ mostLine → LineOk kind s l (takes kind s n l))
     (finishes : (s : State) (n : ℕ) → CloseOk (Fit kind) pending size s (ends kind s n))
     (holds : (s : State) (h : List ℕ) → Fit kind s → length h ≤ mostLine → hasLf h ≡ false → heldBad kind (concat (s .block) ++ h) ≡ false) where
-  laws : Lawful kit kind
+  abbrev pub laws : Lawful kit kind
   laws =
       record {
         Fit = Fit kind;
@@ -229,16 +232,41 @@ module _ (kind : ℕ) (b : BlockFit kind [])
         not-strange = λ s h f k e. rw (bounded-good (s .columns) (f .bounded), holds s h f k e);
       }
 
-pub ass-laws : Lawful kit 0
+abbrev pub ass-laws : Lawful kit 0
 ass-laws =
     laws 0 refl
     (λ s n l h k. subst (LineOk 0 s l) (sym (takes-ass s n l)) (ass-step s n l h k))
     (λ s n. subst (CloseOk (Fit 0) pending size s) (sym (ends-ass s n)) (omega (arith, no-part)))
     (λ s h f k e. held-good-ass s h f k e)
 
-pub srt-laws : Lawful kit 1
+abbrev pub srt-laws : Lawful kit 1
 srt-laws =
     laws 1 tt
     (λ s n l h k. subst (LineOk 1 s l) (sym (takes-srt s n l)) (srt-step s n l h))
     (λ s n. subst (CloseOk (Fit 1) pending size s) (sym (ends-srt s n)) (srt-close s n (s .block) refl))
     (λ s h f k e. held-good-srt s h f k e)
+
+-- ---- both kinds
+pub known-two : (k : ℕ) → kindBad (suc (suc k)) ≡ false → ⊥
+known-two k e = let z : suc (suc k) ≤ 1 = by-kind (λ n. n ≤ 1) (omega arith) (omega arith) (suc (suc k)) e in omega arith
+
+abbrev pub lawful : (kind : ℕ) → kindBad kind ≡ false → Lawful kit kind
+lawful zero e = ass-laws
+lawful (suc zero) e = srt-laws
+lawful (suc (suc k)) e = absurd (known-two k e)
+
+-- what they are by kind
+pub lawful-fit : (kind : ℕ) (e : kindBad kind ≡ false) (s : State) → Fit kind s → lawful kind e .Fit s
+lawful-fit zero e s f = f
+lawful-fit (suc zero) e s f = f
+lawful-fit (suc (suc k)) e s f = absurd (known-two k e)
+
+pub lawful-size : (kind : ℕ) (e : kindBad kind ≡ false) (s : State) → lawful kind e .size s ≡ size s
+lawful-size zero e s = refl
+lawful-size (suc zero) e s = refl
+lawful-size (suc (suc k)) e s = absurd (known-two k e)
+
+pub lawful-pending : (kind : ℕ) (e : kindBad kind ≡ false) (s : State) → lawful kind e .pending s ≤ 1
+lawful-pending zero e s = pending-one (s .block)
+lawful-pending (suc zero) e s = pending-one (s .block)
+lawful-pending (suc (suc k)) e s = absurd (known-two k e)

@@ -3,9 +3,9 @@ use mathlib.Core.Path.{_≡_, refl, sym, ap, ap₂, subst, _∙_}
 use mathlib.Core.Logic.{_⊎_, inl, inr}
 use mathlib.Core.Bool.{Bool, true, false, cond, _&&_, _||_, true≢false}
 use mathlib.Core.List.{List, [], _∷_, _++_, List·Memᴰ, List·Memᴰ·not-nil, List·Memᴰ·cases-cons}
-use Prim.Native.Nat.{ℕ, zero, suc, _+_, _≤_, _<_}
+use Prim.Native.Nat.{ℕ, suc, _+_, _<_}
 use native.Mathlib.Omega.{arith}
-use lib.Dec.{ltb, leb}
+use lib.Dec.{ltb}
 use borrow.Author.Tests.{lt-ltb}
 use Rattle.time.specs.Kind.{unitsOf}
 use Rattle.time.specs.Convert.{ticksOf}
@@ -18,13 +18,13 @@ use Rattle.event.specs.declared.retiming.Decision.{Decision}
 use Rattle.event.specs.declared.retiming.Decision.the-variants.{Strange, Dropped, Kept}
 use Rattle.event.specs.Hit.{meetsParts, meets, Found, miss, hit, findFrom, findHit, nextSource, nextDuration, metOf, lostRule}
 use Rattle.event.specs.Decide.{retimedAt, decideHit, decideTicks, decideOf}
-use Rattle.event.specs.Fates.{Fate, passed, dropped, shifted, clipped, fateFor, fateBy, fateOf, Meets, NoneMeets, FirstMet}
-use Rattle.event.specs.Says.{Reason, unplaced, short, reasonNumber, Cue, Part, stays, passes, cue}
-use Rattle.event.specs.Emit.{Warning, warnIf, Caption, none, decided, Emit, emit, render, keptEmit, cueEmit, emitBy, emitOf, emitsOf, warningsOf}
+use Rattle.event.specs.Fates.{passed, dropped, shifted, clipped, fateFor, fateBy, fateOf, Meets, NoneMeets, FirstMet}
+use Rattle.event.specs.Says.{Reason, unplaced, short, Cue, Part, stays, passes, cue}
+use Rattle.event.specs.Emit.{Warning, warnIf, decided, Emit, render, cueEmit, emitBy, emitOf, emitsOf, warningsOf}
 use Rattle.event.proofs.FateLaws.{met, fate-right}
 use Rattle.machine.specs.declared.counting.Counts.{Counts}
-use Rattle.machine.specs.Counts.{noCounts, countFate, count, countAll, countsOf}
-use Rattle.kinds.specs.Demand.{ticks, lostNext, Warned, Leaves, CueRight, PartRight, AllRight, countIf, passings}
+use Rattle.machine.specs.Counts.{noCounts, countFate, countAll, countsOf}
+use Rattle.kinds.specs.Demand.{lostNext, Warned, Leaves, CueRight, PartRight, AllRight, passings}
 
 -- ---- the first segment that is met, and those behind it
 meets-true : (x : Segment) (a b : ℕ) → Meets x a b → meets x a b ≡ true

@@ -1,26 +1,25 @@
 -- ASS: the lines of a text, read one after the other by the machine, are what the plain reader reads.
-use mathlib.Core.Path.{_≡_, refl, sym, ap, subst, _∙_}
+use mathlib.Core.Path.{_≡_, refl, ap, _∙_}
 use mathlib.Core.Bool.{Bool, true, false, cond, _&&_}
-use mathlib.Core.List.{List, [], _∷_, _++_}
-use Prim.Native.Nat.{ℕ, zero, suc, _+_}
+use mathlib.Core.List.{List, [], _∷_}
+use Prim.Native.Nat.{ℕ, suc, _+_}
 use native.Mathlib.Omega.{arith}
 use lib.Dec.{eqb, leb}
-use lib.ListN.{length, drop}
+use lib.ListN.{length}
 use Rattle.base.specs.Limits.{mostLine}
 use Rattle.base.specs.Refusal.{_orElse_, faultUnless}
 use Rattle.text.specs.Utf8.{utf8}
 use Rattle.text.specs.White.{trim}
-use Rattle.text.specs.Find.{starts, equals}
 use Rattle.text.specs.Line.{textOf}
-use Rattle.event.specs.Says.{Part, stays, Fault, notUtf8, faultNumber}
+use Rattle.event.specs.Says.{notUtf8}
 use Rattle.ass.specs.declared.layout.Columns.{Columns}
 use Rattle.ass.specs.Line.{LineSays, textSays, lineSays, bracketed, faulty as lineFaulty, says as lineSaid}
-use Rattle.machine.specs.Machine.{Machine, Says, faulty, says}
-use Rattle.machine.specs.Reader.{Reading, reading, fails, _⊕_, readLine, readClose}
-use Rattle.kinds.specs.Takes.{State, noColumns, blankState, ofLine, lineTakes, takes, ends, machineOf}
+use Rattle.machine.specs.Machine.{Machine, Says, faulty}
+use Rattle.machine.specs.Reader.{Reading, fails, _⊕_, readLine, readClose}
+use Rattle.kinds.specs.Takes.{State, noColumns, blankState, ofLine, lineTakes, takes, machineOf}
 use Rattle.kinds.specs.Plain.{lineFault, unlessFault, lineThen, assRead, restFault}
 use Rattle.kinds.proofs.KindLaws.{takes-ass, ends-ass}
-use Rattle.kinds.proofs.Bare.{passed, endOf, readAll, read-same}
+use Rattle.kinds.proofs.Bare.{passed, endOf, readAll}
 
 -- a rest behind a line
 pub rest-behind : (f : Bool) (x : ℕ) (l : List ℕ) (ls : List (List ℕ)) (r : List ℕ) → restFault f 0 ls r ≡ restFault f x (l ∷ ls) r

@@ -1,25 +1,25 @@
 -- SRT: the lines of a text, read one after the other by the machine, are its blocks as the plain reader reads them.
-use mathlib.Core.Path.{_≡_, refl, sym, ap, ap₂, subst, _∙_}
+use mathlib.Core.Path.{_≡_, refl, sym, ap, ap₂, _∙_}
 use mathlib.Core.Bool.{Bool, true, false, cond, _&&_}
 use mathlib.Core.List.{List, [], _∷_, _++_, append-nil, append-assoc}
 use Prim.Native.Nat.{ℕ, zero, suc, _+_, _-_}
 use native.Mathlib.Omega.{arith}
 use lib.Dec.{eqb, leb}
-use lib.ListN.{length, drop, length-append}
+use lib.ListN.{length, length-append}
 use Rattle.base.specs.Limits.{mostLine, mostBlock}
 use Rattle.base.specs.Refusal.{_orElse_, faultUnless}
 use Rattle.base.proofs.RefusalLaws.{else-none, else-zero}
 use Rattle.text.specs.Utf8.{utf8}
 use Rattle.text.specs.Line.{concat, lineCount}
-use Rattle.event.specs.Says.{Part, stays, Fault, notUtf8, longBlock, faultNumber}
-use Rattle.block.specs.Style.{Style, srt, blankIn}
+use Rattle.event.specs.Says.{Part, stays, notUtf8}
+use Rattle.block.specs.Style.{srt, blankIn}
 use Rattle.block.specs.Block.{BlockSays, blockSays, faulty as blockFaulty, says as blockSaid}
-use Rattle.machine.specs.Machine.{Machine, Says, faulty, says}
-use Rattle.machine.specs.Reader.{Reading, reading, fails, _⊕_, readLine, readClose}
-use Rattle.kinds.specs.Takes.{State, blankState, withBlock, ofBlock, closes, adds, blockTakes, takes, ends, machineOf}
+use Rattle.machine.specs.Machine.{Machine, Says, faulty}
+use Rattle.machine.specs.Reader.{Reading, fails, _⊕_, readLine, readClose}
+use Rattle.kinds.specs.Takes.{State, blankState, withBlock, ofBlock, closes, adds, blockTakes, takes, machineOf}
 use Rattle.kinds.specs.Plain.{lineFault, bodyLineFault, unlessFault, Block, blockOf, ontoBlock, ontoBlanks, blankOnto, blocksOf, bodyFault, blockThen, bodyThen, blanksThen, blankMark, closesBlock, srtRead, restFault}
-use Rattle.kinds.proofs.KindLaws.{takes-srt, ends-srt, concat-snoc}
-use Rattle.kinds.proofs.Bare.{passed, endOf, readAll, read-same}
+use Rattle.kinds.proofs.KindLaws.{takes-srt, ends-srt}
+use Rattle.kinds.proofs.Bare.{passed, endOf, readAll}
 use Rattle.kinds.proofs.PlainAss.{rest-behind, ending}
 
 abbrev M : Machine State

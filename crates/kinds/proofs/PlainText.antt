@@ -1,23 +1,21 @@
 -- What a text says is what the plain reader reads, for both kinds, finished or not.
-use mathlib.Core.Path.{_≡_, refl, sym, ap, ap₂, subst, _∙_}
+use mathlib.Core.Path.{_≡_, refl, ap, ap₂, _∙_}
 use mathlib.Core.Bool.{Bool, true, false, cond, _&&_}
-use mathlib.Core.List.{List, [], _∷_, _++_}
-use Prim.Native.Nat.{ℕ, zero, suc, _+_}
+use mathlib.Core.List.{List, [], _∷_}
+use Prim.Native.Nat.{ℕ, _+_}
 use lib.Dec.{eqb, leb}
 use lib.ListN.{length, drop}
 use Rattle.base.specs.Limits.{mostLine}
-use Rattle.base.proofs.Laws.{and-false, and-true}
+use Rattle.base.proofs.Laws.{and-true}
 use Rattle.text.specs.Find.{starts}
-use Rattle.text.specs.Line.{linesOf}
 use Rattle.time.specs.Kind.{kindBad}
 use Rattle.time.proofs.Limits.{by-kind}
-use Rattle.block.specs.Style.{srt, blankIn}
 use Rattle.machine.specs.Cut.{closedLines, unfinished}
-use Rattle.machine.specs.Machine.{Machine, Says, faulty, says, bom, hasBom}
+use Rattle.machine.specs.Machine.{bom, hasBom}
 use Rattle.machine.specs.Reader.{Reading, fails, _⊕_, readText}
-use Rattle.kinds.specs.Takes.{State, noColumns, blankState, closes, takes, ends, machineOf}
+use Rattle.kinds.specs.Takes.{blankState, closes, takes, ends, machineOf}
 use Rattle.kinds.specs.Kit.{said}
-use Rattle.kinds.specs.Plain.{marked, behindMark, markLength, lineFault, bodyLineFault, assRead, blocksOf, srtRead, linesRead, linesSay, restFault, firstFault, opened, markWritten, readBehind, plainRead}
+use Rattle.kinds.specs.Plain.{linesRead, linesSay, restFault, firstFault, opened, markWritten, readBehind, plainRead}
 use Rattle.kinds.proofs.KindLaws.{ends-ass, ends-srt}
 use Rattle.kinds.proofs.Bare.{passed, opens, readAll, unmarked-text, marked-text}
 use Rattle.kinds.proofs.PlainAss.{ending, ass-lines, ass-first}

@@ -4,16 +4,15 @@ use mathlib.Core.Bool.{Bool, true, false, _&&_}
 use mathlib.Core.List.{List, [], _∷_, _++_}
 use Prim.Native.Nat.{ℕ, suc}
 use lib.Dec.{ltb, leb}
-use lib.ListN.{length}
 use Rattle.time.specs.Kind.{unitsOf}
 use Rattle.time.specs.Convert.{ticksOf}
 use Rattle.time.specs.Write.{timeText}
 use Rattle.segmap.specs.declared.segment.Segment.{Segment}
 use Rattle.segmap.specs.Segment.{sourceOf, sourceEnd, segmentsOf}
 use Rattle.event.specs.declared.setting.Config.{Config}
-use Rattle.event.specs.Fates.{Fate, passed, dropped, shifted, clipped, fateOf, FirstMet, Right}
+use Rattle.event.specs.Fates.{Fate, passed, dropped, shifted, clipped, FirstMet, Right}
 use Rattle.event.specs.Says.{reasonNumber, Cue, Part, stays, passes, cue, captionsIn}
-use Rattle.event.specs.Emit.{Warning, warning, warnIf, Caption, none, decided, Emit, render, emitOf}
+use Rattle.event.specs.Emit.{Warning, warning, warnIf, none, decided, Emit, render, emitOf}
 use Rattle.ass.specs.declared.layout.Columns.{Columns}
 use Rattle.machine.specs.Counts.{total}
 use Rattle.machine.specs.Reader.{Reading}

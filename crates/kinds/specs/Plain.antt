@@ -1,6 +1,6 @@
 -- Document 01's plain reader of a whole text, by lines and blocks. It shares with the session only what one ASS line and one SRT block say.
 use mathlib.Core.Bool.{Bool, true, false, _&&_, cond}
-use mathlib.Core.List.{List, [], _∷_, _++_}
+use mathlib.Core.List.{List, [], _∷_}
 use Prim.Native.Nat.{ℕ, zero, suc, _+_}
 use lib.Dec.{leb, eqb}
 use lib.ListN.{length, drop}
@@ -8,7 +8,7 @@ use Rattle.base.specs.Limits.{mostLine, mostBlock}
 use Rattle.base.specs.Refusal.{_orElse_, faultUnless}
 use Rattle.text.specs.Utf8.{utf8}
 use Rattle.text.specs.Find.{starts}
-use Rattle.text.specs.Line.{linesOf, concat, lineCount}
+use Rattle.text.specs.Line.{linesOf, lineCount}
 use Rattle.event.specs.Says.{Part, stays, faultNumber}
 use Rattle.ass.specs.declared.layout.Columns.{Columns}
 use Rattle.ass.specs.Line.{LineSays, lineSays, faulty as lineFaulty, says as lineSaid}

@@ -1,8 +1,8 @@
 -- The byte machine gives what the line reader reads: for every text, with and without a finish.
 use mathlib.Core.Path.{_≡_, refl, sym, ap, _∙_}
-use mathlib.Core.Bool.{Bool, true, false, _&&_}
+use mathlib.Core.Bool.{Bool, true, false}
 use mathlib.Core.List.{List, [], _∷_, _++_, append-nil, append-assoc}
-use Prim.Native.Nat.{ℕ, zero, suc, _+_, _≤_, _<_}
+use Prim.Native.Nat.{ℕ, suc}
 use native.Mathlib.Omega.{arith}
 use lib.Dec.{leb, eqb}
 use lib.ListN.{length, length-append}
@@ -11,7 +11,7 @@ use Rattle.base.specs.Limits.{mostLine}
 use Rattle.event.specs.Says.{Part, faultNumber}
 use Rattle.machine.specs.Cut.{Cut, before, push, cut, isLf}
 use Rattle.machine.specs.Machine.{Machine, Says, faulty, says, withBom, takeLine, Rest, nothing, bomAlone, lastLine, restOf, Run, going, stopped}
-use Rattle.machine.specs.Machine.{lineEnd, byte, byteStep, run, closed, lastEnd, atEnd, finishRun}
+use Rattle.machine.specs.Machine.{lineEnd, byte, run, closed, lastEnd, atEnd, finishRun}
 use Rattle.machine.specs.Reader.{Reading, reading, fails, _⊕_, readLine, readClose, readLast, readRest, readLines, readText}
 
 -- what a run has read

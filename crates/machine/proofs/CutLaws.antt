@@ -1,14 +1,14 @@
 -- What the cut into lines means: nothing is lost, each line ends in its only LF, the rest has none. And lines with a rest are cut as they stand.
-use mathlib.Core.Path.{_≡_, refl, sym, ap, subst, _∙_}
+use mathlib.Core.Path.{_≡_, refl, sym, ap, _∙_}
 use mathlib.Core.Bool.{Bool, true, false, cond, true≢false}
-use mathlib.Core.List.{List, [], _∷_, _++_, append-nil, append-assoc}
-use Prim.Native.Nat.{ℕ, zero, suc, _+_, _≤_, _<_}
+use mathlib.Core.List.{List, [], _∷_, _++_, append-assoc}
+use Prim.Native.Nat.{ℕ, _+_}
 use native.Mathlib.Omega.{arith}
 use lib.Dec.{eqb}
 use lib.ListN.{length, length-append}
 use Rattle.text.specs.Line.{linesOf, concat, isEmpty, endsLine, hasLf}
 use Rattle.text.proofs.LineLaws.{Finished, lines-back, line-last, lines-end}
-use Rattle.machine.specs.Cut.{Cut, before, push, cut, isLf, closedLines, unfinished}
+use Rattle.machine.specs.Cut.{Cut, push, cut, isLf, closedLines, unfinished}
 
 abbrev cutOf : List (List ℕ) → List ℕ → Cut ℕ
 cutOf ls r = record { pieces = ls; rest = r }

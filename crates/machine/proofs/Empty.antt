@@ -1,16 +1,13 @@
 -- An empty piece changes nothing, whatever session it is fed to: where a session holds what its state and its unfinished line pack to.
 use mathlib.Core.Path.{_≡_, refl, sym, ap, ap₂, _∙_}
 use mathlib.Core.Bool.{Bool, true, false}
-use mathlib.Core.List.{List, [], _∷_, _++_}
-use Prim.Native.Nat.{ℕ, _+_}
+use mathlib.Core.List.{List, []}
+use Prim.Native.Nat.{ℕ}
 use native.Mathlib.Omega.{arith}
-use lib.ListN.{length}
 use Rattle.segmap.specs.Segment.{mapBad, segmentsOf}
-use Rattle.event.specs.declared.setting.Config.{Config}
-use Rattle.event.specs.Emit.{Emit}
 use Rattle.machine.specs.declared.counting.Counts.{Counts}
 use Rattle.machine.specs.Counts.{countAll}
-use Rattle.machine.specs.Session.{Session, Kit, Lent, Call, feed, lentOf, argumentBad, Gate, refuse, admit, gate, foreign, respond, answer, emitted}
+use Rattle.machine.specs.Session.{Session, Kit, Lent, feed, argumentBad, gate, foreign, respond, answer, emitted}
 use Rattle.machine.proofs.Emits.{emits-none, count-none}
 
 module _ {σ κ : Type 0} (K : Kit σ κ) (same-held : (k : κ) (h : List ℕ) → K .pack (K .state k h) (K .open-line h) ≡ h)

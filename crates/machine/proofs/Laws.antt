@@ -1,13 +1,13 @@
 -- What the kinds of captions must obey, so that their sessions are never taken for foreign ones.
 use mathlib.Core.Path.{_≡_}
-use mathlib.Core.Bool.{Bool, true, false}
-use mathlib.Core.List.{List, [], _∷_}
-use Prim.Native.Nat.{ℕ, zero, suc, _+_, _≤_}
+use mathlib.Core.Bool.{true, false}
+use mathlib.Core.List.{List, []}
+use Prim.Native.Nat.{ℕ, suc, _+_, _≤_}
 use lib.ListN.{length}
 use Rattle.base.specs.Limits.{mostLine}
 use Rattle.text.specs.Line.{hasLf, endsLine}
 use Rattle.event.specs.Says.{Part, captionsIn}
-use Rattle.machine.specs.Machine.{Machine, Says, faulty, says}
+use Rattle.machine.specs.Machine.{Says, faulty, says}
 use Rattle.machine.specs.Session.{Kit}
 
 module _ {σ : Type 0} (Fit : σ → Type 0) (pending size : σ → ℕ) where

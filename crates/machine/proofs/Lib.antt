@@ -12,3 +12,4 @@ pub mod Numbers
 pub mod Empty
 pub mod Whole
 pub mod Room
+pub mod Keeps

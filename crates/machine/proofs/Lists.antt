@@ -1,9 +1,9 @@
 -- For every list of calls the sessions answer as the plain reader does.
 use mathlib.Core.Path.{_≡_, refl, sym, ap, ap₂, subst, _∙_}
-use mathlib.Core.Logic.{_⊎_, inl, inr}
-use mathlib.Core.Bool.{Bool, true, false, not, _||_, true≢false}
+use mathlib.Core.Logic.{inl, inr}
+use mathlib.Core.Bool.{Bool, true, false, not, true≢false}
 use mathlib.Core.List.{List, [], _∷_, _++_, append-nil, append-assoc}
-use Prim.Native.Nat.{ℕ, zero, suc, _+_, _≤_, _<_}
+use Prim.Native.Nat.{ℕ, _+_, _≤_}
 use native.Mathlib.Omega.{arith}
 use lib.Dec.{ltb, eqb}
 use lib.ListN.{length, length-append}
@@ -18,9 +18,9 @@ use Rattle.machine.specs.declared.counting.Counts.{Counts}
 use Rattle.machine.specs.Counts.{noCounts, countAll, countsOf}
 use Rattle.machine.specs.Machine.{Machine, Run, going, stopped, run, finishRun, restOf}
 use Rattle.machine.specs.Reader.{Reading, reading, readText}
-use Rattle.machine.specs.Session.{configBad, Session, Kit, Lent, Call, feed, finish, lentOf, pieceOf, argumentBad, Gate, refuse, admit, gate}
+use Rattle.machine.specs.Session.{configBad, Session, Kit, Call, feed, finish, lentOf, pieceOf, argumentBad, refuse, gate}
 use Rattle.machine.specs.Session.{foreign, blankOf, fresh, Answer, settle, resume, accepted, respond, answer, emitted}
-use Rattle.machine.specs.Calls.{Played, Reader, Heard, ReaderAnswer, play, ProperCall, Proper, readerAccepts, readerResponds, readerAnswer, newReader, hear, readingOf, emitsIn, SameAsReader}
+use Rattle.machine.specs.Calls.{Played, Reader, Heard, ReaderAnswer, play, ProperCall, Proper, readerAccepts, readerResponds, readerAnswer, newReader, hear, readingOf, SameAsReader}
 use Rattle.machine.proofs.Emits.{emits-append, emits-none, output-append, output-none, warnings-append, warnings-none, count-append, count-none, total-parts}
 use Rattle.machine.proofs.Bytes.{ranTo, begin, bytes-reading}
 use Rattle.machine.proofs.Resume.{after, ByFault, run-append, run-after, finish-after, run-fault, Stopped, finish-stops}
@@ -29,33 +29,33 @@ use Rattle.machine.proofs.Laws.{Lawful}
 use Rattle.machine.proofs.Native.{GoingOk, Ok, text-ok, finish-ok, not-foreign}
 
 module _ {σ κ : Type 0} (K : Kit σ κ) (c : Config) (m : List ℕ) (L : Lawful K (c .kind)) (cOk : configBad c ≡ false) where
-  abbrev M : Machine σ
+  abbrev pub M : Machine σ
   M = K .machine (c .kind)
 
-  abbrev read : Bool → List ℕ → Reading
+  abbrev pub read : Bool → List ℕ → Reading
   read f t = readText M f t
 
   -- the parts through the map, and their counts
-  abbrev E : List Part → List Emit
+  abbrev pub E : List Part → List Emit
   E ps = emitted c m ps
 
-  abbrev counted : List Part → Counts
+  abbrev pub counted : List Part → Counts
   counted ps = countsOf (E ps)
 
   counted-more : (ps new : List Part) → counted (ps ++ new) ≡ countAll (counted ps) (E new)
   counted-more ps new = ap countsOf (emits-append c (segmentsOf m) ps new) ∙ count-append noCounts (E ps) (E new)
 
-  abbrev liveSession : ℕ → σ → ℕ → List ℕ → Counts → Session κ
+  abbrev pub liveSession : ℕ → σ → ℕ → List ℕ → Counts → Session κ
   liveSession t s n h k = record { config = c; taken = t; lines = n; held = K .pack s h; known = K .known s; counts = k; outcome = 0; ended = false }
 
-  abbrev deadSession : ℕ → ℕ → Counts → Session κ
+  abbrev pub deadSession : ℕ → ℕ → Counts → Session κ
   deadSession t x k = blankOf K c x true t k
 
-  abbrev readerAt : List ℕ → Bool → Bool → Reader
+  abbrev pub readerAt : List ℕ → Bool → Bool → Reader
   readerAt t f e = record { text = t; finished = f; ended = e }
 
   -- the session, the parts of all calls so far, and the reader
-  data Inv : Session κ → List Part → Reader → Type 0 where
+  pub data Inv : Session κ → List Part → Reader → Type 0 where
     live : (t : List ℕ) (s : σ) (n : ℕ) (h : List ℕ) (ps : List Part) → run M (begin M) t ≡ going s n h ps → length t ≤ mostTaken
         → Inv (liveSession (length t) s n h (counted ps)) ps (readerAt t false false)
     dead : (t : List ℕ) (f : Bool) (k : ℕ) (ps : List Part) → read f t ≡ reading k ps → captionsIn ps ≤ length t → length t ≤ mostTaken
@@ -82,7 +82,7 @@ module _ {σ κ : Type 0} (K : Kit σ κ) (c : Config) (m : List ℕ) (L : Lawfu
   readerFed t k = record { number = k; reader = readerAt t false (not (eqb k 0)) }
 
   fed-by : (t : List ℕ) (s : σ) (n : ℕ) (h : List ℕ) (ps : List Part) (piece : List ℕ) (q : Run σ)
-      → run M (begin M) (t ++ piece) ≡ after ps q → ByFault q → Ok K (c .kind) L (length (t ++ piece)) (after ps q)
+      → run M (begin M) (t ++ piece) ≡ after ps q → ByFault q → Ok K (c .kind) L 0 (length (t ++ piece)) (after ps q)
       → read false (t ++ piece) ≡ ranTo (after ps q) → length t + length piece ≤ mostTaken
       → Kept (settle K (liveSession (length t) s n h (counted ps)) (length t + length piece) m q) ps (readerFed (t ++ piece) (ranTo (after ps q) .fault))
   fed-by t s n h ps piece (going s2 n2 h2 new) e f o w q =
@@ -103,7 +103,7 @@ module _ {σ κ : Type 0} (K : Kit σ κ) (c : Config) (m : List ℕ) (L : Lawfu
         inv =
             subst (λ (x : Session κ). Inv x (ps ++ new) (readerFed (t ++ piece) k .reader))
             (ap₂ (λ (a : ℕ) (b : Counts). deadSession a k b) (length-append t piece) (counted-more ps new))
-            (rw f (dead (t ++ piece) false k (ps ++ new) w o (rw (length-append t piece) q)));
+            (rw f (dead (t ++ piece) false k (ps ++ new) w (omega (arith, o)) (rw (length-append t piece) q)));
       }
 
   fed : (t : List ℕ) (s : σ) (n : ℕ) (h : List ℕ) (ps : List Part) → run M (begin M) t ≡ going s n h ps
@@ -114,7 +114,7 @@ module _ {σ κ : Type 0} (K : Kit σ κ) (c : Config) (m : List ℕ) (L : Lawfu
       subst (λ (k : ℕ). Kept (settle K (liveSession (length t) s n h (counted ps)) (length t + length piece) m (run M (going s n h []) piece)) ps (readerFed (t ++ piece) k))
       (ap (λ (r : Reading). r .fault) (sym same))
       (fed-by t s n h ps piece (run M (going s n h []) piece) whole (run-fault M (going s n h []) piece tt)
-      (subst (λ (r : Run σ). Ok K (c .kind) L (length (t ++ piece)) r) whole (text-ok K (c .kind) L (t ++ piece))) same q)
+      (subst (λ (r : Run σ). Ok K (c .kind) L 0 (length (t ++ piece)) r) whole (text-ok K (c .kind) L 0 (t ++ piece))) same q)
     where
       whole : run M (begin M) (t ++ piece) ≡ after ps (run M (going s n h []) piece)
       whole =
@@ -130,7 +130,7 @@ module _ {σ κ : Type 0} (K : Kit σ κ) (c : Config) (m : List ℕ) (L : Lawfu
   readerDone t k = record { number = k; reader = readerAt t true true }
 
   done-by : (t : List ℕ) (s : σ) (n : ℕ) (h : List ℕ) (ps : List Part) (q : Run σ)
-      → Stopped M q → Ok K (c .kind) L (length t) (after ps q) → read true t ≡ ranTo (after ps q) → length t ≤ mostTaken
+      → Stopped M q → Ok K (c .kind) L 0 (length t) (after ps q) → read true t ≡ ranTo (after ps q) → length t ≤ mostTaken
       → Kept (settle K (liveSession (length t) s n h (counted ps)) (length t) m q) ps (readerDone t (ranTo (after ps q) .fault))
   done-by t s n h ps (going s2 n2 h2 new) f o w q = absurd f
   done-by t s n h ps (stopped k new) f o w q =
@@ -141,7 +141,7 @@ module _ {σ κ : Type 0} (K : Kit σ κ) (c : Config) (m : List ℕ) (L : Lawfu
         inv =
             subst (λ (x : Session κ). Inv x (ps ++ new) (readerAt t true true))
             (ap (λ (b : Counts). deadSession (length t) k b) (counted-more ps new))
-            (dead t true k (ps ++ new) w o q);
+            (dead t true k (ps ++ new) w (omega (arith, o)) q);
       }
 
   done : (t : List ℕ) (s : σ) (n : ℕ) (h : List ℕ) (ps : List Part) → run M (begin M) t ≡ going s n h ps → length t ≤ mostTaken
@@ -150,9 +150,9 @@ module _ {σ κ : Type 0} (K : Kit σ κ) (c : Config) (m : List ℕ) (L : Lawfu
       subst (λ (k : ℕ). Kept (settle K (liveSession (length t) s n h (counted ps)) (length t) m (finishRun M (going s n h []))) ps (readerDone t k))
       (ap (λ (r : Reading). r .fault) (sym same))
       (done-by t s n h ps (finishRun M (going s n h [])) (finish-stops M (restOf n h) s n h [])
-      (subst (λ (r : Run σ). Ok K (c .kind) L (length t) r) (finish-after M ps (going s n h []))
-      (subst (λ (x : List Part). Ok K (c .kind) L (length t) (finishRun M (going s n h x))) (sym (append-nil ps))
-      (finish-ok K (c .kind) L (length t) s n h ps (subst (λ (r : Run σ). Ok K (c .kind) L (length t) r) e (text-ok K (c .kind) L t))))) same q)
+      (subst (λ (r : Run σ). Ok K (c .kind) L 0 (length t) r) (finish-after M ps (going s n h []))
+      (subst (λ (x : List Part). Ok K (c .kind) L 0 (length t) (finishRun M (going s n h x))) (sym (append-nil ps))
+      (finish-ok K (c .kind) L 0 (length t) s n h ps (subst (λ (r : Run σ). Ok K (c .kind) L 0 (length t) r) e (text-ok K (c .kind) L 0 t))))) same q)
     where
       whole : finishRun M (run M (begin M) t) ≡ after ps (finishRun M (going s n h []))
       whole =
@@ -168,8 +168,8 @@ module _ {σ κ : Type 0} (K : Kit σ κ) (c : Config) (m : List ℕ) (L : Lawfu
       ltb-false mostTaken (t + length (pieceOf x))
       (or-right (ltb (lentOf x .placeCount) leastPlaces) _ (or-right (ltb (lentOf x .outLength) leastOutput) _ (or-right (ltb mostPiece (length (pieceOf x))) _ e)))
 
-  reached : (t : List ℕ) (s : σ) (n : ℕ) (h : List ℕ) (ps : List Part) → run M (begin M) t ≡ going s n h ps → GoingOk K (c .kind) L (length t) s n h ps
-  reached t s n h ps e = subst (λ (r : Run σ). Ok K (c .kind) L (length t) r) e (text-ok K (c .kind) L t)
+  reached : (t : List ℕ) (s : σ) (n : ℕ) (h : List ℕ) (ps : List Part) → run M (begin M) t ≡ going s n h ps → GoingOk K (c .kind) L 0 (length t) s n h ps
+  reached t s n h ps e = subst (λ (r : Run σ). Ok K (c .kind) L 0 (length t) r) e (text-ok K (c .kind) L 0 t)
 
   -- the session holds what the machine knows
   resumed : (t : List ℕ) (s : σ) (n : ℕ) (h : List ℕ) (ps : List Part) → run M (begin M) t ≡ going s n h ps
@@ -289,6 +289,14 @@ module _ {σ κ : Type 0} (K : Kit σ κ) (c : Config) (m : List ℕ) (L : Lawfu
       (ap₂ (λ (x : List ℕ) (y : Counts). record { config = c; taken = 0; lines = 0; held = x; known = K .known (M .start); counts = y; outcome = 0; ended = false })
       (L .start-pack) none-counted)
       (live [] (M .start) 0 [] [] refl (omega arith))
+
+  -- where a list of calls has led to
+  pub record Led (xs : List Call) : Type 0 where
+    pub parts : List Part
+    pub inv : Inv (play K (fresh K c) xs .session) parts (hear read newReader xs .reader)
+
+  pub led : (xs : List Call) → Proper m xs → Led xs
+  led xs p = let w = lists xs p (fresh K c) [] newReader starts in record { parts = w .all; inv = w .inv }
 
   -- from a fresh session, for every list of calls
   pub same-as-reader : (xs : List Call) → Proper m xs → SameAsReader read c m (play K (fresh K c) xs) (hear read newReader xs)

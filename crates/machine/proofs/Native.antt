@@ -1,30 +1,31 @@
 -- No session that calls have led to is taken for a foreign one.
-use mathlib.Core.Path.{_≡_, refl, sym, ap, subst, _∙_}
-use mathlib.Core.Bool.{Bool, true, false, _&&_, _||_}
-use mathlib.Core.List.{List, [], _∷_, _++_, append-nil}
-use Prim.Native.Nat.{ℕ, zero, suc, _+_, _≤_, _<_}
+use mathlib.Core.Path.{_≡_, refl, subst}
+use mathlib.Core.Bool.{Bool, true, false, _&&_}
+use mathlib.Core.List.{List, [], _∷_, _++_}
+use Prim.Native.Nat.{ℕ, suc, _+_, _≤_, _<_}
 use native.Mathlib.Omega.{arith}
-use lib.Dec.{leb, ltb, eqb}
+use lib.Dec.{leb, eqb}
 use lib.ListN.{length, drop, length-append, length-drop}
 use borrow.Author.Tests.{leb-true, le-ltb}
 use Rattle.base.specs.Limits.{mostLine, mostTaken}
-use Rattle.base.proofs.Laws.{and-left, and-right}
-use Rattle.text.specs.Line.{hasLf, endsLine}
+use Rattle.base.proofs.Laws.{and-right}
+use Rattle.text.specs.Line.{hasLf}
 use Rattle.text.specs.Find.{equals}
 use Rattle.event.specs.declared.setting.Config.{Config}
-use Rattle.event.specs.Says.{Part, stays, captionsIn}
+use Rattle.event.specs.Says.{Part, captionsIn}
 use Rattle.machine.specs.declared.counting.Counts.{Counts}
 use Rattle.machine.specs.Counts.{total}
-use Rattle.machine.specs.Machine.{Machine, Says, faulty, says, bom, hasBom, takeLine, withBom, lineWith, Rest, nothing, bomAlone, lastLine, restFor, restOf, Run, going, stopped}
+use Rattle.machine.specs.Machine.{Machine, Says, faulty, says, bom, hasBom, takeLine, withBom, lineWith, restFor, Run, going, stopped}
 use Rattle.machine.specs.Machine.{lineEnd, byte, byteStep, run, closed, lastEnd, atEnd, finishRun}
-use Rattle.machine.specs.Session.{Session, Kit, configBad, foreign}
+use Rattle.machine.specs.Session.{Kit, configBad, foreign}
 use Rattle.machine.proofs.Emits.{parts-append, parts-none, parts-stay}
 use Rattle.machine.proofs.CutLaws.{has-none}
 use Rattle.machine.proofs.OpenLines.{has-lf-append, ends-append, bom-ends}
 use Rattle.machine.proofs.Bytes.{begin}
-use Rattle.machine.proofs.Laws.{StepFacts, StepOk, CloseOk, Lawful}
+use Rattle.machine.proofs.Laws.{StepOk, CloseOk, Lawful}
 
-module _ {σ κ : Type 0} (K : Kit σ κ) (kind : ℕ) (L : Lawful K kind) where
+-- k: captions that may be open beside the lines ended. From the start it is 0; in a session that came from elsewhere it is at most what is pending
+module _ {σ κ : Type 0} (K : Kit σ κ) (kind : ℕ) (L : Lawful K kind) (k : ℕ) where
   abbrev M : Machine σ
   M = K .machine kind
 
@@ -35,11 +36,11 @@ module _ {σ κ : Type 0} (K : Kit σ κ) (kind : ℕ) (L : Lawful K kind) where
     pub open-line : hasLf h ≡ false
     pub bytes : n + length h ≤ t
     pub room : L .size s + length h ≤ t
-    pub few : captionsIn ps + L .pending s ≤ n
+    pub few : captionsIn ps + L .pending s ≤ k + n
 
   abbrev pub Ok : ℕ → Run σ → Type 0
   Ok t (going s n h ps) = GoingOk t s n h ps
-  Ok t (stopped k ps) = captionsIn ps ≤ t
+  Ok t (stopped x ps) = captionsIn ps ≤ k + t
 
   abbrev LineOk : σ → List ℕ → Says σ → Type 0
   LineOk s l x = StepOk (L .Fit) (L .pending) (L .size) s l x
@@ -90,18 +91,18 @@ module _ {σ κ : Type 0} (K : Kit σ κ) (kind : ℕ) (L : Lawful K kind) where
         few = g .few;
       }
 
-  step-ok : (t : ℕ) (r : Run σ) (b : ℕ) → Ok t r → Ok (suc t) (byteStep M r b)
+  pub step-ok : (t : ℕ) (r : Run σ) (b : ℕ) → Ok t r → Ok (suc t) (byteStep M r b)
   step-ok t (going s n h ps) b g = byte-ok t (leb (length (h ++ (b ∷ []))) mostLine) (eqb b 10) s n h b ps g refl refl
-  step-ok t (stopped k ps) b g = omega (arith, g)
+  step-ok t (stopped x ps) b g = omega (arith, g)
 
-  run-ok : (t : ℕ) (r : Run σ) (xs : List ℕ) → Ok t r → Ok (length xs + t) (run M r xs)
-  run-ok t r [] o = subst (λ (k : ℕ). Ok k r) (omega arith) o
+  pub run-ok : (t : ℕ) (r : Run σ) (xs : List ℕ) → Ok t r → Ok (length xs + t) (run M r xs)
+  run-ok t r [] o = subst (λ (i : ℕ). Ok i r) (omega arith) o
   run-ok t r (b ∷ xs) o =
-      subst (λ (k : ℕ). Ok k (run M (byteStep M r b) xs)) (omega arith) (run-ok (suc t) (byteStep M r b) xs (step-ok t r b o))
+      subst (λ (i : ℕ). Ok i (run M (byteStep M r b) xs)) (omega arith) (run-ok (suc t) (byteStep M r b) xs (step-ok t r b o))
 
   pub text-ok : (text : List ℕ) → Ok (length text) (run M (begin M) text)
   text-ok text =
-      subst (λ (k : ℕ). Ok k (run M (begin M) text)) (omega arith)
+      subst (λ (i : ℕ). Ok i (run M (begin M) text)) (omega arith)
       (run-ok 0 (begin M) text
       (record {
         fit = L .start-fit;
@@ -113,7 +114,7 @@ module _ {σ κ : Type 0} (K : Kit σ κ) (kind : ℕ) (L : Lawful K kind) where
       }))
 
   -- finish
-  close-ok : (t : ℕ) (s : σ) (n : ℕ) (ps : List Part) (x : Says σ) → n ≤ t → captionsIn ps + L .pending s ≤ n
+  close-ok : (t : ℕ) (s : σ) (n : ℕ) (ps : List Part) (x : Says σ) → n ≤ t → captionsIn ps + L .pending s ≤ k + n
       → CloseOk (L .Fit) (L .pending) (L .size) s x → Ok t (closed M ps x)
   close-ok t s n ps (faulty f) b few o = omega arith
   close-ok t s n ps (says u new) b few o = omega (arith, o, parts-append ps new)

@@ -1,9 +1,9 @@
 -- The number of every call is one of document 01's table: open 0, 15, 16; feed and finish 0, 15 to 22.
-use mathlib.Core.Path.{_≡_, refl, sym, ap, subst, _∙_}
+use mathlib.Core.Path.{_≡_, refl}
 use mathlib.Core.Logic.{_⊎_, inl, inr}
-use mathlib.Core.Bool.{Bool, true, false, _||_, _&&_}
+use mathlib.Core.Bool.{Bool, true, false, _||_}
 use mathlib.Core.List.{List, [], _∷_, _++_}
-use Prim.Native.Nat.{ℕ, zero, suc, _+_, _≤_, _<_}
+use Prim.Native.Nat.{ℕ, suc, _+_, _≤_}
 use native.Mathlib.Omega.{arith}
 use lib.Dec.{leb, eqb}
 use lib.ListN.{length}
@@ -15,7 +15,7 @@ use Rattle.event.specs.declared.setting.Config.{Config}
 use Rattle.event.specs.Says.{Part, Fault, longLine, notUtf8, longBlock, badTime, faultNumber}
 use Rattle.machine.specs.Machine.{Machine, Says, faulty, says, withBom, takeLine, Rest, nothing, bomAlone, lastLine, restOf, Run, going, stopped}
 use Rattle.machine.specs.Machine.{lineEnd, byte, byteStep, run, closed, lastEnd, atEnd, finishRun}
-use Rattle.machine.specs.Session.{Session, Kit, Lent, Call, feed, finish, lentOf, argumentBad, Gate, refuse, admit, gate, configBad, foreign, fresh, openBy, openSession, settle, resume, accepted, respond, answer}
+use Rattle.machine.specs.Session.{Session, Kit, Call, feed, finish, lentOf, argumentBad, gate, configBad, foreign, fresh, openBy, openSession, settle, resume, accepted, respond, answer}
 
 -- done, or a fault of the text
 abbrev pub OfText : ℕ → Type 0

@@ -1,11 +1,11 @@
 -- A line that grows by a byte, and a line behind a BOM.
-use mathlib.Core.Path.{_≡_, refl, sym, ap, subst, _∙_}
+use mathlib.Core.Path.{_≡_, refl, sym, ap, _∙_}
 use mathlib.Core.Bool.{Bool, true, false, cond, true≢false}
 use mathlib.Core.List.{List, [], _∷_, _++_}
-use Prim.Native.Nat.{ℕ, zero, suc, _+_, _≤_, _<_}
+use Prim.Native.Nat.{ℕ, suc, _+_}
 use native.Mathlib.Omega.{arith}
 use lib.Dec.{eqb}
-use lib.ListN.{length, drop, length-drop}
+use lib.ListN.{length, drop}
 use borrow.Author.Tests.{eqb-true}
 use Rattle.text.specs.Find.{starts, equals}
 use Rattle.text.specs.Line.{isEmpty, endsLine, hasLf}
@@ -69,6 +69,13 @@ bom-then t = refl
 
 pub bom-ends : (l : List ℕ) → hasBom l ≡ true → endsLine l ≡ true → endsLine (drop 3 l) ≡ true
 bom-ends l q e = sym (bom-then (drop 3 l)) ∙ ap endsLine (sym (bom-behind l q)) ∙ e
+
+bom-then-open : (t : List ℕ) → hasLf (bom ++ t) ≡ hasLf t
+unfolding hasLf
+bom-then-open t = refl
+
+pub bom-open : (l : List ℕ) → hasBom l ≡ true → hasLf l ≡ false → hasLf (drop 3 l) ≡ false
+bom-open l q e = sym (bom-then-open (drop 3 l)) ∙ ap hasLf (sym (bom-behind l q)) ∙ e
 
 pub bom-length : (l : List ℕ) → hasBom l ≡ true → length l ≡ 3 + length (drop 3 l)
 bom-length l q = ap length (bom-behind l q) ∙ omega arith

@@ -1,9 +1,8 @@
 -- From the contracts to the list: any run of calls, each of whose results is as its contract says, plays as the model plays.
-use mathlib.Core.Path.{_≡_, refl, sym, ap, ap₂, subst, _∙_}
-use mathlib.Core.Bool.{Bool}
+use mathlib.Core.Path.{_≡_, refl, ap, ap₂, _∙_}
 use mathlib.Core.List.{List, [], _∷_, _++_}
 use Prim.Native.Nat.{ℕ}
-use Rattle.event.specs.Emit.{Emit, Warning, outputOf, warningsOf}
+use Rattle.event.specs.Emit.{Warning, outputOf, warningsOf}
 use Rattle.machine.specs.Session.{Session, Kit, Call, answer}
 use Rattle.machine.specs.Calls.{Played, play}
 

@@ -1,8 +1,8 @@
 -- A call resumes where the last one stopped: the machine on a text in two parts, and on a text after parts that came before.
-use mathlib.Core.Path.{_≡_, refl, sym, ap, _∙_}
+use mathlib.Core.Path.{_≡_, refl, ap, _∙_}
 use mathlib.Core.Bool.{Bool, true, false}
-use mathlib.Core.List.{List, [], _∷_, _++_, append-nil, append-assoc}
-use Prim.Native.Nat.{ℕ, zero, suc, _<_}
+use mathlib.Core.List.{List, [], _∷_, _++_, append-assoc}
+use Prim.Native.Nat.{ℕ, suc, _<_}
 use lib.Dec.{leb, eqb}
 use lib.ListN.{length, take, getD}
 use lib.Seq.{take-suc}

@@ -1,8 +1,7 @@
 -- What holds of every part that a text says, from what holds of the parts of a line and of a finish.
-use mathlib.Core.Path.{_≡_, refl, sym, ap, _∙_}
 use mathlib.Core.Bool.{Bool, true, false, _&&_}
 use mathlib.Core.List.{List, [], _∷_, _++_}
-use Prim.Native.Nat.{ℕ, zero, suc}
+use Prim.Native.Nat.{ℕ, suc}
 use lib.Dec.{leb, eqb}
 use lib.ListN.{length, drop}
 use Rattle.base.specs.Limits.{mostLine}

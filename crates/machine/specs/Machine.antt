@@ -1,7 +1,7 @@
 -- A text byte by byte, as a feed takes it: a byte is held until LF completes a line, and the line is read. No timescale and no map.
 use mathlib.Core.Bool.{Bool, true, false, _&&_}
 use mathlib.Core.List.{List, [], _∷_, _++_}
-use Prim.Native.Nat.{ℕ, zero, suc}
+use Prim.Native.Nat.{ℕ, suc}
 use lib.Dec.{leb, eqb}
 use lib.ListN.{length, drop}
 use Rattle.base.specs.Limits.{mostLine}

@@ -1,0 +1,122 @@
+-- What any call writes fits the output and the places that it is lent, whatever session it is given.
+use mathlib.Core.Path.{_≡_, refl}
+use mathlib.Core.Bool.{Bool, true, false}
+use mathlib.Core.List.{List, [], _∷_}
+use Prim.Native.Nat.{ℕ, zero, suc, _+_, _*_, _≤_}
+use native.Mathlib.Omega.{arith}
+use lib.Dec.{ltb}
+use lib.ListN.{length}
+use borrow.Author.Tests.{ltb-false}
+use Rattle.base.specs.Limits.{mostPiece, leastOutput, leastPlaces, mostHeld}
+use Rattle.base.proofs.Laws.{or-left}
+use Rattle.time.specs.Kind.{kindBad}
+use Rattle.segmap.specs.Segment.{segmentsOf, mapBad}
+use Rattle.event.specs.declared.setting.Config.{Config}
+use Rattle.event.specs.Says.{Part}
+use Rattle.event.specs.Emit.{Emit, Warning, outputOf, warningsOf, placesOf, emitsOf}
+use Rattle.event.proofs.FineLaws.{Set}
+use Rattle.ass.specs.declared.layout.Columns.{Columns}
+use Rattle.ass.specs.Line.{lineSays, says as lineSaid}
+use Rattle.machine.specs.Machine.{Run, going, stopped, run, finishRun}
+use Rattle.machine.specs.Session.{Session, Call, feed, finish, lentOf, argumentBad, gate, foreign, settle, resume, accepted, respond, answer}
+use Rattle.machine.proofs.Emits.{parts-none}
+use Rattle.machine.proofs.CutLaws.{cut-length}
+use Rattle.machine.proofs.Laws.{Lawful}
+use Rattle.machine.proofs.Native.{GoingOk}
+use Rattle.machine.proofs.Room.{outLen, warnLen, out-none, warn-none, GoingRoom, Room, Roomy, run-room, finish-room}
+use Rattle.kinds.specs.Takes.{State}
+use Rattle.kinds.specs.Kit.{kit}
+use Rattle.kinds.proofs.KindLaws.{known-two, lawful, lawful-fit, lawful-size, lawful-pending, size}
+use Rattle.kinds.proofs.Native.{Native, is-native}
+use Rattle.kinds.proofs.KindRoom.{Slim, ass-roomy, srt-roomy}
+
+pub record Fits (es : List Emit) : Type 0 where
+  pub out : length (outputOf es) ≤ leastOutput
+  pub places : length (placesOf (warningsOf es)) ≤ leastPlaces
+
+places-two : (ws : List Warning) → length (placesOf ws) ≡ 2 * length ws
+unfolding placesOf
+places-two [] = refl
+places-two (w ∷ ws) = omega (arith, places-two ws)
+
+fits-none : Fits []
+unfolding outputOf warningsOf placesOf
+fits-none = record { out = omega arith; places = omega arith }
+
+roomy : (kind : ℕ) (e : kindBad kind ≡ false) (c : Config) → Set c → (g : List ℕ) → mapBad g ≡ false → Roomy kit kind (lawful kind e) c (segmentsOf g) 3
+roomy zero e c set g good = ass-roomy c set g good
+roomy (suc zero) e c set g good = srt-roomy c set g good
+roomy (suc (suc k)) e c set g good = absurd (known-two k e)
+
+module _ (s : Session Columns) (N : Native s) (g : List ℕ) (good : mapBad g ≡ false) where
+  abbrev kind : ℕ
+  kind = s .config .kind
+
+  abbrev L : Lawful kit kind
+  L = lawful kind (N .kind-known)
+
+  abbrev state : State
+  state = kit .state (s .known) (s .held)
+
+  abbrev line : List ℕ
+  line = kit .open-line (s .held)
+
+  room-of : Roomy kit kind L (s .config) (segmentsOf g) 3
+  room-of = roomy kind (N .kind-known) (s .config) (record { kind-known = N .kind-known; timescale-good = N .timescale-good }) g good
+
+  held-size : L .size state + length line ≡ length (s .held)
+  held-size = omega (arith, lawful-size kind (N .kind-known) state, cut-length (s .held))
+
+  pub resume-ok : GoingOk kit kind L 1 (s .lines + length (s .held)) state (s .lines) line []
+  resume-ok =
+      record {
+        fit = lawful-fit kind (N .kind-known) state (N .holds .fit);
+        short = N .holds .short;
+        open-line = N .holds .open-line;
+        bytes = omega (arith, held-size);
+        room = omega (arith, held-size);
+        few = omega (arith, lawful-pending kind (N .kind-known) state, parts-none);
+      }
+
+  pub resume-room : GoingRoom (s .config) (segmentsOf g) (L .size) 3 (length (s .held)) state line []
+  resume-room =
+      record {
+        out = rw (out-none (s .config) (segmentsOf g), held-size) (omega arith);
+        warn = rw (warn-none (s .config) (segmentsOf g), held-size) (omega arith);
+      }
+
+  pub feed-room : (piece : List ℕ) → Room (s .config) (segmentsOf g) (L .size) 3 (length piece + length (s .held)) (run (kit .machine kind) (resume kit s) piece)
+  feed-room piece =
+      run-room kit kind L (s .config) (segmentsOf g) 3 room-of 1 (s .lines + length (s .held)) (length (s .held)) (resume kit s) piece resume-ok resume-room
+
+  pub end-room : Room (s .config) (segmentsOf g) (L .size) 3 (length (s .held)) (finishRun (kit .machine kind) (resume kit s))
+  end-room =
+      finish-room kit kind L (s .config) (segmentsOf g) 3 room-of (length (s .held)) state (s .lines) line []
+      (resume-ok .fit) (resume-ok .short) (resume-ok .open-line) resume-room
+
+  settle-fits : (t b : ℕ) (r : Run State) → Room (s .config) (segmentsOf g) (L .size) 3 b r → b ≤ mostHeld + mostPiece → Fits (settle kit s t g r .emits)
+  unfolding outLen warnLen
+  settle-fits t b (going st n h ps) x q =
+      record { out = omega (arith, x .out); places = omega (arith, x .warn, places-two (warningsOf (emitsOf (s .config) (segmentsOf g) ps))) }
+  settle-fits t b (stopped k ps) x q =
+      record { out = omega (arith, x .out); places = omega (arith, x .warn, places-two (warningsOf (emitsOf (s .config) (segmentsOf g) ps))) }
+
+accepted-fits : (s : Session Columns) → foreign kit s ≡ false → (x : Call) → mapBad (lentOf x .map) ≡ false → argumentBad (s .taken) x ≡ false → Fits (accepted kit s x .emits)
+accepted-fits s e (feed l piece) p q =
+    let N = is-native s e in
+    let short = ltb-false mostPiece (length piece) (or-left (ltb mostPiece (length piece)) _ q) in
+    settle-fits s N (l .map) p (s .taken + length piece) (length piece + length (s .held)) (run (kit .machine (s .config .kind)) (resume kit s) piece) (feed-room s N (l .map) p piece) (omega (arith, N .holds .few))
+accepted-fits s e (finish l) p q =
+    let N = is-native s e in
+    settle-fits s N (l .map) p (s .taken) (length (s .held)) (finishRun (kit .machine (s .config .kind)) (resume kit s)) (end-room s N (l .map) p) (omega (arith, N .holds .few))
+
+gate-fits : (s : Session Columns) (x : Call) (f e m a : Bool) → foreign kit s ≡ f → mapBad (lentOf x .map) ≡ m → argumentBad (s .taken) x ≡ a
+    → Fits (respond kit (gate f e m a) s x .emits)
+gate-fits s x true e m a p q r = fits-none
+gate-fits s x false true m a p q r = fits-none
+gate-fits s x false false true a p q r = fits-none
+gate-fits s x false false false true p q r = fits-none
+gate-fits s x false false false false p q r = accepted-fits s p x q r
+
+pub fits : (s : Session Columns) (x : Call) → Fits (answer kit s x .emits)
+fits s x = gate-fits s x (foreign kit s) (s .ended) (mapBad (lentOf x .map)) (argumentBad (s .taken) x) refl refl refl

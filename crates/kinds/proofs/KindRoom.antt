@@ -1,0 +1,177 @@
+-- Room: what a line or a block of either kind writes has at most three bytes for each byte that was held or came in, and at most one warning for seven.
+use mathlib.Core.Path.{_≡_, refl, sym, ap, subst, _∙_}
+use mathlib.Core.Bool.{Bool, true, false, cond, true≢false}
+use mathlib.Core.List.{List, [], _∷_, _++_}
+use Prim.Native.Nat.{ℕ, suc, _+_, _-_, _*_, _≤_, _<_}
+use native.Mathlib.Omega.{arith}
+use lib.Dec.{leb}
+use lib.ListN.{length, length-append}
+use Rattle.base.specs.Limits.{mostBlock}
+use Rattle.text.specs.Utf8.{utf8}
+use Rattle.text.specs.White.{headFrom, trimHead}
+use Rattle.text.specs.Line.{linesOf, concat, lineCount, hasLf, blank}
+use Rattle.text.proofs.LineLaws.{Finished, lines-end}
+use Rattle.segmap.specs.declared.segment.Segment.{Segment}
+use Rattle.segmap.specs.Segment.{segmentsOf, mapBad}
+use Rattle.event.specs.declared.setting.Config.{Config}
+use Rattle.event.specs.Says.{Part, stays, Fault, notUtf8}
+use Rattle.event.specs.Emit.{emitOf}
+use Rattle.event.proofs.FineLaws.{Set}
+use Rattle.ass.specs.declared.layout.Columns.{Columns}
+use Rattle.ass.specs.Line.{LineSays, lineSays, faulty as lineFaulty, says as lineSaid}
+use Rattle.ass.proofs.LineFits.{line-fits}
+use Rattle.block.specs.Style.{srt, blankIn}
+use Rattle.block.specs.Block.{BlockSays, blockSays, faulty as blockFaulty, says as blockSaid}
+use Rattle.block.proofs.Fits.{block-fits}
+use Rattle.block.proofs.FineBlock.{lines-held, lines-open}
+use Rattle.machine.specs.Machine.{Says, faulty, says}
+use Rattle.machine.proofs.Room.{outLen, warnLen, out-none, warn-none, out-cons, warn-cons, out-stay, warn-stay, RoomOf, Leaves, Roomy}
+use Rattle.kinds.specs.Takes.{State, ofLine, lineTakes, withBlock, ofBlock, closes, adds, blockTakes, takes}
+use Rattle.kinds.specs.Kit.{kit}
+use Rattle.kinds.proofs.KindLaws.{takes-ass, takes-srt, ends-ass, ends-srt, concat-snoc, size, ass-laws, srt-laws}
+
+module _ (c : Config) (m : List Segment) where
+  abbrev Of : State → List ℕ → Says State → Type 0
+  Of s l x = RoomOf c m size 3 s l x
+
+  checked : (P : Says State → Type 0) (u : Bool) (x : Says State) (f : Fault) → P (faulty f) → (u ≡ true → P x) → P (cond u x (faulty f))
+  checked P true x f a h = h refl
+  checked P false x f a h = a
+
+  -- a part that is small beside n bytes
+  pub record Slim (n : ℕ) (p : Part) : Type 0 where
+    pub output : length (emitOf c m p .out) ≤ 3 * n
+    pub warned : 7 * length (emitOf c m p .warnings) ≤ n
+
+-- ---- ASS
+module _ (c : Config) (set : Set c) (g : List ℕ) (good : mapBad g ≡ false) where
+  abbrev assMap : List Segment
+  assMap = segmentsOf g
+
+  said-room : (s : State) (n : ℕ) (l : List ℕ) (x : LineSays) → lineSays (s .columns) n l ≡ x → Of c assMap s l (ofLine s x)
+  said-room s n l (lineFaulty f) e = tt
+  said-room s n l (lineSaid d p) e =
+      let z = line-fits c set g good (s .columns) n l d p e in
+      record {
+        out = rw (out-cons c assMap p [], out-none c assMap) (omega (arith, z .output));
+        warn = rw (warn-cons c assMap p [], warn-none c assMap) (omega (arith, z .warned-long));
+      }
+
+  ass-step : (s : State) (n : ℕ) (l : List ℕ) → Of c assMap s l (lineTakes s n l)
+  unfolding lineTakes
+  ass-step s n l = checked c assMap (Of c assMap s l) (utf8 l) (ofLine s (lineSays (s .columns) n l)) notUtf8 tt (λ e. said-room s n l (lineSays (s .columns) n l) refl)
+
+  no-last : (x : Says State) → Leaves (λ s. Unit {0}) x
+  no-last (faulty f) = tt
+  no-last (says t ps) = tt
+
+  pub ass-roomy : Roomy kit 0 ass-laws c assMap 3
+  ass-roomy =
+      record {
+        positive = omega arith;
+        Last = λ s. Unit {0};
+        fit-last = λ s f. tt;
+        steps = λ s n l f h. subst (Of c assMap s l) (sym (takes-ass s n l)) (ass-step s n l);
+        lasts = λ s n l f h e. no-last (takes 0 s n l);
+        closes =
+            λ s n z. subst (Of c assMap s []) (sym (ends-ass s n))
+            (record { out = rw (out-none c assMap) (omega arith); warn = rw (warn-none c assMap) (omega arith) });
+      }
+
+-- ---- SRT
+-- the held lines are the lines of the held bytes
+abbrev pub Parsed : State → Type 0
+Parsed s = linesOf (concat (s .block)) ≡ s .block
+
+parsed-none : (s : State) → Parsed (withBlock [] s)
+parsed-none s = lines-end [] (omega arith)
+
+not-empty : (l : List ℕ) → blankIn 1 l ≡ false → 0 < length l
+unfolding blankIn blank trimHead headFrom
+not-empty [] e = absurd (true≢false e)
+not-empty (b ∷ l) e = omega arith
+
+parsed-more : (s : State) (l : List ℕ) → Finished (s .block) → blankIn 1 l ≡ false → hasLf l ≡ false → Parsed (withBlock (s .block ++ (l ∷ [])) s)
+parsed-more s l f b e = ap linesOf (concat-snoc (s .block) l) ∙ lines-open (s .block) f l (not-empty l b) e
+
+last-block : (s : State) (more : List Part) (x : BlockSays) → Leaves Parsed (ofBlock s more x)
+last-block s more (blockFaulty f) = tt
+last-block s more (blockSaid p) = parsed-none s
+
+last-closes : (s : State) (n : ℕ) (b : List (List ℕ)) (more : List Part) → Leaves Parsed (closes srt s n b more)
+last-closes s n [] more = parsed-none s
+last-closes s n (k ∷ ks) more = last-block s more (blockSays srt (suc n - lineCount (k ∷ ks)) (k ∷ ks))
+
+last-adds : (t : Bool) (s : State) (l : List ℕ) → Finished (s .block) → blankIn 1 l ≡ false → hasLf l ≡ false → Leaves Parsed (adds t s l)
+last-adds true s l f b e = parsed-more s l f b e
+last-adds false s l f b e = tt
+
+last-blank : (t : Bool) (s : State) (n : ℕ) (l : List ℕ) → Finished (s .block) → blankIn 1 l ≡ t → hasLf l ≡ false
+    → Leaves Parsed (cond t (closes srt s n (s .block) (stays l ∷ [])) (adds (leb (length (concat (s .block)) + length l) mostBlock) s l))
+last-blank true s n l f b e = last-closes s n (s .block) (stays l ∷ [])
+last-blank false s n l f b e = last-adds (leb (length (concat (s .block)) + length l) mostBlock) s l f b e
+
+srt-last : (s : State) (n : ℕ) (l : List ℕ) → Finished (s .block) → hasLf l ≡ false → Leaves Parsed (blockTakes srt s n l)
+unfolding blockTakes
+srt-last s n l f e = checked-last (utf8 l) _ (last-blank (blankIn 1 l) s n l f refl e)
+  where
+    checked-last : (u : Bool) (x : Says State) → Leaves Parsed x → Leaves Parsed (cond u x (faulty notUtf8))
+    checked-last true x a = a
+    checked-last false x a = tt
+
+module _ (c : Config) (set : Set c) (g : List ℕ) (good : mapBad g ≡ false) where
+  abbrev m : List Segment
+  m = segmentsOf g
+
+  block-slim : (first : ℕ) (ls : List (List ℕ)) (p : Part) → linesOf (concat ls) ≡ ls → blockSays srt first ls ≡ blockSaid p → Slim c m (length (concat ls)) p
+  block-slim first ls p e q =
+      let z = block-fits c set g good first (concat ls) p (ap (blockSays srt first) e ∙ q) in
+      record { output = z .output; warned = z .warned-long }
+
+  -- a block that a line or a finish ends
+  block-room : (s : State) (l : List ℕ) (more : List Part) (first : ℕ) (x : BlockSays) → Parsed s → blockSays srt first (s .block) ≡ x
+      → outLen c m more ≤ 3 * length l → warnLen c m more ≡ 0 → Of c m s l (ofBlock s more x)
+  block-room s l more first (blockFaulty f) h e o w = tt
+  block-room s l more first (blockSaid p) h e o w =
+      let z = block-slim first (s .block) p h e in
+      record {
+        out = rw (out-cons c m p more) (omega (arith, z .output));
+        warn = rw (warn-cons c m p more) (omega (arith, z .warned));
+      }
+
+  closes-room : (s : State) (n : ℕ) (l : List ℕ) (b : List (List ℕ)) (more : List Part) → s .block ≡ b → Parsed s
+      → outLen c m more ≤ 3 * length l → warnLen c m more ≡ 0 → Of c m s l (closes srt s n b more)
+  closes-room s n l [] more e h o w = record { out = omega arith; warn = omega arith }
+  closes-room s n l (k ∷ ks) more e h o w =
+      block-room s l more (suc n - lineCount (k ∷ ks)) (blockSays srt (suc n - lineCount (k ∷ ks)) (k ∷ ks)) h
+      (ap (blockSays srt (suc n - lineCount (k ∷ ks))) e) o w
+
+  adds-room : (t : Bool) (s : State) (l : List ℕ) → Of c m s l (adds t s l)
+  adds-room true s l =
+      let k : length (concat (s .block ++ (l ∷ []))) ≡ length (concat (s .block)) + length l = ap length (concat-snoc (s .block) l) ∙ length-append (concat (s .block)) l in
+      record { out = rw (out-none c m) (omega arith); warn = rw (warn-none c m) (omega arith) }
+  adds-room false s l = tt
+
+  blank-room : (t : Bool) (s : State) (n : ℕ) (l : List ℕ) → Parsed s
+      → Of c m s l (cond t (closes srt s n (s .block) (stays l ∷ [])) (adds (leb (length (concat (s .block)) + length l) mostBlock) s l))
+  blank-room true s n l h =
+      let o : outLen c m (stays l ∷ []) ≤ 3 * length l = rw (out-stay c m l [], out-none c m) (omega arith) in
+      closes-room s n l (s .block) (stays l ∷ []) refl h o (warn-stay c m l [] ∙ warn-none c m)
+  blank-room false s n l h = adds-room (leb (length (concat (s .block)) + length l) mostBlock) s l
+
+  srt-step : (s : State) (n : ℕ) (l : List ℕ) → Parsed s → Of c m s l (blockTakes srt s n l)
+  unfolding blockTakes
+  srt-step s n l h = checked c m (Of c m s l) (utf8 l) _ notUtf8 tt (λ e. blank-room (blankIn 1 l) s n l h)
+
+  pub srt-roomy : Roomy kit 1 srt-laws c m 3
+  srt-roomy =
+      record {
+        positive = omega arith;
+        Last = Parsed;
+        fit-last = λ s f. lines-held (s .block) (f .block);
+        steps = λ s n l f h. subst (Of c m s l) (sym (takes-srt s n l)) (srt-step s n l (lines-held (s .block) (f .block)));
+        lasts = λ s n l f h e. subst (Leaves Parsed) (sym (takes-srt s n l)) (srt-last s n l (f .block) e);
+        closes =
+            λ s n h. subst (Of c m s []) (sym (ends-srt s n))
+            (closes-room s n [] (s .block) [] refl h (rw (out-none c m) (omega arith)) (warn-none c m));
+      }
