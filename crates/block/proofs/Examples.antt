@@ -1,6 +1,7 @@
 -- Worked examples, by computation: what blocks say by their text, and what they become through the map of document 01's small proofs.
 use Prim.Native.Nat.{ℕ}
 use Rattle.base.specs.Ascii.{ascii}
+use Prim.Native.String.{String}
 use mathlib.Core.Path.{_≡_, refl}
 use mathlib.Core.List.{List, [], _∷_, _++_}
 use Rattle.base.specs.Part.{last}

@@ -16,9 +16,10 @@ use Rattle.text.specs.Line.{ontoFirst, terminatorLength, textOf, terminatorOf}
 use Rattle.time.specs.Read.{timeIn}
 use Rattle.time.specs.declared.read.Time.{Time}
 use Rattle.time.specs.declared.read.Time.the-variants.{At, Bad}
-use Rattle.ass.specs.declared.layout.Columns.{Columns}
-use Rattle.ass.specs.Columns.{comma, startName, endName, namesIn, further, placeIn, columnsIn, fields, fieldAt}
-use Rattle.ass.specs.Line.{formatWord, dialogueWord, commentWord, eventsName, bracketed, inside, inSection, timesSay, captionSays, wordSays, textSays, lineSays, LineSays, faulty, says}
+use Rattle.assline.specs.declared.layout.Columns.{Columns}
+use Rattle.assline.specs.Columns.{comma, startName, endName, namesIn, further, placeIn, columnsIn, fields, fieldAt}
+use Rattle.ass.specs.Line.{formatWord, dialogueWord, commentWord, timesSay, captionSays, wordSays, textSays, lineSays, LineSays, faulty, says}
+use Rattle.assline.specs.Section.{eventsName, bracketed, inside, inSection}
 use Rattle.kinds.specs.Takes.{noColumns}
 use Rattle.kinds.specs.Kit.{columnsBad}
 

@@ -16,9 +16,11 @@ use Rattle.text.specs.Line.{linesOf, textOf, terminatorLength, terminatorOf, bl
 use Rattle.time.specs.Kind.{kindBad, unitsOf, markOf}
 use Rattle.time.specs.Read.{timeWith, timeIn}
 use Rattle.event.specs.Says.{Piece, bytes, start, stop, unplaced, Cue, stays, passes, cue}
-use Rattle.ass.specs.Columns.{namesIn, placeIn, columnsIn, fields, fieldAt}
-use Rattle.ass.specs.Tags.{holdsAny}
-use Rattle.ass.specs.Line.{bracketed, inside, pieceAt, fieldPieces, captionSays, wordSays, textSays, lineSays}
+use Rattle.assline.specs.Columns.{namesIn, placeIn, columnsIn, fields, fieldAt}
+use Rattle.assline.specs.Tags.{holdsAny}
+use Rattle.ass.specs.Line.{captionSays, wordSays, textSays, lineSays}
+use Rattle.assline.specs.Section.{bracketed, inside}
+use Rattle.assline.specs.Frame.{pieceAt, fieldPieces}
 use Rattle.block.specs.Style.{blankIn, srtEnd}
 use Rattle.block.specs.Block.{blockFrame, blockCue, timingOf, afterArrow, lineSays as blockLineSays, blockSays}
 use Rattle.machine.specs.Machine.{bom}

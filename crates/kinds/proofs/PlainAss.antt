@@ -12,8 +12,9 @@ use Rattle.text.specs.Utf8.{utf8}
 use Rattle.text.specs.White.{trim}
 use Rattle.text.specs.Line.{textOf}
 use Rattle.event.specs.Says.{notUtf8}
-use Rattle.ass.specs.declared.layout.Columns.{Columns}
-use Rattle.ass.specs.Line.{LineSays, textSays, lineSays, bracketed, faulty as lineFaulty, says as lineSaid}
+use Rattle.assline.specs.declared.layout.Columns.{Columns}
+use Rattle.ass.specs.Line.{LineSays, textSays, lineSays, faulty as lineFaulty, says as lineSaid}
+use Rattle.assline.specs.Section.{bracketed}
 use Rattle.machine.specs.Machine.{Machine, Says, faulty}
 use Rattle.machine.specs.Reader.{Reading, fails, _⊕_, readLine, readClose}
 use Rattle.kinds.specs.Takes.{State, noColumns, blankState, ofLine, lineTakes, takes, machineOf}

@@ -7,7 +7,7 @@ use lib.ListN.{length}
 use Rattle.base.specs.Limits.{mostLine, mostBlock, mostColumns}
 use Rattle.text.specs.Utf8.{utf8}
 use Rattle.text.specs.Line.{concat, hasLf}
-use Rattle.ass.specs.declared.layout.Columns.{Columns}
+use Rattle.assline.specs.declared.layout.Columns.{Columns}
 use Rattle.block.specs.Style.{blankIn}
 use Rattle.machine.specs.Cut.{closedLines, unfinished}
 use Rattle.machine.specs.Session.{Kit}

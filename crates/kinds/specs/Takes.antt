@@ -8,7 +8,7 @@ use Rattle.base.specs.Limits.{mostBlock}
 use Rattle.text.specs.Utf8.{utf8}
 use Rattle.text.specs.Line.{concat, lineCount}
 use Rattle.event.specs.Says.{Part, stays, notUtf8, longBlock}
-use Rattle.ass.specs.declared.layout.Columns.{Columns}
+use Rattle.assline.specs.declared.layout.Columns.{Columns}
 use Rattle.ass.specs.Line.{LineSays, lineSays, faulty as lineFaulty, says as lineSaid}
 use Rattle.block.specs.Style.{Style, srt}
 use Rattle.block.specs.Block.{BlockSays, blockSays, faulty as blockFaulty, says as blockSaid}

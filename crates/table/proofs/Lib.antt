@@ -1,2 +1,0 @@
-pub mod TheMap
-pub mod Table
