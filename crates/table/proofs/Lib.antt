@@ -1,0 +1,2 @@
+pub mod TheMap
+pub mod Table

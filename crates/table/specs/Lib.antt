@@ -1,0 +1,2 @@
+-- The example that document 01's table is computed on.
+pub mod Example
