@@ -1,2 +1,3 @@
 pub mod TheMap
 pub mod Table
+pub mod Rows
