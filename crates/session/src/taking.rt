@@ -6,7 +6,7 @@ use machine::Counts;
 ghost use mathlib.Core.Path.{_≡_};
 ghost use mathlib.Core.Bool.{true, false, cond};
 ghost use mathlib.Core.List.{[]};
-ghost use Prim.Native.Nat.{_≤_, _+_, _-_, _*_, _^_, suc};
+ghost use Prim.Native.Nat.{_≤_, _<_, _+_, _-_, _*_, _^_, suc};
 ghost use lib.Dec.{eqb};
 ghost use lib.ListN.{length, take, drop};
 ghost use Rattle.base.specs.Put.{put};
@@ -121,7 +121,7 @@ fn ass_line(
 ) -> Taken
     requires { ⌜ Ready config (now map) × (n ≤ 2 ^ 31) × Below counts (2 ^ 31) × (3 * length (now line) ≤ length (now out)) × (4 ≤ length (now warnings)) ⌝ }
     ensures { λ r. ⌜ ((s : State) → columns ≡ s .columns → s .block ≡ [] → Done config (now (map .entry)) s (now (line .entry)) (lineTakes s n (now (line .entry))) counts r (now (out .entry)) (now (out .exit)) (now (warnings .entry)) (now (warnings .exit))) ⌝ }
-    ensures { λ r. ⌜ (r .written ≤ length (now (out .entry))) × (r .warned ≤ length (now (warnings .entry))) ⌝ }
+    ensures { λ r. ⌜ (r .skip ≡ 0) × (r .written ≤ length (now (out .entry))) × (r .warned ≤ length (now (warnings .entry))) ⌝ }
 {
     if !text::is_utf8(line) {
         return quiet(20, false, counts, columns);
@@ -201,7 +201,7 @@ fn srt_line(
 ) -> Taken
     requires { ⌜ Ready config (now map) × (n ≤ 2 ^ 31) × Below counts (2 ^ 31) × (length (now block) ≤ 4096) × (length (now line) ≤ 4096) × (3 * (length (now block) + length (now line)) ≤ length (now out)) × (4 ≤ length (now warnings)) ⌝ }
     ensures { λ r. ⌜ ((s : State) → columns ≡ s .columns → now (block .entry) ≡ concat (s .block) → Parsed false (s .block) → Done config (now (map .entry)) s (now (line .entry)) (blockTakes srt s n (now (line .entry))) counts r (now (out .entry)) (now (out .exit)) (now (warnings .entry)) (now (warnings .exit))) ⌝ }
-    ensures { λ r. ⌜ (r .written ≤ length (now (out .entry))) × (r .warned ≤ length (now (warnings .entry))) ⌝ }
+    ensures { λ r. ⌜ (r .skip ≡ 0) × (r .written ≤ length (now (out .entry))) × (r .warned ≤ length (now (warnings .entry))) ⌝ }
 {
     if !text::is_utf8(line) {
         return quiet(20, false, counts, columns);
@@ -244,7 +244,7 @@ fn any_line(
 ) -> Taken
     requires { ⌜ Ready config (now map) × (n ≤ 2 ^ 31) × Below counts (2 ^ 31) × (s ≤ 4096) × (s ≤ a) × (a ≤ length (now held)) × (length (now held) ≤ a + 4096) × (3 * length (now held) ≤ length (now out) + 3 * (a - s)) × (4 ≤ length (now warnings)) ⌝ }
     ensures { λ r. ⌜ ((t : State) → columns ≡ t .columns → take s (now (held .entry)) ≡ concat (t .block) → Parsed (eqb (config .kind) 0) (t .block) → Done config (now (map .entry)) t (drop a (now (held .entry))) (takes (config .kind) t n (drop a (now (held .entry)))) counts r (now (out .entry)) (now (out .exit)) (now (warnings .entry)) (now (warnings .exit))) ⌝ }
-    ensures { λ r. ⌜ (r .written ≤ length (now (out .entry))) × (r .warned ≤ length (now (warnings .entry))) ⌝ }
+    ensures { λ r. ⌜ (r .skip ≡ 0) × (r .written ≤ length (now (out .entry))) × (r .warned ≤ length (now (warnings .entry))) ⌝ }
 {
     if config.kind == 0 {
         return ass_line(config, map, n, counts, columns, &held[a..], out, warnings);
@@ -314,7 +314,7 @@ pub fn take_line(
 
 // A line that passed behind a BOM.
 fn behind_bom(told: Taken) -> Taken
-    requires { ⌜ told .written + 3 ≤ 2 ^ 32 ⌝ }
+    requires { ⌜ 3 + told .written < 2 ^ 64 ⌝ }
     ensures { λ r. ⌜ r ≡ record { number = 0; skip = 3; added = told .added; counts = told .counts; columns = told .columns; written = 3 + told .written; warned = told .warned } ⌝ }
 {
     let counts = told.counts;

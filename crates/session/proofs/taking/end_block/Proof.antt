@@ -1,0 +1,58 @@
+use borrow.Author.Needs.{needs}
+use Rattle.session.proofs.taking.end_block.Statement.{statement}
+use Rattle.session.proofs.taking.end_block.Tie as tie
+use Rattle.session.proofs.taking.end_block.Reads as reads
+use Rattle.session.proofs.taking.end_block.Lts as lts
+use Rattle.block.proofs.block.Reads as block-reads
+use Rattle.session.proofs.taking.count.Reads as count-reads
+use Rattle.session.proofs.taking.first_line.Reads as first-line-reads
+use Rattle.session.proofs.taking.lines_in.Reads as lines-in-reads
+
+returns : tie.Need-returns
+returns c = ?
+
+lines-in-requires : tie.Need-lines-in-requires
+lines-in-requires c κs = search needs
+
+first-line-requires : tie.Need-first-line-requires
+first-line-requires c κs = search needs
+
+block-requires : tie.Need-block-requires
+block-requires c κs = search needs
+
+same-length : tie.Need-same-length
+same-length c = search needs
+
+same-length-2 : tie.Need-same-length-2
+same-length-2 c = search needs
+
+returns-2 : tie.Need-returns-2
+returns-2 c = ?
+
+count-requires : tie.Need-count-requires
+count-requires c κs = search needs
+
+same-length-3 : tie.Need-same-length-3
+same-length-3 c = search needs
+
+same-length-4 : tie.Need-same-length-4
+same-length-4 c = search needs
+
+returns-3 : tie.Need-returns-3
+returns-3 c = ?
+
+pub end-block-spec : {M : Type 1} → statement M
+end-block-spec =
+    tie.close
+    (tie.spec
+    returns
+    lines-in-requires
+    first-line-requires
+    block-requires
+    same-length
+    same-length-2
+    returns-2
+    count-requires
+    same-length-3
+    same-length-4
+    returns-3)
