@@ -10,7 +10,7 @@ use lib.ListN.{length, take, drop, length-append, length-drop}
 use borrow.Author.Tests.{le-leb, lt-leb, eq-eqb, ne-eqb}
 use Rattle.base.specs.Limits.{mostBlock}
 use Rattle.base.specs.Put.{put, placedAt, placeAfter}
-use Rattle.base.proofs.PutLaws.{put-nil, then-placed}
+use Rattle.base.proofs.PutLaws.{put-nil, after-yes, then-placed}
 use Rattle.text.specs.Utf8.{utf8}
 use Rattle.text.specs.Line.{concat, linesOf, lineCount, lineLength}
 use Rattle.text.proofs.LineLaws.{line-some, line-le, lines-cut, lines-end}
@@ -97,6 +97,12 @@ tells-fits a r o o′ w w′ h p q =
 
 pub quiet-small : (r : Taken) (k : ℕ) (a : Bool) (t : Counts) (c : Columns) (x y : ℕ) → r ≡ quietLine k a t c → (r .skip ≡ 0) × (r .written ≤ x) × (r .warned ≤ y)
 quiet-small r k a t c x y e = rw e (refl, omega arith, omega arith)
+
+-- a block's end, with a blank line behind it, fits
+pub blank-fits : (block l o o′ : List ℕ) (i j : ℕ) → length o′ ≡ length o → 3 * (length block + length l) ≤ length o → i ≤ 3 * length block → j ≡ placeAfter i l o′ → j ≤ length o
+blank-fits block l o o′ i j k h f e =
+    let r : i + length l ≤ length o′ = omega arith in
+    omega (arith, e ∙ after-yes i l o′ r)
 
 module _ (c : Config) (m : List ℕ) where
   counts-none : (t : Counts) → t ≡ countAll t (emitted c m [])

@@ -1,3 +1,9 @@
+use mathlib.Core.Path.{refl, sym}
+use native.Mathlib.Omega.{arith}
+use lib.ListN.{length-take, length-drop}
+use lib.Seq.{length-take-le}
+use Rattle.session.proofs.TakenLaws.{any-ass, any-srt}
+use Rattle.session.proofs.BomLaws.{rest-all}
 use borrow.Author.Needs.{needs}
 use Rattle.session.proofs.taking.any_line.Statement.{statement}
 use Rattle.session.proofs.taking.any_line.Tie as tie
@@ -25,10 +31,13 @@ same-length-2 : tie.Need-same-length-2
 same-length-2 c = search needs
 
 returns : tie.Need-returns
-returns c = ?
+returns c = 
+    let a = c .before .before .before .before .before .before .before .before .before .before .before .before .before .before .args in
+    let e = c .before .before .before .before .ass-line .ensures in
+    (λ t p b q. any-ass (a .config) (a .map .now) (a .n) (a .counts) (a .columns) (a .held .now) (a .s) (a .a) _ _ _ _ _ _ (c .before .before .before .before .before .before .before .before .if1 .taken) (rest-all (a .a) (a .held .now)) (e .0) t p b q, e .1)
 
 slice-aggregate-srt-line : tie.Need-slice-aggregate-srt-line
-slice-aggregate-srt-line c = search needs
+slice-aggregate-srt-line c = sym (length-take-le _ _ (omega arith))
 
 sub-srt-line : tie.Need-sub-srt-line
 sub-srt-line c = search needs
@@ -40,7 +49,9 @@ part-srt-line-end : tie.Need-part-srt-line-end
 part-srt-line-end c = search needs
 
 srt-line-requires : tie.Need-srt-line-requires
-srt-line-requires c κs = search needs
+srt-line-requires c κs = 
+    let r = c .before .before .before .before .before .before .before .before .before .before .pre in
+    (r .0, r .1, r .2, simp length-take (omega arith), simp (length-take, length-drop) (omega arith), simp (length-take, length-drop) (omega arith), omega arith)
 
 same-length-3 : tie.Need-same-length-3
 same-length-3 c = search needs
@@ -49,7 +60,10 @@ same-length-4 : tie.Need-same-length-4
 same-length-4 c = search needs
 
 returns-2 : tie.Need-returns-2
-returns-2 c = ?
+returns-2 c = 
+    let a = c .before .before .before .before .before .before .before .before .before .before .before .before .before .before .before .args in
+    let e = c .before .before .before .before .srt-line .ensures in
+    (λ t p b q. any-srt (a .config) (a .map .now) (a .n) (a .counts) (a .columns) (a .held .now) (a .s) (a .a) _ _ _ _ _ _ _ (c .before .before .before .before .before .before .before .before .before .if1 .left) refl (rest-all (a .a) (a .held .now)) (e .0) t p b q, e .1)
 
 pub any-line-spec : {M : Type 1} → statement M
 any-line-spec =
