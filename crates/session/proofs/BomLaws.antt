@@ -2,7 +2,7 @@
 use mathlib.Core.Path.{_≡_, refl, sym, ap, subst, _∙_}
 use mathlib.Core.Bool.{Bool, true, false, cond, _&&_}
 use mathlib.Core.List.{List, [], _∷_, _++_}
-use Prim.Native.Nat.{ℕ, _+_, _-_, _≤_, _<_}
+use Prim.Native.Nat.{ℕ, _+_, _-_, _≤_}
 use native.Mathlib.Omega.{arith}
 use lib.Dec.{eqb}
 use lib.ListN.{length, take, drop, set, length-append, length-drop}
@@ -45,6 +45,14 @@ pub bom-none : (n : ℕ) (l : List ℕ) (b : Bool) → n ≡ 0 → b ≡ hasBom 
 unfolding bomSize
 bom-none n l b h e f = let g : hasBom l ≡ false = sym e ∙ f in rw (eq-eqb n 0 h, g)
 
+pub bom-is : (n k : ℕ) (l : List ℕ) → k ≡ bomSize n l → (k ≡ 0 → ⊥) → k ≡ 3
+unfolding bomSize
+bom-is n k l e h = go (eqb n 0 && hasBom l) e
+  where
+    go : (b : Bool) → k ≡ cond b 3 0 → k ≡ 3
+    go true j = j
+    go false j = absurd (h j)
+
 pub bom-fits : (l : List ℕ) (b : Bool) → b ≡ hasBom l → b ≡ true → 3 ≤ length l
 bom-fits l b e f = omega (arith, bom-length l (sym e ∙ f))
 
@@ -62,10 +70,17 @@ unfolding putAt
 bom-before v l h =
     let e : length (take 3 l) ≡ 3 = length-take-le 3 l h in
     let f : drop 3 (take 3 l ++ put v (drop 3 l)) ≡ put v (drop 3 l) =
-        ap (λ (n : ℕ). drop n (take 3 l ++ put v (drop 3 l))) (sym e) ∙ drop-append-seam (take 3 l) (put v (drop 3 l)) in
+    ap (λ (n : ℕ). drop n (take 3 l ++ put v (drop 3 l))) (sym e) ∙ drop-append-seam (take 3 l) (put v (drop 3 l)) in
     seam (put v (drop 3 l)) (take 3 l ++ put v (drop 3 l)) f ∙ put-append bom v l
 
 -- ---- a line behind one
+abbrev pub behindLine : Taken → Taken
+behindLine r = record { number = 0; skip = 3; added = r .added; counts = r .counts; columns = r .columns; written = 3 + r .written; warned = r .warned }
+
+pub behind-fits : (u r : Taken) (x y z : ℕ) → u ≡ behindLine r → 3 ≤ x → 3 + r .written ≤ y → r .warned ≤ z
+    → (u .number ≡ 0 → u .skip ≤ x) × (u .written ≤ y) × (u .warned ≤ z)
+behind-fits u r x y z e h i j = rw e (λ _. h, i, j)
+
 module _ (c : Config) (m : List ℕ) where
   bom-output : (ps : List Part) → outputOf (emitted c m (stays bom ∷ ps)) ≡ bom ++ outputOf (emitted c m ps)
   unfolding emitsOf emitBy outputOf
@@ -158,11 +173,8 @@ module _ (c : Config) (m : List ℕ) where
               block = g .block;
             }
 
-    abbrev pub behindLine : Taken
-    behindLine = record { number = 0; skip = 3; added = r .added; counts = r .counts; columns = r .columns; written = 3 + r .written; warned = r .warned }
-
     bom-said : (l : List ℕ) (x : Says State) (z : List ℕ) → Done c m t (drop 3 l) x q r (tail 3) y w w′ → r .number ≡ 0 → r .skip ≡ 0 → 3 ≤ length out → z ≡ put bom (back 3)
-        → Done c m t l (withBom x) q behindLine out z w w′
+        → Done c m t l (withBom x) q (behindLine r) out z w w′
     bom-said l (faulty f) z d e k h p = absurd (fault-some f (sym (d .number) ∙ e))
     bom-said l (says u ps) z d e k h p =
         record {
@@ -182,11 +194,11 @@ module _ (c : Config) (m : List ℕ) where
 
     -- a BOM
     pub take-behind : (k : ℕ) (u : Taken) (z : List ℕ) → k ≡ bomSize n (take (length held - s) (drop s held)) → Behind k → r .number ≡ 0 → (k ≡ 0 → ⊥) → r .skip ≡ 0
-        → k ≤ length out → z ≡ put bom (back k) → u ≡ behindLine → TakenSo u z
+        → k ≤ length out → z ≡ put bom (back k) → u ≡ behindLine r → TakenSo u z
     unfolding bomSize
     take-behind k u z e d f i v h p a = rw a (go (eqb n 0 && hasBom (drop s held)) (size-is k e))
       where
-        go : (b : Bool) → k ≡ cond b 3 0 → Done c m t (drop s held) (lineWith (machineOf (c .kind)) b t n (drop s held)) q behindLine out z w w′
+        go : (b : Bool) → k ≡ cond b 3 0 → Done c m t (drop s held) (lineWith (machineOf (c .kind)) b t n (drop s held)) q (behindLine r) out z w w′
         go true j =
             bom-said (drop s held) (takes (c .kind) t n (drop 3 (drop s held))) z
             (subst (λ (i : ℕ). Done c m t (drop i (drop s held)) (takes (c .kind) t n (drop i (drop s held))) q r (tail i) y w w′) j (behind-line k d))

@@ -1,11 +1,11 @@
 -- Laws of one line: what the code told is what the line says, put through the map.
 use mathlib.Core.Path.{_≡_, refl, sym, ap, subst, _∙_}
-use mathlib.Core.Bool.{Bool, true, false, cond, true≢false}
+use mathlib.Core.Bool.{Bool, true, false, true≢false}
 use mathlib.Core.List.{List, [], _∷_, _++_, append-nil}
 use Prim.Native.Nat.{ℕ, suc, _+_, _-_, _*_, _≤_, _<_}
 use native.Mathlib.Omega.{arith}
 use native.Mathlib.Numerals.{add-one}
-use lib.Dec.{eqb, leb}
+use lib.Dec.{eqb}
 use lib.ListN.{length, take, drop, length-append, length-drop}
 use borrow.Author.Tests.{le-leb, lt-leb, eq-eqb, ne-eqb}
 use Rattle.base.specs.Limits.{mostBlock}
@@ -13,15 +13,15 @@ use Rattle.base.specs.Put.{put, placedAt, placeAfter}
 use Rattle.base.proofs.PutLaws.{put-nil, after-yes, then-placed}
 use Rattle.text.specs.Utf8.{utf8}
 use Rattle.text.specs.Line.{concat, linesOf, lineCount, lineLength}
-use Rattle.text.proofs.LineLaws.{line-some, line-le, lines-cut, lines-end}
-use Rattle.segmap.specs.Segment.{segmentsOf, mapBad}
+use Rattle.text.proofs.LineLaws.{line-some, lines-cut, lines-end}
+use Rattle.segmap.specs.Segment.{segmentsOf}
 use Rattle.event.specs.declared.setting.Config.{Config}
 use Rattle.event.specs.declared.telling.Told.{Told}
 use Rattle.event.specs.declared.telling.Counted.{Counted}
-use Rattle.event.specs.declared.telling.Counted.the-variants.{Nothing, Passed, Dropped, Shifted, Clipped}
+use Rattle.event.specs.declared.telling.Counted.the-variants.{Passed, Dropped, Shifted, Clipped}
 use Rattle.event.specs.Fates.{passed, dropped, shifted, clipped}
 use Rattle.event.specs.Says.{Part, stays, Fault, notUtf8, longBlock, faultNumber}
-use Rattle.event.specs.Emit.{Warning, Caption, none, decided, Emit, emitBy, emitOf, emitsOf, outputOf, warningsOf, placesOf}
+use Rattle.event.specs.Emit.{Warning, Caption, none, decided, emitBy, emitOf, emitsOf, outputOf, warningsOf, placesOf}
 use Rattle.event.specs.Told.{Answer, refusal, answered, countedOf, Tells}
 use Rattle.event.proofs.FineLaws.{Set}
 use Rattle.assline.specs.declared.layout.Columns.{Columns}
@@ -35,11 +35,11 @@ use Rattle.block.proofs.FineBlock.{block-fine}
 use Rattle.block.proofs.Fits.{block-in-fits}
 use Rattle.machine.specs.declared.counting.Counts.{Counts}
 use Rattle.machine.specs.Counts.{count, countAll}
-use Rattle.machine.specs.Machine.{faulty, says}
+use Rattle.machine.specs.Machine.{faulty}
 use Rattle.machine.specs.Session.{emitted}
 use Rattle.machine.proofs.Emits.{emits-append, output-append, warnings-append, count-append}
 use Rattle.machine.proofs.Resume.{fault-number}
-use Rattle.kinds.specs.Takes.{State, blankState, ofLine, lineTakes, ofBlock, closes, adds, blockTakes, takes}
+use Rattle.kinds.specs.Takes.{State, blankState, ofLine, lineTakes, ofBlock, closes, blockTakes, takes}
 use Rattle.session.specs.declared.taking.Taken.{Taken}
 use Rattle.session.specs.declared.taking.Ended.{Ended}
 use Rattle.session.specs.Taken.{Ready, Parsed, countBy, quietLine, Wrote, Ends, Done}
@@ -240,7 +240,7 @@ module _ (c : Config) (m : List ℕ) where
         record { number = refl; counts = e ∙ part-counted p x t o o′ w w′ g; wrote = part-wrote p x o o′ w w′ g }
 
     module _ (x : Told) (k first : ℕ) (o o′ w w′ : List ℕ) (d : Ready c m) (h : 3 * length b ≤ length o) (i : 4 ≤ length w) (some : length b ≡ 0 → ⊥)
-      (e : k ≡ lineCount (linesOf b)) (f : first ≡ suc n - k) (g : Tells (blockIn c (segmentsOf m) first b (length o) (length w)) x o o′ w w′) where
+        (e : k ≡ lineCount (linesOf b)) (f : first ≡ suc n - k) (g : Tells (blockIn c (segmentsOf m) first b (length o) (length w)) x o o′ w w′) where
       long : 0 < length b
       long = omega (arith, some)
 
@@ -257,9 +257,10 @@ module _ (c : Config) (m : List ℕ) where
     -- at most three bytes for each of the block
     pub end-fits : (x : Told) (first : ℕ) (o o′ w w′ : List ℕ) → Tells (blockIn c (segmentsOf m) first b (length o) (length w)) x o o′ w w′ → length w′ ≡ length w
         → (x .written ≤ 3 * length b) × (x .warned ≤ length w)
-    end-fits x first o o′ w w′ g p =
-        (omega (arith, g .written, block-in-fits c (segmentsOf m) first b (length o) (length w) .output),
-        omega (arith, g .warned, put-fits (placesOf (blockIn c (segmentsOf m) first b (length o) (length w) .emitted .warnings)) w w′ (g .warnings) p))
+    end-fits x first o o′ w w′ g p = (
+      omega (arith, g .written, block-in-fits c (segmentsOf m) first b (length o) (length w) .output),
+      omega (arith, g .warned, put-fits (placesOf (blockIn c (segmentsOf m) first b (length o) (length w) .emitted .warnings)) w w′ (g .warnings) p),
+    )
 
   -- ---- an SRT line
   module _ (l : List ℕ) where

@@ -4,7 +4,7 @@ use event::Config;
 use event::Counted;
 use machine::Counts;
 ghost use mathlib.Core.Path.{_≡_};
-ghost use mathlib.Core.Bool.{true, false, cond};
+ghost use mathlib.Core.Bool.{false};
 ghost use mathlib.Core.List.{[]};
 ghost use Prim.Native.Nat.{_≤_, _<_, _+_, _-_, _*_, _^_, suc};
 ghost use lib.Dec.{eqb};
@@ -249,7 +249,17 @@ fn any_line(
     if config.kind == 0 {
         return ass_line(config, map, n, counts, columns, &held[a..], out, warnings);
     }
-    srt_line(config, map, n, counts, columns, &held[..s], &held[a..], out, warnings)
+    srt_line(
+        config,
+        map,
+        n,
+        counts,
+        columns,
+        &held[..s],
+        &held[a..],
+        out,
+        warnings,
+    )
 }
 
 // Whether a line begins with a BOM.
@@ -301,7 +311,18 @@ pub fn take_line(
 {
     let k = bom_size(n, &held[s..]);
     let a = s + k;
-    let told = any_line(config, map, n, counts, columns, held, s, a, &mut out[k..], warnings);
+    let told = any_line(
+        config,
+        map,
+        n,
+        counts,
+        columns,
+        held,
+        s,
+        a,
+        &mut out[k..],
+        warnings,
+    );
     if told.number != 0 {
         return told;
     }

@@ -31,7 +31,7 @@ same-length-2 : tie.Need-same-length-2
 same-length-2 c = search needs
 
 returns : tie.Need-returns
-returns c = 
+returns c =
     let a = c .before .before .before .before .before .before .before .before .before .before .before .before .before .before .args in
     let e = c .before .before .before .before .ass-line .ensures in
     (λ t p b q. any-ass (a .config) (a .map .now) (a .n) (a .counts) (a .columns) (a .held .now) (a .s) (a .a) _ _ _ _ _ _ (c .before .before .before .before .before .before .before .before .if1 .taken) (rest-all (a .a) (a .held .now)) (e .0) t p b q, e .1)
@@ -49,7 +49,7 @@ part-srt-line-end : tie.Need-part-srt-line-end
 part-srt-line-end c = search needs
 
 srt-line-requires : tie.Need-srt-line-requires
-srt-line-requires c κs = 
+srt-line-requires c κs =
     let r = c .before .before .before .before .before .before .before .before .before .before .pre in
     (r .0, r .1, r .2, simp length-take (omega arith), simp (length-take, length-drop) (omega arith), simp (length-take, length-drop) (omega arith), omega arith)
 
@@ -60,7 +60,7 @@ same-length-4 : tie.Need-same-length-4
 same-length-4 c = search needs
 
 returns-2 : tie.Need-returns-2
-returns-2 c = 
+returns-2 c =
     let a = c .before .before .before .before .before .before .before .before .before .before .before .before .before .before .before .args in
     let e = c .before .before .before .before .srt-line .ensures in
     (λ t p b q. any-srt (a .config) (a .map .now) (a .n) (a .counts) (a .columns) (a .held .now) (a .s) (a .a) _ _ _ _ _ _ _ (c .before .before .before .before .before .before .before .before .before .if1 .left) refl (rest-all (a .a) (a .held .now)) (e .0) t p b q, e .1)

@@ -1,8 +1,10 @@
 use mathlib.Core.Path.{_≡_, refl, sym, _∙_}
 use mathlib.Core.Bool.{true, false}
-use native.Mathlib.Omega.{arith}
 use borrow.Author.Tests.{not-true, not-false}
 use Rattle.text.specs.Utf8.{utf8}
+use lib.ListN.{length}
+use Rattle.segmap.specs.Segment.{segmentsOf}
+use Rattle.ass.specs.Answer.{lineIn}
 use Rattle.session.proofs.TakenLaws.{ass-20, ass-fault, ass-said, tells-fits, quiet-small}
 use borrow.Author.Needs.{needs}
 use Rattle.session.proofs.taking.ass_line.Statement.{statement}
@@ -21,7 +23,7 @@ quiet-requires : tie.Need-quiet-requires
 quiet-requires c κs = search needs
 
 returns : tie.Need-returns
-returns c = 
+returns c =
     let a = c .before .before .before .before .before .before .before .args in
     let u : utf8 (a .line .now) ≡ false = sym (c .before .before .is-utf8 .ensures) ∙ not-true _ (c .before .if1 .taken) in
     (λ s p b. ass-20 (a .config) (a .map .now) (a .n) (a .counts) (a .columns) (a .line .now) _ _ _ u (c .quiet .ensures) s p b, quiet-small _ _ _ _ _ _ _ (c .quiet .ensures))
@@ -39,7 +41,7 @@ same-length-2 : tie.Need-same-length-2
 same-length-2 c = search needs
 
 returns-2 : tie.Need-returns-2
-returns-2 c = 
+returns-2 c =
     let a = c .before .before .before .before .before .before .before .before .before .before .before .before .before .before .before .before .before .args in
     let r = c .before .before .before .before .before .before .before .before .before .before .before .before .before .before .before .before .before .pre in
     let u : utf8 (a .line .now) ≡ true = sym (c .before .before .before .before .before .before .before .before .before .before .before .before .is-utf8 .ensures) ∙ not-false _ (c .before .before .before .before .before .before .before .before .before .before .before .if1 .left) in
@@ -55,11 +57,11 @@ same-length-4 : tie.Need-same-length-4
 same-length-4 c = search needs
 
 returns-3 : tie.Need-returns-3
-returns-3 c = 
+returns-3 c =
     let a = c .before .before .before .before .before .before .before .before .before .before .before .before .before .before .before .before .before .before .args in
     let r = c .before .before .before .before .before .before .before .before .before .before .before .before .before .before .before .before .before .before .pre in
     let l = c .before .before .before .before .before .before .before .before .before .line in
-    let f = tells-fits _ _ _ _ _ _ (l .ensures .0) (l .kept .1 .1 .1 .1 .1 .0) (l .kept .1 .1 .1 .1 .1 .1 .0) in
+    let f = tells-fits (lineIn (a .config) (segmentsOf (a .map .now)) (a .columns) (a .n) (a .line .now) (length (a .out .now)) (length (a .warnings .now))) _ _ _ _ _ (l .ensures .0) (l .kept .1 .1 .1 .1 .1 .0) (l .kept .1 .1 .1 .1 .1 .1 .0) in
     let u : utf8 (a .line .now) ≡ true = sym (c .before .before .before .before .before .before .before .before .before .before .before .before .before .is-utf8 .ensures) ∙ not-false _ (c .before .before .before .before .before .before .before .before .before .before .before .before .if1 .left) in
     (λ s p b. ass-said (a .config) (a .map .now) (a .n) (a .counts) (a .columns) (a .line .now) _ _ _ _ _ _ _ (r .0) (r .3) (r .4) u (l .ensures .0) (c .before .before .if2 .left) (l .ensures .1) (c .before .count .ensures) s p b, (refl, f .0, f .1))
 

@@ -11,7 +11,7 @@ use Rattle.session.proofs.taking.first_line.Reads as first-line-reads
 use Rattle.session.proofs.taking.lines_in.Reads as lines-in-reads
 
 returns : tie.Need-returns
-returns c = 
+returns c =
     let a = c .before .before .before .before .before .args in
     (end-none (a .config) (a .map .now) (a .n) (a .counts) (a .block .now) (a .out .now) (a .warnings .now) (c .if1 .taken), (omega arith, omega arith))
 
@@ -31,7 +31,7 @@ same-length-2 : tie.Need-same-length-2
 same-length-2 c = search needs
 
 returns-2 : tie.Need-returns-2
-returns-2 c = 
+returns-2 c =
     let a = c .before .before .before .before .before .before .before .before .before .before .before .before .before .before .before .before .args in
     let r = c .before .before .before .before .before .before .before .before .before .before .before .before .before .before .before .before .pre in
     (end-fault (a .config) (a .map .now) (a .n) (a .counts) (a .block .now) _ _ _ (a .out .now) _ (a .warnings .now) _ (r .0) (r .3) (r .4) (c .before .before .before .before .before .before .before .before .before .before .before .if1 .left) (c .before .before .before .before .before .before .before .before .before .before .lines-in .ensures) (c .before .before .before .before .before .before .before .before .before .first-line .ensures) (c .before .before .before .before .before .before .block .ensures) (c .if2 .taken), (omega arith, omega arith))
@@ -46,7 +46,7 @@ same-length-4 : tie.Need-same-length-4
 same-length-4 c = search needs
 
 returns-3 : tie.Need-returns-3
-returns-3 c = 
+returns-3 c =
     let a = c .before .before .before .before .before .before .before .before .before .before .before .before .before .before .before .before .before .args in
     let r = c .before .before .before .before .before .before .before .before .before .before .before .before .before .before .before .before .before .pre in
     let b = c .before .before .before .before .before .before .before .block in

@@ -1,3 +1,6 @@
+use native.Mathlib.Omega.{arith}
+use lib.ListN.{length-take, length-drop}
+use Rattle.session.proofs.BomLaws.{rest-all, bom-is, take-fault, take-plain, take-behind, behind-fits}
 use borrow.Author.Needs.{needs}
 use Rattle.session.proofs.taking.take_line.Statement.{statement}
 use Rattle.session.proofs.taking.take_line.Tie as tie
@@ -33,7 +36,11 @@ part-any-line-end : tie.Need-part-any-line-end
 part-any-line-end c = search needs
 
 any-line-requires : tie.Need-any-line-requires
-any-line-requires c κs = search needs
+any-line-requires c κs =
+    let st = c .before .before .before .before .before .before .before .before in
+    let b = c .before .before .bom-size .ensures in
+    let v = rw length-drop at (rw rest-all at (b .1 .0)) in
+    (st .pre .0, st .pre .1, st .pre .2, omega arith, omega arith, omega (arith, v), omega arith, simp (length-take, length-drop) (omega (arith, v)), omega arith)
 
 same-length : tie.Need-same-length
 same-length c = search needs
@@ -42,7 +49,15 @@ same-length-2 : tie.Need-same-length-2
 same-length-2 c = search needs
 
 returns : tie.Need-returns
-returns c = ?
+returns c =
+    let st = c .before .before .before .before .before .before .before .before .before .before .before .before .before .before .before in
+    let b = c .before .before .before .before .before .before .before .before .before .bom-size .ensures in
+    let v = rw length-drop at (rw rest-all at (b .1 .0)) in
+    let a = st .args in
+    let n = c .before .before .before .before .before .before .any-line in
+    let k = c .before .before .before .before .before .before .before .before .before .bom-size .result in
+    let f = rw (length-take, length-drop) at (n .ensures .1 .1) in
+    (λ t p q g. take-fault (a .config) (a .map .now) t (a .n) (a .held .now) (a .s) (a .counts) (n .result) (a .out .now) (n .last .1 .1 .1 .1 .1 .1 .1 .1 .0) (a .warnings .now) (n .last .1 .1 .1 .1 .1 .1 .1 .1 .1 .0) k (b .0) (n .ensures .0 t p q g) (c .if1 .taken), (λ z. absurd (c .if1 .taken z), omega (arith, f, v), n .ensures .1 .2))
 
 same-length-3 : tie.Need-same-length-3
 same-length-3 c = search needs
@@ -51,13 +66,29 @@ same-length-4 : tie.Need-same-length-4
 same-length-4 c = search needs
 
 returns-2 : tie.Need-returns-2
-returns-2 c = ?
+returns-2 c =
+    let st = c .before .before .before .before .before .before .before .before .before .before .before .before .before .before .before .before in
+    let b = c .before .before .before .before .before .before .before .before .before .before .bom-size .ensures in
+    let v = rw length-drop at (rw rest-all at (b .1 .0)) in
+    let a = st .args in
+    let n = c .before .before .before .before .before .before .before .any-line in
+    let k = c .before .before .before .before .before .before .before .before .before .before .bom-size .result in
+    let f = rw (length-take, length-drop) at (n .ensures .1 .1) in
+    (λ t p q g. take-plain (a .config) (a .map .now) t (a .n) (a .held .now) (a .s) (a .counts) (n .result) (a .out .now) (n .last .1 .1 .1 .1 .1 .1 .1 .1 .0) (a .warnings .now) (n .last .1 .1 .1 .1 .1 .1 .1 .1 .1 .0) k (b .0) (n .ensures .0 t p q g) (c .if2 .taken), (λ z. omega (arith, n .ensures .1 .0), omega (arith, f, v), n .ensures .1 .2))
 
 put-bom-requires : tie.Need-put-bom-requires
 put-bom-requires c κs = search needs
 
 behind-bom-requires : tie.Need-behind-bom-requires
-behind-bom-requires c κs = search needs
+behind-bom-requires c κs =
+    let st = c .before .before .before .before .before .before .before .before .before .before .before .before .before .before .before .before .before .before .before .before in
+    let b = c .before .before .before .before .before .before .before .before .before .before .before .before .before .before .bom-size .ensures in
+    let v = rw length-drop at (rw rest-all at (b .1 .0)) in
+    let a = st .args in
+    let n = c .before .before .before .before .before .before .before .before .before .before .before .any-line in
+    let k = c .before .before .before .before .before .before .before .before .before .before .before .before .before .before .bom-size .result in
+    let f = rw (length-take, length-drop) at (n .ensures .1 .1) in
+    omega (arith, f, v, st)
 
 same-length-5 : tie.Need-same-length-5
 same-length-5 c = search needs
@@ -66,7 +97,17 @@ same-length-6 : tie.Need-same-length-6
 same-length-6 c = search needs
 
 returns-3 : tie.Need-returns-3
-returns-3 c = ?
+returns-3 c =
+    let st = c .before .before .before .before .before .before .before .before .before .before .before .before .before .before .before .before .before .before .before .before .before in
+    let b = c .before .before .before .before .before .before .before .before .before .before .before .before .before .before .before .bom-size .ensures in
+    let v = rw length-drop at (rw rest-all at (b .1 .0)) in
+    let a = st .args in
+    let n = c .before .before .before .before .before .before .before .before .before .before .before .before .any-line in
+    let k = c .before .before .before .before .before .before .before .before .before .before .before .before .before .before .before .bom-size .result in
+    let f = rw (length-take, length-drop) at (n .ensures .1 .1) in
+    let e = c .behind-bom .ensures in
+    let j = bom-is (a .n) k _ (b .0) (c .before .before .before .before .before .if2 .left) in
+    (λ t p q g. take-behind (a .config) (a .map .now) t (a .n) (a .held .now) (a .s) (a .counts) (n .result) (a .out .now) (n .last .1 .1 .1 .1 .1 .1 .1 .1 .0) (a .warnings .now) (n .last .1 .1 .1 .1 .1 .1 .1 .1 .1 .0) k _ _ (b .0) (n .ensures .0 t p q g) (c .before .before .before .before .before .before .if1 .left) (c .before .before .before .before .before .if2 .left) (n .ensures .1 .0) (omega (arith, v, st .pre .6)) (c .before .before .before .put-bom .ensures) e, behind-fits _ (n .result) _ _ _ e (omega (arith, j, v)) (omega (arith, j, f, v)) (n .ensures .1 .2))
 
 pub take-line-spec : {M : Type 1} → statement M
 take-line-spec =
