@@ -111,7 +111,7 @@ end-lf h = go (hasLf h) refl
     go true e = lt-ltb 0 (endOf h) (some e (concat (closedLines h)) refl)
 
 -- ---- SRT: the lines of the bytes before that end are the finished lines
-end-lines : (h : List ℕ) → linesOf (take (endOf h) h) ≡ closedLines h
+pub end-lines : (h : List ℕ) → linesOf (take (endOf h) h) ≡ closedLines h
 end-lines h =
     ap linesOf (ap (take (endOf h)) (sym (cut-joined h)) ∙ take-append-seam (concat (closedLines h)) (unfinished h) ∙ sym (append-nil (concat (closedLines h))))
     ∙ lines-back (closedLines h) [] (cut-ends h) ∙ ap (λ (x : List (List ℕ)). closedLines h ++ x) (lines-end [] (omega arith)) ∙ append-nil (closedLines h)

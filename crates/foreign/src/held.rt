@@ -48,7 +48,7 @@ fn lines_bad(kind: u32, s: &[u8]) -> bool
     false
 }
 
-// Whether no session of the kind can hold these bytes.
+// Whether these are held bytes that can't be.
 pub fn held_bad(kind: u32, held: &[u8]) -> bool
     ensures { λ r. ⌜ r ≡ heldBad kind (now (held .entry)) ⌝ }
 {

@@ -1,4 +1,4 @@
-// The session that a caller keeps between two calls, and the test for one that no call can have returned (17).
+// The session that a caller keeps between two calls, and the test for a foreign one (17).
 mod amounts;
 mod held;
 mod holding;

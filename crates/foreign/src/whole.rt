@@ -1,4 +1,4 @@
-// 17.
+// A foreign session (17).
 use crate::amounts::columns_bad;
 use crate::amounts::config_bad;
 use crate::amounts::counts_above;
@@ -13,7 +13,7 @@ ghost use Rattle.base.specs.Limits.{mostHeld};
 ghost use Rattle.kinds.specs.Kit.{strange};
 ghost use Rattle.foreign.specs.View.{heldOf, foreignOf};
 
-// Whether no session can have such columns and the first `n` bytes of its room held.
+// Whether more bytes are held than were taken, or the columns or the held bytes, the first `n` of the room, are ones that 17 refuses.
 fn kept_bad(kind: u32, taken: u32, columns: Columns, n: usize, room: &[u8]) -> bool
     requires { ⌜ length (now room) ≡ mostHeld ⌝ }
     ensures { λ r. ⌜ r ≡ (ltb taken n || strange kind columns (heldOf n (now (room .entry)))) ⌝ }
@@ -30,7 +30,7 @@ fn kept_bad(kind: u32, taken: u32, columns: Columns, n: usize, room: &[u8]) -> b
     held_bad(kind, base::front(room, n))
 }
 
-// Whether no call of this library can have returned the session.
+// Whether the session is foreign.
 pub fn foreign(session: Session) -> bool
     ensures { λ r. ⌜ r ≡ foreignOf session ⌝ }
 {
