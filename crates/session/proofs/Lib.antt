@@ -1,2 +1,3 @@
 pub mod TakenLaws
 pub mod BomLaws
+pub mod CallLaws

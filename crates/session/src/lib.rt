@@ -1,4 +1,8 @@
 // The session: takes a caption text in pieces and writes it back retimed.
+mod calling;
 mod ending;
 mod running;
 mod taking;
+
+pub use calling::Fed;
+pub use calling::Opened;
