@@ -6,3 +6,6 @@ mod taking;
 
 pub use calling::Fed;
 pub use calling::Opened;
+pub use calling::feed;
+pub use calling::finish;
+pub use calling::open;
