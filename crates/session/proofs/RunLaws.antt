@@ -27,7 +27,7 @@ use Rattle.machine.specs.Cut.{closedLines, unfinished}
 use Rattle.machine.specs.Machine.{Machine, Says, faulty, says, Run, going, stopped, lineEnd, takeLine, byte, byteStep, run}
 use Rattle.machine.specs.Session.{Session, Kit, emitted}
 use Rattle.machine.proofs.Emits.{parts-append, parts-none, captions-emitted, count-none, emits-none, output-none}
-use Rattle.machine.proofs.CutLaws.{cut-joined}
+use Rattle.machine.proofs.CutLaws.{cut-joined, cut-length}
 use Rattle.machine.proofs.Resume.{ByFault, run-take, run-fault}
 use Rattle.machine.proofs.Laws.{StepOk, Lawful}
 use Rattle.machine.proofs.Native as sound
@@ -113,7 +113,7 @@ fit-parsed (suc zero) e s f = lines-held (s .block) (f .block)
 fit-parsed (suc (suc k)) e s f = absurd (known-two k e)
 
 -- ---- a call begins
-places-none : placesOf (warningsOf []) ≡ []
+pub places-none : placesOf (warningsOf []) ≡ []
 unfolding placesOf warningsOf
 places-none = refl
 
@@ -159,6 +159,9 @@ module _ (c : Config) (m : List ℕ) (r : Going) (held : List ℕ) (out places :
 
   pub bytes-length : length bytes ≡ r .held
   bytes-length = length-take-le (r .held) held (omega (arith, p .size, p .count))
+
+  pub begin-sizes : r .start + length (unfinished bytes) ≡ r .held
+  begin-sizes = ap (λ (j : ℕ). j + length (unfinished bytes)) (p .start) ∙ cut-length bytes ∙ bytes-length
 
   pub begin-native : Native begun
   begin-native =
