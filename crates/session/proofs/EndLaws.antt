@@ -6,31 +6,46 @@ use Prim.Native.Nat.{ℕ, zero, suc, _+_, _-_, _*_, _≤_, _<_}
 use native.Mathlib.Omega.{arith}
 use lib.Dec.{eqb}
 use lib.ListN.{length, take, drop, length-append}
-use lib.Seq.{drop-at, length-take-le}
+use lib.Seq.{take-take, drop-at, length-take-le}
 use borrow.Author.Tests.{eq-eqb, ne-eqb, eqb-false}
+use Rattle.base.specs.Limits.{mostBlock}
 use Rattle.base.specs.Put.{put, putAt}
+use Rattle.base.proofs.Laws.{and-right}
 use Rattle.base.proofs.PutLaws.{put-nil, put-append, tail-back, putAt-nil}
 use Rattle.text.specs.Find.{equals}
-use Rattle.text.specs.Line.{concat, linesOf, lineCount}
+use Rattle.text.specs.Utf8.{utf8}
+use Rattle.text.specs.Line.{concat, linesOf, lineCount, hasLf}
+use Rattle.time.specs.Kind.{kindBad}
 use Rattle.event.specs.declared.setting.Config.{Config}
 use Rattle.segmap.specs.Segment.{segmentsOf}
-use Rattle.event.specs.Says.{Part, stays, faultNumber}
+use Rattle.event.specs.Says.{Part, stays, notUtf8, faultNumber}
 use Rattle.event.specs.Emit.{Emit, Warning, emitBy, emitsOf, outputOf, warningsOf, placesOf}
+use Rattle.ass.specs.Line.{LineSays, lineSays, faulty as lineFaulty, says as lineSaid}
 use Rattle.block.specs.Style.{srt}
 use Rattle.block.specs.Block.{BlockSays, blockSays, faulty as blockFaulty, says as blockSaid}
 use Rattle.machine.specs.declared.counting.Counts.{Counts}
 use Rattle.machine.specs.Counts.{countAll}
-use Rattle.machine.specs.Machine.{Machine, Says, faulty, says, bom, withBom, Run, going, stopped, closed}
+use Rattle.machine.specs.Cut.{unfinished}
+use Rattle.machine.specs.Machine.{Machine, Says, faulty, says, bom, hasBom, withBom, lineWith, takeLine, restFor, Run, going, stopped, lineEnd, closed, lastEnd, atEnd, finishRun}
 use Rattle.machine.specs.Session.{emitted}
 use Rattle.machine.proofs.Emits.{emits-none, output-none, count-none}
 use Rattle.machine.proofs.Resume.{fault-number}
-use Rattle.kinds.specs.Takes.{State, blankState, ofBlock, closes, ends, machineOf}
+use Rattle.machine.proofs.OpenLines.{bom-open}
+use Rattle.machine.proofs.Laws.{StepOk, Lawful}
+use Rattle.machine.proofs.Native.{line-ok}
+use Rattle.machine.proofs.Room.{outLen, warnLen, RoomOf, Leaves, line-room}
+use Rattle.kinds.specs.Takes.{State, blankState, ofLine, lineTakes, ofBlock, closes, takes, ends, machineOf}
+use Rattle.kinds.specs.Kit.{kit}
+use Rattle.kinds.proofs.KindLaws.{takes-ass, takes-srt, Fit, known-two, lawful-fit, lawful-size, lawful-pending}
+use Rattle.kinds.proofs.Native.{Native}
+use Rattle.kinds.proofs.KindRoom.{srt-last}
+use Rattle.kinds.proofs.Fits.{places-two, room-of}
 use Rattle.session.specs.declared.taking.Ended.{Ended}
 use Rattle.session.specs.declared.running.Going.{Going}
-use Rattle.session.specs.Taken.{Wrote, Ends, Parsed}
-use Rattle.session.specs.Stand.{Shows, Opening, stoppedAt, closingTo, bomTo, bomAloneOf}
-use Rattle.session.proofs.StandLaws.{wrote-more, counts-more}
-use Rattle.session.proofs.RunLaws.{places-none}
+use Rattle.session.specs.Taken.{Wrote, Ends, Ready, Parsed}
+use Rattle.session.specs.Stand.{Shows, Room, CloseRoom, Opening, resumeAt, stoppedAt, closingTo, bomTo, bomAloneOf}
+use Rattle.session.proofs.StandLaws.{drop-take, wrote-more, counts-more, held-block, held-line}
+use Rattle.session.proofs.RunLaws.{counts-grown, fit-parsed, places-none, s₀, begun, begin-sizes, begin-native, begin-shows, L}
 
 -- ---- what a finish says in each kind
 pub ends-ass : (kind : ℕ) (s : State) (n : ℕ) → kind ≡ 0 → ends kind s n ≡ says s []
@@ -234,3 +249,205 @@ alone-no n l e = rw (ne-eqb n 0 e)
 pub alone-asked : (n : ℕ) (l : List ℕ) (b : Bool) → n ≡ 0 → b ≡ equals bom l → b ≡ bomAloneOf n l
 unfolding bomAloneOf
 alone-asked n l b e f = rw (eq-eqb n 0 e) f
+
+-- ---- the last line: it may have no LF
+ass-last : (s : State) (n : ℕ) (l : List ℕ) → s .block ≡ [] → Leaves (λ (t : State). t .block ≡ []) (lineTakes s n l)
+unfolding lineTakes
+ass-last s n l e = go (utf8 l) (lineSays (s .columns) n l)
+  where
+    go : (u : Bool) (x : LineSays) → Leaves (λ (t : State). t .block ≡ []) (cond u (ofLine s x) (faulty notUtf8))
+    go false x = tt
+    go true (lineFaulty f) = tt
+    go true (lineSaid d p) = e
+
+-- after it no block is open in ASS, and in SRT the block's bytes are its lines
+step-last : (kind : ℕ) → kindBad kind ≡ false → (s : State) (n : ℕ) (l : List ℕ) → Fit kind s → hasLf l ≡ false
+    → Leaves (λ (t : State). Parsed (eqb kind 0) (t .block)) (takes kind s n l)
+step-last zero e s n l f h = subst (Leaves (λ (t : State). t .block ≡ [])) (sym (takes-ass s n l)) (ass-last s n l (f .block))
+step-last (suc zero) e s n l f h = subst (Leaves (λ (t : State). linesOf (concat (t .block)) ≡ t .block)) (sym (takes-srt s n l)) (srt-last s n l (f .block) h)
+step-last (suc (suc k)) e s n l f h = absurd (known-two k e)
+
+bom-leaves : (P : State → Type 0) (x : Says State) → Leaves P x → Leaves P (withBom x)
+bom-leaves P (faulty f) o = tt
+bom-leaves P (says t ps) o = o
+
+pub line-last : (kind : ℕ) → kindBad kind ≡ false → (s : State) (n : ℕ) (l : List ℕ) → Fit kind s → hasLf l ≡ false
+    → Leaves (λ (t : State). Parsed (eqb kind 0) (t .block)) (takeLine (machineOf kind) s n l)
+line-last kind e s n l f h = go (eqb n 0 && hasBom l) refl
+  where
+    go : (b : Bool) → (eqb n 0 && hasBom l) ≡ b → Leaves (λ (t : State). Parsed (eqb kind 0) (t .block)) (lineWith (machineOf kind) b s n l)
+    go true q =
+        bom-leaves (λ (t : State). Parsed (eqb kind 0) (t .block)) (takes kind s n (drop 3 l))
+        (step-last kind e s n (drop 3 l) f (bom-open l (and-right (eqb n 0) (hasBom l) q) h))
+    go false q = step-last kind e s n l f h
+
+-- ---- what a finish does, by the rest
+module _ (M : Machine State) (s : State) (n : ℕ) where
+  alone-run : (b : Bool) (l : List ℕ) → b ≡ true → 0 < length l → closed M [] (withBom (M .close s n)) ≡ atEnd M (restFor b l) s n l []
+  alone-run b [] e h = absurd (omega arith)
+  alone-run true (x ∷ l) e h = refl
+  alone-run false (x ∷ l) e h = absurd (true≢false (sym e))
+
+  last-run : (b : Bool) (l : List ℕ) → b ≡ false → 0 < length l → lastEnd M n [] (takeLine M s n l) ≡ atEnd M (restFor b l) s n l []
+  last-run b [] e h = absurd (omega arith)
+  last-run true (x ∷ l) e h = absurd (true≢false e)
+  last-run false (x ∷ l) e h = refl
+
+no-bytes : (l : List ℕ) → length l ≡ 0 → l ≡ []
+no-bytes [] e = refl
+no-bytes (b ∷ l) e = absurd (omega arith)
+
+positive : (n : ℕ) → (n ≡ 0 → ⊥) → 0 < n
+positive zero f = absurd (f refl)
+positive (suc n) f = omega arith
+
+alone-is : (n : ℕ) (l : List ℕ) → bomAloneOf n l ≡ (eqb n 0 && equals bom l)
+unfolding bomAloneOf
+alone-is n l = refl
+
+module _ (c : Config) (m : List ℕ) (at : Going) (held o w : List ℕ) (d : Ready c m) (p : Opening c at held (length o) (length w)) where
+  abbrev kind : ℕ
+  kind = c .kind
+
+  abbrev M₀ : Machine State
+  M₀ = machineOf (c .kind)
+
+  abbrev state : State
+  state = s₀ c m at held (length o) (length w) d p
+
+  abbrev rest : List ℕ
+  rest = unfinished (take (at .held) held)
+
+  abbrev sane : Native (begun c m at held (length o) (length w) d p)
+  sane = begin-native c m at held (length o) (length w) d p
+
+  sizes : at .start + length rest ≡ at .held
+  sizes = begin-sizes c m at held (length o) (length w) d p
+
+  small : at .start ≤ mostBlock
+  small = omega (arith, p .start, sane .holds .fit .small)
+
+  pub start-shows : Shows c m (at .counts) (going state (at .lines) rest []) o w at held o w
+  start-shows = begin-shows c m at held (length o) (length w) d p o w
+
+  pub start-parsed : Parsed (eqb kind 0) (state .block)
+  start-parsed = fit-parsed kind (d .kind-known) state (sane .holds .fit)
+
+  pub start-held : take (at .start) held ≡ concat (state .block)
+  start-held =
+      sym (take-take (at .start) (at .held) held (omega (arith, sizes))) ∙ held-block state (at .lines) rest at held (start-shows .holds)
+
+  pub close-start : CloseRoom at (length held) (length o) (length w)
+  close-start =
+      record {
+        number = p .number;
+        block = omega (arith, sizes, p .count, p .size);
+        text = omega (arith, p .written, p .out-long, small);
+        warnings = omega (arith, p .warned, p .places-long);
+        lines = omega (arith, p .lines);
+        counts = omega (arith, p .counts);
+      }
+
+  pub end-room : Room at (length held) (length o) (length w)
+  end-room =
+      record {
+        size = p .size;
+        order = omega (arith, sizes);
+        block = small;
+        line = omega (arith, sizes, sane .holds .short);
+        text = omega (arith, p .written, p .out-long, p .count);
+        warnings = omega (arith, p .warned, p .places-long);
+        lines = omega (arith, p .lines);
+        counts = omega (arith, p .counts);
+      }
+
+  -- no rest
+  pub finish-none : at .held ≡ at .start → (r : Going) (o′ w′ : List ℕ)
+      → (Shows c m (at .counts) (going state (at .lines) [] []) o w at held o w → Shows c m (at .counts) (closed M₀ [] (ends kind state (at .lines))) o w r held o′ w′)
+      → Shows c m (at .counts) (finishRun M₀ (resumeAt at held)) o w r held o′ w′
+  finish-none e r o′ w′ f =
+      let z : rest ≡ [] = no-bytes rest (omega (arith, sizes, e)) in
+      subst (λ (l : List ℕ). Shows c m (at .counts) (finishRun M₀ (going state (at .lines) l [])) o w r held o′ w′) (sym z)
+      (f (subst (λ (l : List ℕ). Shows c m (at .counts) (going state (at .lines) l []) o w at held o w) z start-shows))
+
+  line-there : take (at .held - at .start) (drop (at .start) held) ≡ rest
+  line-there = sym (drop-take (at .start) (at .held) held) ∙ held-line state (at .lines) rest at held (start-shows .holds)
+
+  module _ (v : Bool) (z : at .held ≡ at .start → ⊥) (a : v ≡ bomAloneOf (at .lines) (take (at .held - at .start) (drop (at .start) held))) where
+    some : 0 < length rest
+    some = positive (length rest) (λ q. z (omega (arith, sizes, q)))
+
+    asked : (b : Bool) → v ≡ b → (eqb (at .lines) 0 && equals bom rest) ≡ b
+    asked b e = sym (alone-is (at .lines) rest) ∙ ap (bomAloneOf (at .lines)) (sym line-there) ∙ sym a ∙ e
+
+    pub finish-bom : v ≡ true → (r : Going) (h′ o′ w′ : List ℕ) → Shows c m (at .counts) (closed M₀ [] (withBom (ends kind state (at .lines)))) o w r h′ o′ w′
+        → Shows c m (at .counts) (finishRun M₀ (resumeAt at held)) o w r h′ o′ w′
+    finish-bom b r h′ o′ w′ g =
+        subst (λ (t : Run State). Shows c m (at .counts) t o w r h′ o′ w′)
+        (alone-run M₀ state (at .lines) (eqb (at .lines) 0 && equals bom rest) rest (asked true b) some) g
+
+    is-last : v ≡ false → lastEnd M₀ (at .lines) [] (takeLine M₀ state (at .lines) rest) ≡ finishRun M₀ (resumeAt at held)
+    is-last b = last-run M₀ state (at .lines) (eqb (at .lines) 0 && equals bom rest) rest (asked false b) some
+
+    fault-run : (x : Says State) (r : Going) (h′ o′ w′ : List ℕ) → Shows c m (at .counts) (lineEnd M₀ (at .lines) [] x) o w r h′ o′ w′ → (r .number ≡ 0 → ⊥)
+        → Shows c m (at .counts) (lastEnd M₀ (at .lines) [] x) o w r h′ o′ w′
+    fault-run (faulty f) r h′ o′ w′ sh e = sh
+    fault-run (says t new) r h′ o′ w′ sh e = absurd (e (sh .number))
+
+    -- the last line is at fault
+    pub finish-fault : v ≡ false → (r : Going) (h′ o′ w′ : List ℕ)
+        → Shows c m (at .counts) (lineEnd M₀ (at .lines) [] (takeLine M₀ state (at .lines) rest)) o w r h′ o′ w′ → (r .number ≡ 0 → ⊥)
+        → Shows c m (at .counts) (finishRun M₀ (resumeAt at held)) o w r h′ o′ w′
+    finish-fault b r h′ o′ w′ sh e =
+        subst (λ (t : Run State). Shows c m (at .counts) t o w r h′ o′ w′) (is-last b) (fault-run (takeLine M₀ state (at .lines) rest) r h′ o′ w′ sh e)
+
+    passed-run : (x : Says State) (l r : Going) (h′ o₁ w₁ o′ w′ : List ℕ) → Leaves (λ (t : State). Parsed (eqb kind 0) (t .block)) x
+        → Shows c m (at .counts) (lineEnd M₀ (at .lines) [] x) o w l h′ o₁ w₁ → l .number ≡ 0
+        → ((t : State) (n : ℕ) (ps : List Part) → Parsed (eqb kind 0) (t .block) → Shows c m (at .counts) (going t n [] ps) o w l h′ o₁ w₁
+        → Shows c m (at .counts) (closed M₀ ps (ends kind t n)) o w r h′ o′ w′)
+        → Shows c m (at .counts) (lastEnd M₀ (at .lines) [] x) o w r h′ o′ w′
+    passed-run (faulty f) l r h′ o₁ w₁ o′ w′ k sh e g = absurd (eqb-false (faultNumber f) 0 (fault-number f) (sym (sh .number) ∙ e))
+    passed-run (says t new) l r h′ o₁ w₁ o′ w′ k sh e g = g t (suc (at .lines)) new k sh
+
+    -- the last line passed, and the block ends
+    pub finish-last : v ≡ false → (l r : Going) (h′ o₁ w₁ o′ w′ : List ℕ)
+        → Shows c m (at .counts) (lineEnd M₀ (at .lines) [] (takeLine M₀ state (at .lines) rest)) o w l h′ o₁ w₁ → l .number ≡ 0
+        → ((t : State) (n : ℕ) (ps : List Part) → Parsed (eqb kind 0) (t .block) → Shows c m (at .counts) (going t n [] ps) o w l h′ o₁ w₁
+        → Shows c m (at .counts) (closed M₀ ps (ends kind t n)) o w r h′ o′ w′)
+        → Shows c m (at .counts) (finishRun M₀ (resumeAt at held)) o w r h′ o′ w′
+    finish-last b l r h′ o₁ w₁ o′ w′ sh e g =
+        subst (λ (t : Run State). Shows c m (at .counts) t o w r h′ o′ w′) (is-last b)
+        (passed-run (takeLine M₀ state (at .lines) rest) l r h′ o₁ w₁ o′ w′
+        (line-last kind (d .kind-known) state (at .lines) rest (sane .holds .fit) (sane .holds .open-line)) sh e g)
+
+  abbrev L₀ : Lawful kit (c .kind)
+  L₀ = L c m at held (length o) (length w) d p
+
+  close-after : (x : Says State) (l : Going) (h′ o₁ w₁ : List ℕ) → StepOk (L₀ .Fit) (L₀ .pending) (L₀ .size) state rest x → RoomOf c (segmentsOf m) (L₀ .size) 3 state rest x
+      → Shows c m (at .counts) (lineEnd M₀ (at .lines) [] x) o w l h′ o₁ w₁ → l .number ≡ 0 → length h′ ≡ length held → length o₁ ≡ length o → length w₁ ≡ length w
+      → CloseRoom l (length h′) (length o₁) (length w₁)
+  unfolding outLen warnLen
+  close-after (faulty f) l h′ o₁ w₁ k g sh e h1 h2 h3 = absurd (eqb-false (faultNumber f) 0 (fault-number f) (sym (sh .number) ∙ e))
+  close-after (says t new) l h′ o₁ w₁ k g sh e h1 h2 h3 =
+      let S = lawful-size kind (sane .kind-known) state in
+      let T = lawful-size kind (sane .kind-known) t in
+      let P = lawful-pending kind (sane .kind-known) state in
+      let W = places-two (warningsOf (emitted c m new)) in
+      let G = counts-grown c m (at .counts) new in
+      let z = sizes in
+      record {
+        number = e;
+        block = omega (arith, sh .holds .start, k .small, S, T, z, p .start, h1, p .size, p .count);
+        text = omega (arith, sh .holds .start, g .out, sh .wrote .written, S, T, z, p .start, p .count, h2, p .out-long);
+        warnings = omega (arith, g .warn, sh .wrote .warned, W, S, z, p .start, p .count, h3, p .places-long);
+        lines = omega (arith, sh .holds .lines, p .lines);
+        counts = rw (sh .counts) (omega (arith, G, k .few, P, p .counts));
+      }
+
+  pub close-last : (l : Going) (h′ o₁ w₁ : List ℕ) → Shows c m (at .counts) (lineEnd M₀ (at .lines) [] (takeLine M₀ state (at .lines) rest)) o w l h′ o₁ w₁ → l .number ≡ 0
+      → length h′ ≡ length held → length o₁ ≡ length o → length w₁ ≡ length w → CloseRoom l (length h′) (length o₁) (length w₁)
+  close-last l h′ o₁ w₁ sh e h1 h2 h3 =
+      let f = lawful-fit kind (sane .kind-known) state (sane .holds .fit) in
+      close-after (takeLine M₀ state (at .lines) rest) l h′ o₁ w₁ (line-ok kit kind L₀ 1 state (at .lines) rest f (sane .holds .short))
+      (line-room kit kind L₀ c (segmentsOf m) 3 (room-of (begun c m at held (length o) (length w) d p) sane m (d .map-good)) state (at .lines) rest f (sane .holds .short))
+      sh e h1 h2 h3

@@ -37,7 +37,7 @@ use Rattle.kinds.specs.Takes.{State, machineOf}
 use Rattle.kinds.specs.Kit.{kit}
 use Rattle.kinds.proofs.KindLaws.{Fit, known-two, lawful, lawful-size, lawful-pending}
 use Rattle.kinds.proofs.Native.{Native, is-native}
-use Rattle.kinds.proofs.Fits.{resume-ok, feed-room}
+use Rattle.kinds.proofs.Fits.{places-two, resume-ok, feed-room}
 use Rattle.session.specs.declared.running.Going.{Going}
 use Rattle.session.specs.Taken.{Wrote, Ready, Below, Parsed}
 use Rattle.session.specs.Stand.{Holds, Shows, ByteRoom, ParsedIn, Opening, resumeAt}
@@ -96,11 +96,6 @@ all-grown c (e ∷ es) = omega (arith, one-grown (e .caption) c, all-grown (coun
 pub counts-grown : (c : Config) (m : List ℕ) (t : Counts) (ps : List Part) → Grown t (countAll t (emitted c m ps)) (captionsIn ps)
 counts-grown c m t ps = subst (Grown t (countAll t (emitted c m ps))) (captions-emitted c (segmentsOf m) ps) (all-grown t (emitted c m ps))
 
-pub places-two : (ws : List Warning) → length (placesOf ws) ≡ 2 * length ws
-unfolding placesOf
-places-two [] = refl
-places-two (w ∷ ws) = omega (arith, places-two ws)
-
 -- ---- what a state of either kind holds
 pub fit-back : (kind : ℕ) (e : kindBad kind ≡ false) (s : State) → lawful kind e .Fit s → Fit kind s
 fit-back zero e s f = f
@@ -144,7 +139,7 @@ module _ (c : Config) (m : List ℕ) (r : Going) (held : List ℕ) (out places :
   s₀ = record { columns = r .columns; block = closedLines bytes }
 
   -- a session that stands as the call's numbers do
-  abbrev begun : Session Columns
+  abbrev pub begun : Session Columns
   begun =
       record {
         config = c;
