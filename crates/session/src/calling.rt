@@ -1,8 +1,8 @@
 // open, feed and finish.
-use assline::Columns;
 use crate::ending::finish_run;
 use crate::running::Going;
 use crate::running::run_piece;
+use assline::Columns;
 use event::Config;
 use foreign::Session;
 use machine::Counts;
@@ -144,15 +144,9 @@ pub fn open(kind: u32, timescale: u32, map: &[u64]) -> Opened
             timescale: 1,
         };
         let session = end_session(config, 0, 0, none);
-        return Opened {
-            number,
-            session,
-        };
+        return Opened { number, session };
     }
-    let config = Config {
-        kind,
-        timescale,
-    };
+    let config = Config { kind, timescale };
     let columns = no_columns();
     let session = Session {
         config,
@@ -165,10 +159,7 @@ pub fn open(kind: u32, timescale: u32, map: &[u64]) -> Opened
         held_len: 0,
         held: [0; 8192],
     };
-    Opened {
-        number: 0,
-        session,
-    }
+    Opened { number: 0, session }
 }
 
 // Zeros to the end.
