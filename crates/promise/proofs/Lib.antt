@@ -8,3 +8,4 @@ pub mod BlockShape
 pub mod Examples
 pub mod RunLaws
 pub mod ThePromise
+pub mod Numbers17
