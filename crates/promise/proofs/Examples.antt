@@ -1,10 +1,10 @@
 -- Worked examples of the plain reader, by computation: BOM, open blocks, the order of faults, line numbers.
 use Prim.Native.Nat.{ℕ}
-use Prim.Native.Char.{code}
 use Prim.Native.String.{String}
 use mathlib.Core.Path.{_≡_, refl}
 use mathlib.Core.Bool.{true, false}
 use mathlib.Core.List.{List, [], _∷_, _++_}
+use Rattle.base.specs.Ascii.{ascii}
 use Rattle.base.specs.Part.{last}
 use Rattle.base.specs.Refusal.{_orElse_, faultUnless}
 use Rattle.text.specs.Utf8.{leadLen, secondLow, secondHigh, tail, widthBy, charWidth, utf8From, utf8, codeBy, codeHead}
@@ -26,11 +26,6 @@ use Rattle.block.specs.Block.{blockFrame, blockCue, timingOf, afterArrow, lineS
 use Rattle.machine.specs.Machine.{bom}
 use Rattle.machine.specs.Reader.{reading, fails}
 use Rattle.promise.specs.Plain.{lineFault, bodyLineFault, assRead, blocksOf, bodyFault, srtRead, linesSay, plainRead}
-
--- the bytes of a text of ASCII characters
-abbrev ascii : String → List ℕ
-ascii String.[] = List.[]
-ascii (String._∷_ c s) = List._∷_ (code c) (ascii s)
 
 abbrev line : String → List ℕ
 line s = ascii s ++ 10 ∷ []

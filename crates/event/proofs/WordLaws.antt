@@ -1,27 +1,22 @@
--- Laws of decisions at every input and within the limits: the times that are written are words, and a cue's answer is document 01's.
-use mathlib.Core.Path.{_≡_, refl, sym, ap, subst, _∙_}
+-- The times that a decision writes are words, at every input.
+use mathlib.Core.Path.{_≡_, refl}
 use mathlib.Core.Bool.{Bool, true, false, cond}
 use mathlib.Core.List.{List}
-use Prim.Native.Nat.{ℕ, _+_, _*_, _≤_, _<_, _^_}
+use Prim.Native.Nat.{ℕ, _*_, _≤_, _<_, _^_}
 use native.Mathlib.Omega.{arith}
 use native.Mathlib.Nat.{le-refl, mul-le-mul}
 use Rattle.time.specs.Kind.{unitsOf}
-use Rattle.time.specs.Convert.{ticksOf, startUnits, endUnits, coreUnits, coreTicks, coreHolds, startWithin, endWithin}
+use Rattle.time.specs.Convert.{startUnits, endUnits, coreTicks, coreHolds, startWithin, endWithin}
 use Rattle.time.proofs.Conversions.{start-low, end-start}
 use Rattle.time.proofs.Limits.{core-within, units-high}
 use Rattle.segmap.specs.declared.segment.Segment.{Segment}
-use Rattle.segmap.specs.Segment.{sourceOf, outputOf, segmentsOf, endBad, mapBad}
+use Rattle.segmap.specs.Segment.{sourceOf, outputOf, endBad}
 use Rattle.event.specs.declared.setting.Config.{Config}
 use Rattle.event.specs.declared.retiming.Decision.{Decision}
 use Rattle.event.specs.declared.retiming.Decision.the-variants.{Strange, Dropped, Kept}
 use Rattle.event.specs.Hit.{Found, miss, hit, findHit, metOf}
-use Rattle.event.specs.Decide.{retimedBy, decideHit, decideTicks, decideOf, limitedHit, decideIn}
-use Rattle.event.specs.Says.{Cue, cue}
-use Rattle.event.specs.Emit.{cueEmit, emitBy, emitOf}
-use Rattle.event.specs.Told.{answered, cueIn, partIn}
-use Rattle.event.proofs.FineLaws.{Set, decide-fine}
+use Rattle.event.specs.Decide.{retimedBy, limitedHit, decideIn}
 
--- ---- the times that a decision writes are words
 abbrev pub Words : Decision → Type 0
 Words Strange = Unit {0}
 Words Dropped = Unit {0}
@@ -71,16 +66,3 @@ hit-words c a b (hit i x xs) =
 pub decide-words : (c : Config) (m : List Segment) (S E : ℕ) → Words (decideIn c m S E)
 unfolding decideIn
 decide-words c m S E = hit-words c _ _ (findHit m _ _)
-
--- ---- a cue through the map: document 01's decision is never strange
-hit-answered : (kind T U a b : ℕ) (q : Cue) (f : Found) → cueIn kind q (decideHit T U a b f) ≡ answered (cueEmit kind q (decideHit T U a b f))
-hit-answered kind T U a b q miss = refl
-hit-answered kind T U a b q (hit i x xs) = refl
-
-pub cue-fine : (c : Config) → Set c → (m : List ℕ) → mapBad m ≡ false → (q : Cue) → q .start ≤ coreUnits → q .stop ≤ coreUnits
-    → partIn c (segmentsOf m) (cue q) ≡ answered (emitOf c (segmentsOf m) (cue q))
-unfolding partIn emitBy decideOf decideTicks
-cue-fine c set m g q hs he =
-    ap (cueIn (c .kind) q) (decide-fine c set m (q .start) (q .stop) g hs he) ∙
-    hit-answered (c .kind) (c .timescale) (unitsOf (c .kind)) _ _ q
-    (findHit (segmentsOf m) (ticksOf (c .timescale) (unitsOf (c .kind)) (q .start)) (ticksOf (c .timescale) (unitsOf (c .kind)) (q .stop)))
