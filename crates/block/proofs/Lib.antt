@@ -7,4 +7,5 @@ pub mod FineBlock
 pub mod LineBack
 pub mod LineEnds
 pub mod BlockBack
+pub mod BlockShape
 pub mod Examples

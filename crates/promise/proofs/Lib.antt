@@ -4,7 +4,6 @@ pub mod PlainSrt
 pub mod PlainText
 pub mod PartLaws
 pub mod DemandText
-pub mod BlockShape
 pub mod Examples
 pub mod RunLaws
 pub mod ThePromise

@@ -3,8 +3,8 @@ use mathlib.Core.Path.{_≡_, refl, ap, _∙_}
 use mathlib.Core.Bool.{Bool, true, false, cond}
 use mathlib.Core.List.{List, [], _∷_, _++_}
 use Prim.Native.Nat.{ℕ}
 use Rattle.block.specs.Style.{blankIn}
-use Rattle.promise.specs.Plain.{Block, ontoBlock, ontoBlanks, blankOnto, blocksOf}
+use Rattle.block.specs.Whole.{Block, ontoBlock, ontoBlanks, blankOnto, blocksOf}
 
 -- the lines of blocks, in order
 abbrev pub blockLines : List Block → List (List ℕ)
