@@ -2,6 +2,7 @@ pub mod Bare
 pub mod PlainAss
 pub mod PlainSrt
 pub mod PlainText
+pub mod WholeAss
 pub mod PartLaws
 pub mod DemandText
 pub mod Examples

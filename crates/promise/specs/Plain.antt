@@ -64,16 +64,16 @@ abbrev pub blanksThen : List (List ℕ) → Reading → Reading
 blanksThen [] after = after
 blanksThen (l ∷ ls) after = unlessFault (lineFault 0 l) ((stays l ∷ []) ⊕ blanksThen ls after)
 
--- the bytes of BOM before the first blank line
-abbrev pub blankMark : (x : ℕ) → (body : List (List ℕ)) → ℕ
-blankMark x [] = x
-blankMark x (l ∷ ls) = 0
+-- the bytes of BOM before the line behind some lines: only a first line has them
+abbrev pub markBehind : (x : ℕ) → List (List ℕ) → ℕ
+markBehind x [] = x
+markBehind x (l ∷ ls) = 0
 
 -- a block ends at its first blank line, behind that line's own checks, or at finish; one that neither has closed is left out
 abbrev pub closesBlock : (finished : Bool) → (x n : ℕ) → (body blanks : List (List ℕ)) → Reading → Reading
 closesBlock true x n body [] after = bodyThen n body after
 closesBlock false x n body [] after = after
-closesBlock f x n body (l ∷ ls) after = unlessFault (lineFault (blankMark x body) l) (bodyThen n body ((stays l ∷ []) ⊕ blanksThen ls after))
+closesBlock f x n body (l ∷ ls) after = unlessFault (lineFault (markBehind x body) l) (bodyThen n body ((stays l ∷ []) ⊕ blanksThen ls after))
 
 unfoldable pub srtRead : (finished : Bool) → (end : Reading) → (x n : ℕ) → List Block → Reading
 srtRead f end x n [] = end

@@ -1,0 +1,45 @@
+-- Whole texts and the plain reader, after a finish. Without a fault it has read what the whole text says (the files `Whole` of `ass` and `block`);
+-- with one, what the lines before the fault's line or block say.
+use mathlib.Core.Path.{_≡_}
+use mathlib.Core.Bool.{true}
+use mathlib.Core.List.{List, [], _∷_, _++_}
+use Prim.Native.Nat.{ℕ, suc, _<_}
+use Rattle.base.specs.Refusal.{_orElse_}
+use Rattle.text.specs.Line.{linesOf, lineCount}
+use Rattle.event.specs.Says.{faultNumber}
+use Rattle.event.specs.Mark.{behindMark}
+use Rattle.assline.specs.declared.layout.Columns.{Columns}
+use Rattle.ass.specs.Line.{LineSays, lineSays, faulty as lineFaulty, says as lineSaid}
+use Rattle.ass.specs.Whole.{noColumns, linesSaid, columnsBehind, assSaid}
+use Rattle.block.specs.Style.{srt, blankIn}
+use Rattle.block.specs.Block.{BlockSays, blockSays, faulty as blockFaulty, says as blockSaid}
+use Rattle.block.specs.Whole.{Block, blocksOf, blocksSaid, srtSaid}
+use Rattle.machine.specs.Reader.{fails}
+use Rattle.promise.specs.Plain.{markLength, lineFault, assRead, bodyFault, markBehind, srtRead, markBack, plainRead}
+
+-- ---- without a fault
+abbrev pub AssWhole : Type 0
+AssWhole = (text : List ℕ) → plainRead 0 true text .fault ≡ 0 → plainRead 0 true text .parts ≡ assSaid text
+
+abbrev pub SrtWhole : Type 0
+SrtWhole = (text : List ℕ) → plainRead 1 true text .fault ≡ 0 → plainRead 1 true text .parts ≡ srtSaid text
+
+-- ---- ASS: before a fault
+-- a bad time
+abbrev pub timeFault : LineSays → ℕ
+timeFault (lineFaulty f) = faultNumber f
+timeFault (lineSaid c p) = 0
+
+-- the reader stops without a fault behind the last line, else at a line by that line's fault
+abbrev pub AssStops : (x : ℕ) → Columns → (n : ℕ) → (rest : List (List ℕ)) → (fault : ℕ) → Type 0
+AssStops x c n [] k = k ≡ 0
+AssStops x c n (l ∷ ls) k = (k ≡ lineFault x l orElse timeFault (lineSays c n l)) × (0 < k)
+
+-- the lines are cut where it stops; no line before has a fault, and the parts are what these lines say, behind the BOM where it was written back
+pub record AssBefore (text : List ℕ) : Type 0 where
+  pub before : List (List ℕ)
+  pub rest : List (List ℕ)
+  pub cut : linesOf (behindMark text) ≡ before ++ rest
+  pub passes : assRead (fails 0) (markLength text) noColumns 0 before .fault ≡ 0
+  pub parts : plainRead 0 true text .parts ≡ markBack 0 true text ++ linesSaid noColumns 0 before
+  pub stops : AssStops (markBehind (markLength text) before) (columnsBehind noColumns 0 before) (lineCount before) rest (plainRead 0 true text .fault)
