@@ -3,6 +3,7 @@ pub mod PlainAss
 pub mod PlainSrt
 pub mod PlainText
 pub mod WholeAss
+pub mod WholeSrt
 pub mod PartLaws
 pub mod DemandText
 pub mod Examples

@@ -19,6 +19,7 @@ use Rattle.machine.specs.Machine.{Machine, Says, faulty}
 use Rattle.machine.specs.Reader.{Reading, fails, _⊕_, readLine, readClose}
 use Rattle.kinds.specs.Takes.{State, blankState, withBlock, ofBlock, closes, adds, blockTakes, takes, machineOf}
 use Rattle.promise.specs.Plain.{lineFault, bodyLineFault, unlessFault, bodyFault, blockThen, bodyThen, blanksThen, markBehind, closesBlock, srtRead, restFault}
+use Rattle.block.proofs.BlockShape.{blocks-none, blocks-blank, blocks-body}
 use Rattle.kinds.proofs.KindLaws.{takes-srt, ends-srt}
 use Rattle.promise.proofs.Bare.{passed, endOf, readAll}
 use Rattle.promise.proofs.PlainAss.{rest-behind, ending}
@@ -239,18 +240,6 @@ end-read true x r s n n0 e g =
 end-read false x r s n n0 e g = sym (read-open false (ending false (markBehind x (s .block)) [] r) x n0 (s .block) g)
 
 -- ---- all lines: s holds the open block's lines, which have passed their checks, and n0 lines came before them
-blocks-none : blocksOf [] ≡ []
-unfolding blocksOf
-blocks-none = refl
-
-blocks-blank : (l : List ℕ) (ls : List (List ℕ)) → blankIn 1 l ≡ true → blocksOf (l ∷ ls) ≡ blankOnto l (blocksOf ls)
-unfolding blocksOf
-blocks-blank l ls e = rw e
-
-blocks-body : (l : List ℕ) (ls : List (List ℕ)) → blankIn 1 l ≡ false → blocksOf (l ∷ ls) ≡ ontoBlock l (blocksOf ls)
-unfolding blocksOf
-blocks-body l ls e = rw e
-
 count-snoc : (ks : List (List ℕ)) (l : List ℕ) → lineCount (ks ++ (l ∷ [])) ≡ suc (lineCount ks)
 count-snoc [] l = refl
 count-snoc (k ∷ ks) l = ap suc (count-snoc ks l)
