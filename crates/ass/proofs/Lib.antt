@@ -3,3 +3,4 @@ pub mod SayLaws
 pub mod DecisionLaws
 pub mod LineFits
 pub mod LineFine
+pub mod WholeText

@@ -8,4 +8,5 @@ pub mod LineBack
 pub mod LineEnds
 pub mod BlockBack
 pub mod BlockShape
+pub mod WholeText
 pub mod Examples

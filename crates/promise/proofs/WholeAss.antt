@@ -1,6 +1,6 @@
 -- A whole ASS text and the plain reader: the same parts without a fault, and before one.
 use mathlib.Core.Path.{_≡_, refl, sym, ap, ap₂, subst, _∙_}
-use mathlib.Core.Bool.{Bool, true, false, cond, _&&_}
+use mathlib.Core.Bool.{Bool, true, _&&_}
 use mathlib.Core.List.{List, [], _∷_, _++_, append-nil}
 use Prim.Native.Nat.{ℕ, zero, suc, _+_, _<_}
 use native.Mathlib.Omega.{arith}
@@ -14,7 +14,7 @@ use Rattle.assline.specs.declared.layout.Columns.{Columns}
 use Rattle.ass.specs.Line.{LineSays, lineSays, faulty as lineFaulty, says as lineSaid}
 use Rattle.ass.specs.Answer.{columnsAfter}
 use Rattle.ass.specs.Whole.{noColumns, partThen, linesSaid, columnsBehind, assSaid}
-use Rattle.machine.specs.Reader.{Reading, fails, _⊕_}
+use Rattle.machine.specs.Reader.{Reading, fails}
 use Rattle.promise.specs.Plain.{markLength, lineFault, unlessFault, lineThen, assRead, markBehind, linesSay, opened, markBack, plainRead}
 use Rattle.promise.specs.Whole.{AssWhole, timeFault, AssStops, AssBefore}
 

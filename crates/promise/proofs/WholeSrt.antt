@@ -1,20 +1,20 @@
 -- A whole SRT text and the plain reader: the same parts without a fault, and before one.
 use mathlib.Core.Path.{_≡_, refl, sym, ap, ap₂, subst, _∙_}
-use mathlib.Core.Bool.{Bool, true, false, cond, _&&_}
+use mathlib.Core.Bool.{Bool, true, false, cond}
 use mathlib.Core.List.{List, [], _∷_, _++_, map, append-nil, append-assoc}
 use Prim.Native.Nat.{ℕ, zero, suc, _+_, _<_}
 use native.Mathlib.Omega.{arith}
 use lib.Dec.{eqb}
 use lib.ListN.{length}
 use Rattle.base.specs.Refusal.{_orElse_}
-use Rattle.base.proofs.RefusalLaws.{else-none, else-zero}
+use Rattle.base.proofs.RefusalLaws.{else-zero}
 use Rattle.text.specs.Line.{linesOf, lineCount}
 use Rattle.event.specs.Says.{Part, stays, faultNumber}
 use Rattle.event.specs.Mark.{marked, behindMark}
 use Rattle.block.specs.Style.{srt, blankIn}
 use Rattle.block.specs.Block.{BlockSays, blockSays, faulty as blockFaulty, says as blockSaid}
 use Rattle.block.specs.Whole.{Block, blockOf, ontoBlock, ontoBlanks, blankOnto, blocksOf, partThen, bodySaid, blocksSaid, srtSaid}
-use Rattle.block.proofs.BlockShape.{blockLines, AllBlank, Lines, Ended, Others, Blocks, lines-more, others-blocks, blocks-joined, blocks-shape, blocks-only, blocks-none, blocks-blank, blocks-body}
+use Rattle.block.proofs.BlockShape.{blockLines, AllBlank, Lines, Ended, Others, Blocks, lines-more, others-blocks, blocks-joined, blocks-shape, blocks-only, blocks-blank, blocks-body}
 use Rattle.machine.specs.Reader.{Reading, fails, _⊕_}
 use Rattle.promise.specs.Plain.{markLength, lineFault, bodyLineFault, unlessFault, bodyFault, blockThen, bodyThen, blanksThen, markBehind, closesBlock, srtRead, linesSay, opened, markBack, plainRead}
 use Rattle.promise.specs.Whole.{SrtWhole, blockTimeFault, bodyTimeFault, firstBlankFault, blockFault, SrtStops, endsBlank, SrtBefore}
@@ -238,7 +238,7 @@ module _ (x n : ℕ) (body : List (List ℕ)) where
       let head : List (List ℕ) = body ++ ((l₀ ∷ p) ++ []) in
       let tail : List (List ℕ) = (l ∷ q) ++ blockLines bs in
       let r : read x n (blockOf body (l₀ ∷ ls) ∷ bs) ≡ bodyParts n body ⊕ ((stays l₀ ∷ []) ⊕ (map stays p ⊕ fails (suc k))) =
-          read-pass (l₀ ∷ ls) bs e ∙ ap (λ (y : Reading). bodyParts n body ⊕ ((stays l₀ ∷ []) ⊕ y)) (f (read 0 (next (l₀ ∷ ls)) bs)) in
+      read-pass (l₀ ∷ ls) bs e ∙ ap (λ (y : Reading). bodyParts n body ⊕ ((stays l₀ ∷ []) ⊕ y)) (f (read 0 (next (l₀ ∷ ls)) bs)) in
       let own : blockFault 0 (n + lineCount head) [] (l ∷ q) ≡ suc k = ap (λ (i : ℕ). i orElse 0) g in
       record {
         before = blockOf body (l₀ ∷ p) ∷ [];
@@ -268,9 +268,9 @@ module _ (x n : ℕ) (body : List (List ℕ)) where
       let head : List (List ℕ) = blockLines (c .before) in
       let tail : List (List ℕ) = blockLines (c .rest) in
       let reads : (cs : List Block) → read x n (blockOf body blanks ∷ cs) ≡ bodyParts n body ⊕ (map stays blanks ⊕ read 0 (next blanks) cs) =
-          λ cs. read-pass blanks cs e ∙ ap (λ (y : Reading). bodyParts n body ⊕ y) (f (read 0 (next blanks) cs)) in
+      λ cs. read-pass blanks cs e ∙ ap (λ (y : Reading). bodyParts n body ⊕ y) (f (read 0 (next blanks) cs)) in
       let m : next blanks + lineCount head ≡ n + lineCount (body ++ (blanks ++ head)) =
-          omega (arith, count-append body (blanks ++ head), count-append blanks head) in
+      omega (arith, count-append body (blanks ++ head), count-append blanks head) in
       record {
         before = blockOf body blanks ∷ c .before;
         rest = c .rest;
