@@ -3,3 +3,4 @@ pub mod SayLaws
 pub mod LineFits
 pub mod LineFine
 pub mod LineBack
+pub mod WholeText

@@ -1,3 +1,4 @@
--- What an ASS line says, and what the code answers to it.
+-- What an ASS line says, what the code answers to it, and what a whole text says.
 pub mod Line
 pub mod Answer
+pub mod Whole

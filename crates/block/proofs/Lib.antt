@@ -7,4 +7,6 @@ pub mod FineBlock
 pub mod LineBack
 pub mod LineEnds
 pub mod BlockBack
+pub mod BlockShape
+pub mod WholeText
 pub mod Examples

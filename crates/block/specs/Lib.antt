@@ -1,5 +1,6 @@
--- Blocks of lines (SRT): the timing line, the end's twelve bytes, and what a block says.
+-- Blocks of lines (SRT): the timing line, the end's twelve bytes, what a block says, and what a whole text says.
 pub mod Style
 pub mod Block
 pub mod Answer
 pub mod Place
+pub mod Whole

@@ -3,5 +3,6 @@ pub mod Hit
 pub mod Decide
 pub mod Fates
 pub mod Says
+pub mod Mark
 pub mod Emit
 pub mod Told

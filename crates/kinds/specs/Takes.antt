@@ -9,6 +9,7 @@ use Rattle.text.specs.Utf8.{utf8}
 use Rattle.text.specs.Line.{concat, lineCount}
 use Rattle.event.specs.Says.{Part, stays, notUtf8, longBlock}
 use Rattle.assline.specs.declared.layout.Columns.{Columns}
+pub use Rattle.ass.specs.Whole.{noColumns}
 use Rattle.ass.specs.Line.{LineSays, lineSays, faulty as lineFaulty, says as lineSaid}
 use Rattle.block.specs.Style.{Style, srt}
 use Rattle.block.specs.Block.{BlockSays, blockSays, faulty as blockFaulty, says as blockSaid}
@@ -20,9 +21,6 @@ pub record State : Type 0 where
   pub block : List (List ℕ)
 
 -- at first outside Events, columns unknown, no block
-abbrev pub noColumns : Columns
-noColumns = record { events = false; columns = 0; start = 0; «end» = 0 }
-
 abbrev pub blankState : State
 blankState = record { columns = noColumns; block = [] }
 

@@ -7,11 +7,9 @@ use lib.ListN.{length, drop}
 use Rattle.base.specs.Limits.{mostLine}
 use Rattle.text.specs.Find.{starts, equals}
 use Rattle.event.specs.Says.{Part, stays, Fault, faultNumber}
+pub use Rattle.event.specs.Mark.{bom}
 
 -- ---- the byte order mark
-abbrev pub bom : List ℕ
-bom = 239 ∷ 187 ∷ 191 ∷ []
-
 unfoldable pub hasBom : List ℕ → Bool
 hasBom l = starts bom l
 

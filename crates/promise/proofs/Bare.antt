@@ -11,12 +11,13 @@ use Rattle.base.specs.Limits.{mostLine}
 use Rattle.base.specs.Refusal.{faultUnless}
 use Rattle.text.specs.Find.{starts, equals}
 use Rattle.text.specs.Line.{concat}
+use Rattle.event.specs.Mark.{bom, markWritten}
 use Rattle.machine.specs.Cut.{Cut, before, push, cut, isLf, closedLines, unfinished}
-use Rattle.machine.specs.Machine.{Machine, Says, faulty, says, bom, hasBom, withBom, takeLine, Rest, bomAlone, lastLine, restFor, restOf}
+use Rattle.machine.specs.Machine.{Machine, Says, faulty, says, hasBom, withBom, takeLine, Rest, bomAlone, lastLine, restFor, restOf}
 use Rattle.machine.specs.Reader.{Reading, fails, _⊕_, readLine, readClose, readLast, readRest, readLines, readText}
 use Rattle.machine.proofs.CutLaws.{cut-joined, restLines, lines-of-cut}
 use Rattle.machine.proofs.OpenLines.{bom-behind}
-use Rattle.promise.specs.Plain.{linesRead, markWritten}
+use Rattle.promise.specs.Plain.{linesRead}
 
 -- the rest is a line after a finish
 abbrev pub endLines : Bool → List ℕ → List (List ℕ)

@@ -23,9 +23,10 @@ use Rattle.assline.specs.Section.{bracketed, inside}
 use Rattle.assline.specs.Frame.{pieceAt, fieldPieces}
 use Rattle.block.specs.Style.{blankIn, srtEnd}
 use Rattle.block.specs.Block.{blockFrame, blockCue, timingOf, afterArrow, lineSays as blockLineSays, blockSays}
-use Rattle.machine.specs.Machine.{bom}
+use Rattle.block.specs.Whole.{blocksOf}
+use Rattle.event.specs.Mark.{bom}
 use Rattle.machine.specs.Reader.{reading, fails}
-use Rattle.promise.specs.Plain.{lineFault, bodyLineFault, assRead, blocksOf, bodyFault, srtRead, linesSay, plainRead}
+use Rattle.promise.specs.Plain.{lineFault, bodyLineFault, assRead, bodyFault, srtRead, linesSay, plainRead}
 
 abbrev line : String → List ℕ
 line s = ascii s ++ 10 ∷ []

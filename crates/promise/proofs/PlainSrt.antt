@@ -14,10 +14,12 @@ use Rattle.text.specs.Line.{concat, lineCount}
 use Rattle.event.specs.Says.{Part, stays, notUtf8}
 use Rattle.block.specs.Style.{srt, blankIn}
 use Rattle.block.specs.Block.{BlockSays, blockSays, faulty as blockFaulty, says as blockSaid}
+use Rattle.block.specs.Whole.{Block, blockOf, ontoBlock, ontoBlanks, blankOnto, blocksOf}
 use Rattle.machine.specs.Machine.{Machine, Says, faulty}
 use Rattle.machine.specs.Reader.{Reading, fails, _⊕_, readLine, readClose}
 use Rattle.kinds.specs.Takes.{State, blankState, withBlock, ofBlock, closes, adds, blockTakes, takes, machineOf}
-use Rattle.promise.specs.Plain.{lineFault, bodyLineFault, unlessFault, Block, blockOf, ontoBlock, ontoBlanks, blankOnto, blocksOf, bodyFault, blockThen, bodyThen, blanksThen, blankMark, closesBlock, srtRead, restFault}
+use Rattle.promise.specs.Plain.{lineFault, bodyLineFault, unlessFault, bodyFault, blockThen, bodyThen, blanksThen, markBehind, closesBlock, srtRead, restFault}
+use Rattle.block.proofs.BlockShape.{blocks-none, blocks-blank, blocks-body}
 use Rattle.kinds.proofs.KindLaws.{takes-srt, ends-srt}
 use Rattle.promise.proofs.Bare.{passed, endOf, readAll}
 use Rattle.promise.proofs.PlainAss.{rest-behind, ending}
@@ -45,12 +47,12 @@ body-none : (x size : ℕ) → bodyFault x size [] ≡ 0
 unfolding bodyFault
 body-none x size = refl
 
-mark-zero : (ks : List (List ℕ)) → blankMark 0 ks ≡ 0
+mark-zero : (ks : List (List ℕ)) → markBehind 0 ks ≡ 0
 mark-zero [] = refl
 mark-zero (k ∷ ks) = refl
 
 body-append : (ks more : List (List ℕ)) (x size : ℕ) → bodyFault x size ks ≡ 0
-    → bodyFault x size (ks ++ more) ≡ bodyFault (blankMark x ks) (size + length (concat ks)) more
+    → bodyFault x size (ks ++ more) ≡ bodyFault (markBehind x ks) (size + length (concat ks)) more
 unfolding bodyFault
 body-append [] more x size e = let z : size ≡ size + 0 = omega arith in ap (λ (k : ℕ). bodyFault x k more) z
 body-append (k ∷ ks) more x size e =
@@ -112,29 +114,29 @@ read-blanks f z n blanks bs =
 
 -- a block that a blank line closes
 closes-at : (f : Bool) (x n : ℕ) (body : List (List ℕ)) (l : List ℕ) (ls : List (List ℕ)) (after : Reading)
-    → closesBlock f x n body (l ∷ ls) after ≡ unlessFault (lineFault (blankMark x body) l) (bodyThen n body ((stays l ∷ []) ⊕ blanksThen ls after))
+    → closesBlock f x n body (l ∷ ls) after ≡ unlessFault (lineFault (markBehind x body) l) (bodyThen n body ((stays l ∷ []) ⊕ blanksThen ls after))
 closes-at true x n body l ls after = refl
 closes-at false x n body l ls after = refl
 
 read-closed : (f : Bool) (z : Reading) (x n : ℕ) (ks : List (List ℕ)) (l : List ℕ) (ls : List (List ℕ)) (bs : List Block) → bodyFault x 0 ks ≡ 0
     → srtRead f z x n (prefix ks (blockOf [] (l ∷ ls) ∷ bs))
-    ≡ unlessFault (lineFault (blankMark x ks) l) (bodyThen n ks ((stays l ∷ []) ⊕ blanksThen ls (srtRead f z 0 (suc (n + lineCount ks) + lineCount ls) bs)))
+    ≡ unlessFault (lineFault (markBehind x ks) l) (bodyThen n ks ((stays l ∷ []) ⊕ blanksThen ls (srtRead f z 0 (suc (n + lineCount ks) + lineCount ls) bs)))
 read-closed f z x n ks l ls bs e =
     ap (λ (b : List (List ℕ)). srtRead f z x n (blockOf b (l ∷ ls) ∷ bs)) (append-nil ks)
     ∙ read-block f z x n ks (l ∷ ls) bs
     ∙ ap (λ (i : ℕ). unlessFault i (closesBlock f x n ks (l ∷ ls) (srtRead f z 0 (n + lineCount ks + lineCount (l ∷ ls)) bs))) e
     ∙ closes-at f x n ks l ls (srtRead f z 0 (n + lineCount ks + lineCount (l ∷ ls)) bs)
     ∙ (let q : n + lineCount ks + suc (lineCount ls) ≡ suc (n + lineCount ks) + lineCount ls = omega arith in
-    ap (λ (i : ℕ). unlessFault (lineFault (blankMark x ks) l) (bodyThen n ks ((stays l ∷ []) ⊕ blanksThen ls (srtRead f z 0 i bs)))) q)
+    ap (λ (i : ℕ). unlessFault (lineFault (markBehind x ks) l) (bodyThen n ks ((stays l ∷ []) ⊕ blanksThen ls (srtRead f z 0 i bs)))) q)
 
 -- a blank line, whatever comes behind it
 read-blank : (f : Bool) (z : Reading) (x n : ℕ) (ks : List (List ℕ)) (l : List ℕ) (bs : List Block) → bodyFault x 0 ks ≡ 0
     → srtRead f z x n (prefix ks (blankOnto l bs))
-    ≡ unlessFault (lineFault (blankMark x ks) l) (bodyThen n ks ((stays l ∷ []) ⊕ srtRead f z 0 (suc (n + lineCount ks)) bs))
+    ≡ unlessFault (lineFault (markBehind x ks) l) (bodyThen n ks ((stays l ∷ []) ⊕ srtRead f z 0 (suc (n + lineCount ks)) bs))
 read-blank f z x n ks l bs e = by-blocks bs
   where
     rest : Reading → Reading
-    rest r = unlessFault (lineFault (blankMark x ks) l) (bodyThen n ks ((stays l ∷ []) ⊕ r))
+    rest r = unlessFault (lineFault (markBehind x ks) l) (bodyThen n ks ((stays l ∷ []) ⊕ r))
 
     same : (i : ℕ) (bs : List Block) → i ≡ suc (n + lineCount ks) → rest (srtRead f z 0 i bs) ≡ rest (srtRead f z 0 (suc (n + lineCount ks)) bs)
     same i bs q = ap (λ (i : ℕ). rest (srtRead f z 0 i bs)) q
@@ -231,30 +233,18 @@ read-open f z x n (k ∷ ks) e =
     ∙ ap (closesBlock f x n (k ∷ ks) []) (read-none f z 0 (n + lineCount (k ∷ ks) + 0))
 
 end-read : (f : Bool) (x : ℕ) (r : List ℕ) (s : State) (n n0 : ℕ) → n ≡ n0 + lineCount (s .block) → bodyFault x 0 (s .block) ≡ 0
-    → endOf M f (blankMark x (s .block)) r s n ≡ srtRead f (ending f (blankMark x (s .block)) [] r) x n0 (prefix (s .block) [])
+    → endOf M f (markBehind x (s .block)) r s n ≡ srtRead f (ending f (markBehind x (s .block)) [] r) x n0 (prefix (s .block) [])
 end-read true x r s n n0 e g =
     ap (readClose M) (ends-srt s n) ∙ close-read s n n0 (s .block) e
     ∙ sym (read-open true (fails 0) x n0 (s .block) g)
-end-read false x r s n n0 e g = sym (read-open false (ending false (blankMark x (s .block)) [] r) x n0 (s .block) g)
+end-read false x r s n n0 e g = sym (read-open false (ending false (markBehind x (s .block)) [] r) x n0 (s .block) g)
 
 -- ---- all lines: s holds the open block's lines, which have passed their checks, and n0 lines came before them
-blocks-none : blocksOf [] ≡ []
-unfolding blocksOf
-blocks-none = refl
-
-blocks-blank : (l : List ℕ) (ls : List (List ℕ)) → blankIn 1 l ≡ true → blocksOf (l ∷ ls) ≡ blankOnto l (blocksOf ls)
-unfolding blocksOf
-blocks-blank l ls e = rw e
-
-blocks-body : (l : List ℕ) (ls : List (List ℕ)) → blankIn 1 l ≡ false → blocksOf (l ∷ ls) ≡ ontoBlock l (blocksOf ls)
-unfolding blocksOf
-blocks-body l ls e = rw e
-
 count-snoc : (ks : List (List ℕ)) (l : List ℕ) → lineCount (ks ++ (l ∷ [])) ≡ suc (lineCount ks)
 count-snoc [] l = refl
 count-snoc (k ∷ ks) l = ap suc (count-snoc ks l)
 
-mark-snoc : (x : ℕ) (ks : List (List ℕ)) (l : List ℕ) → blankMark x (ks ++ (l ∷ [])) ≡ 0
+mark-snoc : (x : ℕ) (ks : List (List ℕ)) (l : List ℕ) → markBehind x (ks ++ (l ∷ [])) ≡ 0
 mark-snoc x [] l = refl
 mark-snoc x (k ∷ ks) l = refl
 
@@ -267,33 +257,33 @@ body-one : (x size : ℕ) (l : List ℕ) → bodyFault x size (l ∷ []) ≡ bod
 unfolding bodyFault
 body-one x size l = else-same (bodyLineFault x size l)
 
-body-snoc : (ks : List (List ℕ)) (l : List ℕ) (x : ℕ) → bodyFault x 0 ks ≡ 0 → bodyFault x 0 (ks ++ (l ∷ [])) ≡ bodyLineFault (blankMark x ks) (length (concat ks)) l
+body-snoc : (ks : List (List ℕ)) (l : List ℕ) (x : ℕ) → bodyFault x 0 ks ≡ 0 → bodyFault x 0 (ks ++ (l ∷ [])) ≡ bodyLineFault (markBehind x ks) (length (concat ks)) l
 body-snoc ks l x e =
     let z : 0 + length (concat ks) ≡ length (concat ks) = omega arith in
-    body-append ks (l ∷ []) x 0 e ∙ body-one (blankMark x ks) (0 + length (concat ks)) l
-    ∙ ap (λ (i : ℕ). bodyLineFault (blankMark x ks) i l) z
+    body-append ks (l ∷ []) x 0 e ∙ body-one (markBehind x ks) (0 + length (concat ks)) l
+    ∙ ap (λ (i : ℕ). bodyLineFault (markBehind x ks) i l) z
 
 abbrev Reads : Bool → List (List ℕ) → List ℕ → Type 0
 Reads f ls r =
     (x : ℕ) (s : State) (n n0 : ℕ) → n ≡ n0 + lineCount (s .block) → bodyFault x 0 (s .block) ≡ 0
-    → readAll M f (blankMark x (s .block)) ls r s n ≡ srtRead f (ending f (blankMark x (s .block)) ls r) x n0 (prefix (s .block) (blocksOf ls))
+    → readAll M f (markBehind x (s .block)) ls r s n ≡ srtRead f (ending f (markBehind x (s .block)) ls r) x n0 (prefix (s .block) (blocksOf ls))
 
 by-fault : (f : Bool) (l : List ℕ) (ls : List (List ℕ)) (r : List ℕ) → Reads f ls r → (x : ℕ) (s : State) (n n0 : ℕ) → n ≡ n0 + lineCount (s .block) → bodyFault x 0 (s .block) ≡ 0
-    → (k : ℕ) → bodyLineFault (blankMark x (s .block)) (length (concat (s .block))) l ≡ k
+    → (k : ℕ) → bodyLineFault (markBehind x (s .block)) (length (concat (s .block))) l ≡ k
     → unlessFault k (readAll M f 0 ls r (withBlock (s .block ++ (l ∷ [])) s) (suc n))
-    ≡ srtRead f (ending f (blankMark x (s .block)) (l ∷ ls) r) x n0 (prefix (s .block ++ (l ∷ [])) (blocksOf ls))
+    ≡ srtRead f (ending f (markBehind x (s .block)) (l ∷ ls) r) x n0 (prefix (s .block ++ (l ∷ [])) (blocksOf ls))
 by-fault f l ls r ih x s n n0 e g zero h =
     let q : suc n ≡ n0 + lineCount (s .block ++ (l ∷ [])) = omega (arith, count-snoc (s .block) l) in
     ap (λ (i : ℕ). readAll M f i ls r (withBlock (s .block ++ (l ∷ [])) s) (suc n)) (sym (mark-snoc x (s .block) l))
     ∙ ih x (withBlock (s .block ++ (l ∷ [])) s) (suc n) n0 q (body-snoc (s .block) l x g ∙ h)
     ∙ ap (λ (i : ℕ). srtRead f (fails i) x n0 (prefix (s .block ++ (l ∷ [])) (blocksOf ls)))
-    (ap (λ (i : ℕ). restFault f i ls r) (mark-snoc x (s .block) l) ∙ rest-behind f (blankMark x (s .block)) l ls r)
+    (ap (λ (i : ℕ). restFault f i ls r) (mark-snoc x (s .block) l) ∙ rest-behind f (markBehind x (s .block)) l ls r)
 by-fault f l ls r ih x s n n0 e g (suc j) h =
-    sym (read-faulty f (ending f (blankMark x (s .block)) (l ∷ ls) r) x n0 j (s .block ++ (l ∷ [])) (blocksOf ls) (body-snoc (s .block) l x g ∙ h))
+    sym (read-faulty f (ending f (markBehind x (s .block)) (l ∷ ls) r) x n0 j (s .block ++ (l ∷ [])) (blocksOf ls) (body-snoc (s .block) l x g ∙ h))
 
 blank-next : (f : Bool) (l : List ℕ) (ls : List (List ℕ)) (r : List ℕ) → Reads f ls r → blankIn 1 l ≡ true → Reads f (l ∷ ls) r
 blank-next f l ls r ih p x s n n0 e g =
-    let y : ℕ = blankMark x (s .block) in
+    let y : ℕ = markBehind x (s .block) in
     let q : suc n ≡ suc n + 0 = omega arith in
     let m : suc n ≡ suc (n0 + lineCount (s .block)) = omega arith in
     blank-line y s n n0 l (λ t. readAll M f 0 ls r t (suc n)) e p
@@ -306,7 +296,7 @@ blank-next f l ls r ih p x s n n0 e g =
 
 body-next : (f : Bool) (l : List ℕ) (ls : List (List ℕ)) (r : List ℕ) → Reads f ls r → blankIn 1 l ≡ false → Reads f (l ∷ ls) r
 body-next f l ls r ih p x s n n0 e g =
-    let y : ℕ = blankMark x (s .block) in
+    let y : ℕ = markBehind x (s .block) in
     let z : Reading = ending f y (l ∷ ls) r in
     let ks : List (List ℕ) = s .block ++ (l ∷ []) in
     body-line y s n l (λ t. readAll M f 0 ls r t (suc n)) p
@@ -321,7 +311,7 @@ next-line f l ls r ih false p = body-next f l ls r ih p
 pub srt-reads : (f : Bool) (ls : List (List ℕ)) (r : List ℕ) → Reads f ls r
 srt-reads f [] r x s n n0 e g =
     end-read f x r s n n0 e g
-    ∙ ap (λ (bs : List Block). srtRead f (ending f (blankMark x (s .block)) [] r) x n0 (prefix (s .block) bs)) (sym blocks-none)
+    ∙ ap (λ (bs : List Block). srtRead f (ending f (markBehind x (s .block)) [] r) x n0 (prefix (s .block) bs)) (sym blocks-none)
 srt-reads f (l ∷ ls) r x s n n0 e g = next-line f l ls r (srt-reads f ls r) (blankIn 1 l) refl x s n n0 e g
 
 -- from the start

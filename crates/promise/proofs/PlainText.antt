@@ -9,13 +9,14 @@ use Rattle.base.specs.Limits.{mostLine}
 use Rattle.base.proofs.Laws.{and-true}
 use Rattle.text.specs.Find.{starts}
 use Rattle.time.specs.Kind.{kindBad}
+use Rattle.event.specs.Mark.{bom, markWritten}
 use Rattle.time.proofs.Limits.{by-kind}
 use Rattle.machine.specs.Cut.{closedLines, unfinished}
-use Rattle.machine.specs.Machine.{bom, hasBom}
+use Rattle.machine.specs.Machine.{hasBom}
 use Rattle.machine.specs.Reader.{Reading, fails, _⊕_, readText}
 use Rattle.kinds.specs.Takes.{blankState, closes, takes, ends, machineOf}
 use Rattle.kinds.specs.Kit.{said}
-use Rattle.promise.specs.Plain.{linesRead, linesSay, restFault, firstFault, opened, markWritten, readBehind, plainRead}
+use Rattle.promise.specs.Plain.{linesRead, linesSay, restFault, firstFault, opened, readBehind, plainRead}
 use Rattle.kinds.proofs.KindLaws.{ends-ass, ends-srt}
 use Rattle.promise.proofs.Bare.{passed, opens, readAll, unmarked-text, marked-text}
 use Rattle.promise.proofs.PlainAss.{ending, ass-lines, ass-first}

@@ -3,29 +3,23 @@ use mathlib.Core.Bool.{Bool, true, false, _&&_, cond}
 use mathlib.Core.List.{List, [], _∷_}
 use Prim.Native.Nat.{ℕ, zero, suc, _+_}
 use lib.Dec.{leb, eqb}
-use lib.ListN.{length, drop}
+use lib.ListN.{length}
 use Rattle.base.specs.Limits.{mostLine, mostBlock}
 use Rattle.base.specs.Refusal.{_orElse_, faultUnless}
 use Rattle.text.specs.Utf8.{utf8}
-use Rattle.text.specs.Find.{starts}
 use Rattle.text.specs.Line.{linesOf, lineCount}
 use Rattle.event.specs.Says.{Part, stays, faultNumber}
+use Rattle.event.specs.Mark.{marked, behindMark, markWritten}
 use Rattle.assline.specs.declared.layout.Columns.{Columns}
 use Rattle.ass.specs.Line.{LineSays, lineSays, faulty as lineFaulty, says as lineSaid}
+use Rattle.ass.specs.Whole.{noColumns}
 use Rattle.block.specs.Style.{srt, blankIn}
 use Rattle.block.specs.Block.{BlockSays, blockSays, faulty as blockFaulty, says as blockSaid}
+use Rattle.block.specs.Whole.{Block, blocksOf}
 use Rattle.machine.specs.Cut.{closedLines, unfinished}
-use Rattle.machine.specs.Machine.{bom}
 use Rattle.machine.specs.Reader.{Reading, fails, _⊕_}
-use Rattle.kinds.specs.Takes.{noColumns}
 
--- ---- the text behind a leading BOM, and the bytes that the BOM adds to its first line
-abbrev pub marked : List ℕ → Bool
-marked text = starts bom text
-
-abbrev pub behindMark : List ℕ → List ℕ
-behindMark text = cond (marked text) (drop 3 text) text
-
+-- ---- the bytes that a leading BOM adds to the first line
 abbrev pub markLength : List ℕ → ℕ
 markLength text = cond (marked text) 3 0
 
@@ -50,32 +44,7 @@ unfoldable pub assRead : (end : Reading) → (x : ℕ) → Columns → (n : ℕ)
 assRead end x c n [] = end
 assRead end x c n (l ∷ ls) = unlessFault (lineFault x l) (lineThen (lineSays c n l) (λ d. assRead end 0 d (suc n) ls))
 
--- ---- SRT: a block is the non-blank lines, then the blank ones
-pub record Block : Type 0 where
-  pub body : List (List ℕ)
-  pub blanks : List (List ℕ)
-
-abbrev pub blockOf : (body blanks : List (List ℕ)) → Block
-blockOf body blanks = record { body = body; blanks = blanks }
-
--- a line that is not blank goes to the block behind it
-abbrev pub ontoBlock : List ℕ → List Block → List Block
-ontoBlock l [] = blockOf (l ∷ []) [] ∷ []
-ontoBlock l (b ∷ bs) = blockOf (l ∷ b .body) (b .blanks) ∷ bs
-
--- a blank line goes to the blank ones behind it, and ends a block before them
-abbrev pub ontoBlanks : List ℕ → (body blanks : List (List ℕ)) → List Block → List Block
-ontoBlanks l [] blanks bs = blockOf [] (l ∷ blanks) ∷ bs
-ontoBlanks l (k ∷ ks) blanks bs = blockOf [] (l ∷ []) ∷ blockOf (k ∷ ks) blanks ∷ bs
-
-abbrev pub blankOnto : List ℕ → List Block → List Block
-blankOnto l [] = blockOf [] (l ∷ []) ∷ []
-blankOnto l (b ∷ bs) = ontoBlanks l (b .body) (b .blanks) bs
-
-unfoldable pub blocksOf : List (List ℕ) → List Block
-blocksOf [] = []
-blocksOf (l ∷ ls) = cond (blankIn 1 l) (blankOnto l (blocksOf ls)) (ontoBlock l (blocksOf ls))
-
+-- ---- SRT: block by block
 -- the first fault of a block's non-blank lines
 unfoldable pub bodyFault : (x size : ℕ) → List (List ℕ) → ℕ
 bodyFault x size [] = 0
@@ -95,16 +64,16 @@ abbrev pub blanksThen : List (List ℕ) → Reading → Reading
 blanksThen [] after = after
 blanksThen (l ∷ ls) after = unlessFault (lineFault 0 l) ((stays l ∷ []) ⊕ blanksThen ls after)
 
--- the bytes of BOM before the first blank line
-abbrev pub blankMark : (x : ℕ) → (body : List (List ℕ)) → ℕ
-blankMark x [] = x
-blankMark x (l ∷ ls) = 0
+-- the bytes of BOM before the line behind some lines: only a first line has them
+abbrev pub markBehind : (x : ℕ) → List (List ℕ) → ℕ
+markBehind x [] = x
+markBehind x (l ∷ ls) = 0
 
 -- a block ends at its first blank line, behind that line's own checks, or at finish; one that neither has closed is left out
 abbrev pub closesBlock : (finished : Bool) → (x n : ℕ) → (body blanks : List (List ℕ)) → Reading → Reading
 closesBlock true x n body [] after = bodyThen n body after
 closesBlock false x n body [] after = after
-closesBlock f x n body (l ∷ ls) after = unlessFault (lineFault (blankMark x body) l) (bodyThen n body ((stays l ∷ []) ⊕ blanksThen ls after))
+closesBlock f x n body (l ∷ ls) after = unlessFault (lineFault (markBehind x body) l) (bodyThen n body ((stays l ∷ []) ⊕ blanksThen ls after))
 
 unfoldable pub srtRead : (finished : Bool) → (end : Reading) → (x n : ℕ) → List Block → Reading
 srtRead f end x n [] = end
@@ -135,16 +104,13 @@ abbrev pub opened : (kind : ℕ) → (finished : Bool) → (x : ℕ) → List (L
 opened kind f x [] = f
 opened kind f x (l ∷ ls) = eqb (firstFault kind x l) 0
 
-abbrev pub markWritten : Bool → List Part
-markWritten true = stays bom ∷ []
-markWritten false = []
-
 module _ (kind : ℕ) (finished : Bool) where
   -- t: the text behind its BOM of x bytes
   abbrev pub readBehind : (x : ℕ) → (t : List ℕ) → Reading
   readBehind x t = linesSay kind finished (fails (restFault finished x (closedLines t) (unfinished t))) x (linesRead finished t)
 
+  abbrev pub markBack : (text : List ℕ) → List Part
+  markBack text = markWritten (marked text && opened kind finished (markLength text) (linesRead finished (behindMark text)))
+
   unfoldable pub plainRead : (text : List ℕ) → Reading
-  plainRead text =
-      markWritten (marked text && opened kind finished (markLength text) (linesRead finished (behindMark text)))
-      ⊕ readBehind (markLength text) (behindMark text)
+  plainRead text = markBack text ⊕ readBehind (markLength text) (behindMark text)

@@ -1,0 +1,161 @@
+-- A whole ASS text and the plain reader: the same parts without a fault, and before one.
+use mathlib.Core.Path.{_≡_, refl, sym, ap, ap₂, subst, _∙_}
+use mathlib.Core.Bool.{Bool, true, _&&_}
+use mathlib.Core.List.{List, [], _∷_, _++_, append-nil}
+use Prim.Native.Nat.{ℕ, zero, suc, _+_, _<_}
+use native.Mathlib.Omega.{arith}
+use lib.Dec.{eqb}
+use Rattle.base.specs.Refusal.{_orElse_}
+use Rattle.base.proofs.Laws.{and-true}
+use Rattle.text.specs.Line.{linesOf, lineCount}
+use Rattle.event.specs.Says.{Part, Fault, longLine, notUtf8, longBlock, badTime, faultNumber}
+use Rattle.event.specs.Mark.{marked, behindMark, markWritten}
+use Rattle.assline.specs.declared.layout.Columns.{Columns}
+use Rattle.ass.specs.Line.{LineSays, lineSays, faulty as lineFaulty, says as lineSaid}
+use Rattle.ass.specs.Answer.{columnsAfter}
+use Rattle.ass.specs.Whole.{noColumns, partThen, linesSaid, columnsBehind, assSaid}
+use Rattle.machine.specs.Reader.{Reading, fails}
+use Rattle.promise.specs.Plain.{markLength, lineFault, unlessFault, lineThen, assRead, markBehind, linesSay, opened, markBack, plainRead}
+use Rattle.promise.specs.Whole.{AssWhole, timeFault, AssStops, AssBefore}
+
+-- ---- lines, cut where the reader stops
+abbrev read : (x : ℕ) → Columns → (n : ℕ) → List (List ℕ) → Reading
+read x c n ls = assRead (fails 0) x c n ls
+
+record Cut (x : ℕ) (c : Columns) (n : ℕ) (ls : List (List ℕ)) : Type 0 where
+  before : List (List ℕ)
+  rest : List (List ℕ)
+  cut : ls ≡ before ++ rest
+  passes : read x c n before .fault ≡ 0
+  parts : read x c n ls .parts ≡ linesSaid c n before
+  stops : AssStops (markBehind x before) (columnsBehind c n before) (n + lineCount before) rest (read x c n ls .fault)
+
+stops-same : (rest : List (List ℕ)) (x y : ℕ) (c d : Columns) (n m k j : ℕ) → x ≡ y → c ≡ d → n ≡ m → k ≡ j → AssStops x c n rest k → AssStops y d m rest j
+stops-same rest x y c d n m k j p q r s h =
+    subst (λ (i : ℕ). AssStops y d m rest i) s
+    (subst (λ (i : ℕ). AssStops y d i rest k) r
+    (subst (λ (i : Columns). AssStops y i n rest k) q
+    (subst (λ (i : ℕ). AssStops i c n rest k) p h)))
+
+pub mark-none : (ls : List (List ℕ)) → markBehind 0 ls ≡ 0
+mark-none [] = refl
+mark-none (l ∷ ls) = refl
+
+pub number-positive : (f : Fault) → 0 < faultNumber f
+number-positive longLine = omega arith
+number-positive notUtf8 = omega arith
+number-positive longBlock = omega arith
+number-positive badTime = omega arith
+
+module _ (x : ℕ) (c : Columns) (n : ℕ) (l : List ℕ) where
+  read-line : (ls : List (List ℕ)) (k : ℕ) (s : LineSays) → lineFault x l ≡ k → lineSays c n l ≡ s
+      → read x c n (l ∷ ls) ≡ unlessFault k (lineThen s (λ d. read 0 d (suc n) ls))
+  unfolding assRead
+  read-line ls k s e f =
+      ap (λ (i : ℕ). unlessFault i (lineThen (lineSays c n l) (λ d. read 0 d (suc n) ls))) e
+      ∙ ap (λ (i : LineSays). unlessFault k (lineThen i (λ d. read 0 d (suc n) ls))) f
+
+  said-line : (ls : List (List ℕ)) (s : LineSays) → lineSays c n l ≡ s → linesSaid c n (l ∷ ls) ≡ partThen s (λ d. linesSaid d (suc n) ls)
+  unfolding linesSaid
+  said-line ls s e = ap (λ (i : LineSays). partThen i (λ d. linesSaid d (suc n) ls)) e
+
+  columns-line : (ls : List (List ℕ)) (s : LineSays) → lineSays c n l ≡ s → columnsBehind c n (l ∷ ls) ≡ columnsBehind (columnsAfter c s) (suc n) ls
+  unfolding columnsBehind
+  columns-line ls s e = ap (λ (i : LineSays). columnsBehind (columnsAfter c i) (suc n) ls) e
+
+  -- a line with a fault
+  here : (ls : List (List ℕ)) (k : ℕ) → read x c n (l ∷ ls) ≡ fails (suc k) → lineFault x l orElse timeFault (lineSays c n l) ≡ suc k → Cut x c n (l ∷ ls)
+  unfolding assRead linesSaid columnsBehind
+  here ls k e f =
+      let z : 0 < suc k = omega arith in
+      let m : n ≡ n + 0 = omega arith in
+      record {
+        before = [];
+        rest = l ∷ ls;
+        cut = refl;
+        passes = refl;
+        parts = ap (λ (r : Reading). r .parts) e;
+        stops =
+            stops-same (l ∷ ls) x x c c n (n + 0) (suc k) (read x c n (l ∷ ls) .fault) refl refl m (sym (ap (λ (r : Reading). r .fault) e))
+            (sym f, z);
+      }
+
+  -- a line without one
+  behind : (ls : List (List ℕ)) (d : Columns) (p : Part) → lineFault x l ≡ 0 → lineSays c n l ≡ lineSaid d p → Cut 0 d (suc n) ls → Cut x c n (l ∷ ls)
+  behind ls d p e f r =
+      let m : suc n + lineCount (r .before) ≡ n + suc (lineCount (r .before)) = omega arith in
+      record {
+        before = l ∷ r .before;
+        rest = r .rest;
+        cut = ap (λ (k : List (List ℕ)). l ∷ k) (r .cut);
+        passes = ap (λ (k : Reading). k .fault) (read-line (r .before) 0 (lineSaid d p) e f) ∙ r .passes;
+        parts =
+            ap (λ (k : Reading). k .parts) (read-line ls 0 (lineSaid d p) e f)
+            ∙ ap (λ (k : List Part). p ∷ k) (r .parts)
+            ∙ sym (said-line (r .before) (lineSaid d p) f);
+        stops =
+            stops-same (r .rest) (markBehind 0 (r .before)) 0 (columnsBehind d (suc n) (r .before)) (columnsBehind c n (l ∷ r .before))
+            (suc n + lineCount (r .before)) (n + suc (lineCount (r .before))) (read 0 d (suc n) ls .fault) (read x c n (l ∷ ls) .fault)
+            (mark-none (r .before)) (sym (columns-line (r .before) (lineSaid d p) f)) m
+            (sym (ap (λ (k : Reading). k .fault) (read-line ls 0 (lineSaid d p) e f))) (r .stops);
+      }
+
+  by-line : (ls : List (List ℕ)) (k : ℕ) (s : LineSays) → lineFault x l ≡ k → lineSays c n l ≡ s → ((d : Columns) → Cut 0 d (suc n) ls) → Cut x c n (l ∷ ls)
+  unfolding _orElse_
+  by-line ls (suc k) s e f ih = here ls k (read-line ls (suc k) s e f) (ap (λ (i : ℕ). i orElse timeFault (lineSays c n l)) e)
+  by-line ls zero (lineSaid d p) e f ih = behind ls d p e f (ih d)
+  by-line ls zero (lineFaulty g) e f ih = by-number (faultNumber g) refl (number-positive g)
+    where
+      by-number : (k : ℕ) → faultNumber g ≡ k → 0 < k → Cut x c n (l ∷ ls)
+      by-number zero q h = absurd (omega arith)
+      by-number (suc k) q h =
+          here ls k (read-line ls 0 (lineFaulty g) e f ∙ ap fails q)
+          (ap (λ (i : ℕ). i orElse timeFault (lineSays c n l)) e ∙ ap timeFault f ∙ q)
+
+cut-lines : (ls : List (List ℕ)) (x : ℕ) (c : Columns) (n : ℕ) → Cut x c n ls
+unfolding assRead linesSaid
+cut-lines [] x c n = record { before = []; rest = []; cut = refl; passes = refl; parts = refl; stops = refl }
+cut-lines (l ∷ ls) x c n = by-line x c n l ls (lineFault x l) (lineSays c n l) refl refl (λ d. cut-lines ls 0 d (suc n))
+
+-- ---- the text
+pub ass-before : (text : List ℕ) → AssBefore text
+unfolding plainRead linesSay
+ass-before text =
+    let r = cut-lines (linesOf (behindMark text)) (markLength text) noColumns 0 in
+    let m : 0 + lineCount (r .before) ≡ lineCount (r .before) = omega arith in
+    record {
+      before = r .before;
+      rest = r .rest;
+      cut = r .cut;
+      passes = r .passes;
+      parts = ap (λ (ps : List Part). markBack 0 true text ++ ps) (r .parts);
+      stops = subst (λ (i : ℕ). AssStops (markBehind (markLength text) (r .before)) (columnsBehind noColumns 0 (r .before)) i (r .rest) (plainRead 0 true text .fault)) m (r .stops);
+    }
+
+-- without a fault nothing is left behind the cut, and a BOM was written back
+rest-none : (x : ℕ) (c : Columns) (n k : ℕ) (rest : List (List ℕ)) → AssStops x c n rest k → k ≡ 0 → rest ≡ []
+rest-none x c n k [] h e = refl
+rest-none x c n k (l ∷ ls) h e = absurd (let z : 0 < k = h .1 in omega arith)
+
+pub no-fault : (k : ℕ) (r : Reading) → unlessFault k r .fault ≡ 0 → k ≡ 0
+no-fault zero r e = refl
+no-fault (suc k) r e = e
+
+opened-all : (x : ℕ) (ls : List (List ℕ)) → read x noColumns 0 ls .fault ≡ 0 → opened 0 true x ls ≡ true
+unfolding assRead
+opened-all x [] e = refl
+opened-all x (l ∷ ls) e = ap (λ (k : ℕ). eqb k 0) (no-fault (lineFault x l) (lineThen (lineSays noColumns 0 l) (λ d. read 0 d 1 ls)) e)
+
+pub mark-back : (b o : Bool) → o ≡ true → markWritten (b && o) ≡ markWritten b
+mark-back b o e = ap (λ (t : Bool). markWritten (b && t)) e ∙ ap markWritten (and-true b)
+
+pub ass-whole : AssWhole
+unfolding plainRead linesSay assSaid
+ass-whole text e =
+    let r = ass-before text in
+    let none = rest-none (markBehind (markLength text) (r .before)) (columnsBehind noColumns 0 (r .before)) (lineCount (r .before)) (plainRead 0 true text .fault) (r .rest) (r .stops) e in
+    let all : linesOf (behindMark text) ≡ r .before = r .cut ∙ ap (λ (k : List (List ℕ)). r .before ++ k) none ∙ append-nil (r .before) in
+    r .parts
+    ∙ ap₂ (λ (a b : List Part). a ++ b)
+    (mark-back (marked text) (opened 0 true (markLength text) (linesOf (behindMark text))) (opened-all (markLength text) (linesOf (behindMark text)) e))
+    (ap (linesSaid noColumns 0) (sym all))
