@@ -25,7 +25,8 @@ use Rattle.block.specs.Block.{timingOf, afterArrow, lineSays, blockSays}
 use Rattle.machine.specs.Counts.{countAll}
 use Rattle.machine.specs.Calls.{Heard}
 use Rattle.promise.specs.Runs.{outcome}
-use Rattle.promise.specs.Plain.{lineFault, bodyLineFault, blocksOf, bodyFault, srtRead, linesSay, plainRead}
+use Rattle.block.specs.Whole.{blocksOf}
+use Rattle.promise.specs.Plain.{lineFault, bodyLineFault, bodyFault, srtRead, linesSay, plainRead}
 use Rattle.example.specs.Worked.{plainMap, opened, made, toldBy, readBy, plainFour}
 use Rattle.example.specs.Texts.{srtFirst, srtRest, srtTold}
 use Rattle.example.proofs.Four.{worked}
