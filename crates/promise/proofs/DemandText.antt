@@ -19,9 +19,10 @@ use Rattle.machine.proofs.Numbers.{Opened, opened, opens-fresh, opened-config}
 use Rattle.machine.proofs.Refine.{Returned, Trace, traced, trace-plays}
 use Rattle.kinds.specs.Kit.{kit, said}
 use Rattle.promise.specs.Plain.{plainRead}
-use Rattle.promise.specs.Demand.{passings, saidIn, played, Demand}
+use Rattle.promise.specs.Demand.{passings, heard, saidIn, played, Demand}
 use Rattle.kinds.proofs.KindLaws.{lawful}
 use Rattle.promise.proofs.PlainText.{said-plain}
+use Rattle.promise.proofs.AgainLaws.{text-again}
 use Rattle.promise.proofs.PartLaws.{all-right, passed-warnings}
 
 -- from a fresh session the plain reader's answers
@@ -46,6 +47,7 @@ module _ (c : Config) (m : List ℕ) (o : Opened c m) where
             ap (λ (k : Counts). k .passed) (h .counts) ∙ passed-warnings c (segmentsOf m) ps
             ∙ ap passings (sym (h .warnings));
         fates = all-right c (segmentsOf m) (timescale-low (c .timescale) (o .timescale-good)) (omega (arith, units-low (c .kind) (o .kind-known))) ps;
+        again = text-again (heard c xs .reader .finished) (heard c xs .reader .text) (c .kind) (o .kind-known);
       }
 
 -- DEMAND 3 of the model

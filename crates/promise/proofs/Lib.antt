@@ -5,6 +5,7 @@ pub mod PlainText
 pub mod WholeAss
 pub mod WholeSrt
 pub mod PartLaws
+pub mod AgainLaws
 pub mod DemandText
 pub mod Examples
 pub mod RunLaws

@@ -20,6 +20,7 @@ use Rattle.machine.specs.Session.{Call, openSession}
 use Rattle.machine.specs.Calls.{Played, play, Heard, newReader, hear, readingOf, SameAsReader}
 use Rattle.kinds.specs.Kit.{kit}
 use Rattle.promise.specs.Plain.{plainRead}
+use Rattle.promise.specs.Again.{AllAgain}
 
 -- ---- what is right for each part, in plain words
 module _ (c : Config) (m : List Segment) where
@@ -96,3 +97,5 @@ pub record Demand (c : Config) (m : List ℕ) (xs : List Call) (p : Played Colum
   pub passed : p .session .counts .passed ≡ passings (p .warnings)
   -- every caption has its true fate, its bytes and its warnings
   pub fates : AllRight c (segmentsOf m) (saidIn c xs .parts)
+  -- a caption that is written, read again, gives the times written
+  pub again : AllAgain (c .kind) (saidIn c xs .parts)

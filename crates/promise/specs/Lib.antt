@@ -2,6 +2,7 @@
 -- `Demand` (what is claimed of a list) and `Plain` (document 01's plain reader).
 pub mod Plain
 pub mod Whole
+pub mod Again
 pub mod Demand
 pub mod Runs
 pub mod Promise

@@ -1,0 +1,164 @@
+-- Every cue that the plain reader reads can be written and read again.
+use mathlib.Core.Path.{_≡_, refl, sym, ap, subst, _∙_}
+use mathlib.Core.Logic.{_⊎_, inl, inr}
+use mathlib.Core.Bool.{Bool, true, false, cond, _&&_}
+use mathlib.Core.List.{List, [], _∷_, _++_, append-nil, append-assoc}
+use Prim.Native.Nat.{ℕ, zero, suc, _+_, _<_}
+use native.Mathlib.Omega.{arith}
+use lib.Dec.{eqb}
+use lib.ListN.{length}
+use Rattle.text.specs.Line.{linesOf, lineCount, concat, endsLine, hasLf}
+use Rattle.text.proofs.LineLaws.{line-then, line-last, Finished}
+use Rattle.time.specs.Kind.{kindBad}
+use Rattle.time.proofs.Limits.{by-kind}
+use Rattle.event.specs.Says.{Part, stays, cue, passes, faultNumber}
+use Rattle.event.specs.Mark.{marked, behindMark, markWritten}
+use Rattle.assline.specs.declared.layout.Columns.{Columns}
+use Rattle.assline.proofs.ColumnLaws.{Apart}
+use Rattle.ass.specs.Line.{LineSays, lineSays, faulty, says}
+use Rattle.ass.specs.Answer.{columnsAfter}
+use Rattle.ass.specs.Whole.{noColumns}
+use Rattle.ass.proofs.LineBack.{line-back, line-apart}
+use Rattle.block.specs.Style.{srt}
+use Rattle.block.specs.Block.{BlockSays, blockSays, faulty as blockFaulty, says as blockSaid}
+use Rattle.block.specs.Whole.{Block, blocksOf}
+use Rattle.block.proofs.BlockBack.{block-back}
+use Rattle.block.proofs.BlockShape.{blockLines, blocks-joined}
+use Rattle.machine.specs.Cut.{closedLines, unfinished}
+use Rattle.machine.specs.Reader.{Reading, fails, _⊕_}
+use Rattle.machine.proofs.CutLaws.{cut-ends, cut-open, has-none, restLines, lines-of-cut}
+use Rattle.promise.specs.Plain.{lineFault, unlessFault, lineThen, assRead, bodyFault, blockThen, bodyThen, blanksThen, markBehind, closesBlock, srtRead, linesRead, linesSay, opened, markLength, readBehind, markBack, plainRead}
+use Rattle.promise.specs.Again.{LineAgain, BlockAgain, CueAgain, PartAgain, AllAgain}
+
+again-append : (kind : ℕ) (xs ys : List Part) → AllAgain kind xs → AllAgain kind ys → AllAgain kind (xs ++ ys)
+again-append kind [] ys a b = b
+again-append kind (x ∷ xs) ys a b = (a .0, again-append kind xs ys (a .1) b)
+
+again-unless : (kind k : ℕ) (r : Reading) → AllAgain kind (r .parts) → AllAgain kind (unlessFault k r .parts)
+again-unless kind zero r a = a
+again-unless kind (suc k) r a = tt
+
+-- ---- ASS
+part-line : (c : Columns) (n : ℕ) (l : List ℕ) → Apart c → (d : Columns) (p : Part) → lineSays c n l ≡ says d p → PartAgain 0 p
+part-line c n l h d (stays x) e = tt
+part-line c n l h d (passes r k x) e = tt
+part-line c n l h d (cue q) e = record { columns = c; before = n; line = l; next = d; said = e; again = line-back c n l d q e h }
+
+ass-again : (end : Reading) → AllAgain 0 (end .parts) → (x : ℕ) (c : Columns) (n : ℕ) (ls : List (List ℕ)) → Apart c → AllAgain 0 (assRead end x c n ls .parts)
+unfolding assRead
+ass-again end a x c n [] h = a
+ass-again end a x c n (l ∷ ls) h =
+    again-unless 0 (lineFault x l) (lineThen (lineSays c n l) (λ d. assRead end 0 d (suc n) ls))
+    (go (lineSays c n l) refl (λ d k. ass-again end a 0 d (suc n) ls k))
+  where
+    go : (y : LineSays) → lineSays c n l ≡ y → ((d : Columns) → Apart d → AllAgain 0 (assRead end 0 d (suc n) ls .parts))
+        → AllAgain 0 (lineThen y (λ d. assRead end 0 d (suc n) ls) .parts)
+    go (faulty f) e k = tt
+    go (says d p) e k = (part-line c n l h d p e, k d (subst (λ (z : LineSays). Apart (columnsAfter c z)) e (line-apart c n l h)))
+
+-- ---- SRT: lines as a text has them; only the last may have no LF
+abbrev Last : List ℕ → Type 0
+Last l = (endsLine l ≡ true) ⊎ ((0 < length l) × (hasLf l ≡ false))
+
+abbrev Cut : List (List ℕ) → Type 0
+Cut [] = Unit {0}
+Cut (l ∷ []) = Last l
+Cut (l ∷ (k ∷ ls)) = (endsLine l ≡ true) × Cut (k ∷ ls)
+
+cut-tail : (l : List ℕ) (ls : List (List ℕ)) → Cut (l ∷ ls) → Cut ls
+cut-tail l [] c = tt
+cut-tail l (k ∷ ls) c = c .1
+
+cut-behind : (ks ls : List (List ℕ)) → Cut (ks ++ ls) → Cut ls
+cut-behind [] ls c = c
+cut-behind (k ∷ ks) ls c = cut-behind ks ls (cut-tail k (ks ++ ls) c)
+
+cut-before : (ks ls : List (List ℕ)) → Cut (ks ++ ls) → Cut ks
+cut-before [] ls c = tt
+cut-before (k ∷ []) [] c = c
+cut-before (k ∷ []) (l ∷ ls) c = inl (c .0)
+cut-before (k ∷ (j ∷ ks)) ls c = (c .0, cut-before (j ∷ ks) ls (c .1))
+
+-- put one behind the other they are the same lines
+cut-lines : (ls : List (List ℕ)) → Cut ls → linesOf (concat ls) ≡ ls
+unfolding linesOf
+cut-lines [] c = refl
+cut-lines (l ∷ []) (inl e) = ap linesOf (sym (append-nil (l ++ []))) ∙ ap (λ (x : List ℕ). linesOf x) (append-assoc l [] []) ∙ line-then l [] e
+cut-lines (l ∷ []) (inr e) = ap linesOf (append-nil l) ∙ line-last l (e .0) (e .1)
+cut-lines (l ∷ (k ∷ ls)) c = line-then l (concat (k ∷ ls)) (c .0) ∙ ap (λ (x : List (List ℕ)). l ∷ x) (cut-lines (k ∷ ls) (c .1))
+
+finished-cut : (ls : List (List ℕ)) (r : List ℕ) → Finished ls → hasLf r ≡ false → Cut (ls ++ restLines r)
+finished-cut [] [] f h = tt
+finished-cut [] (b ∷ r) f h = inr (omega arith, h)
+finished-cut (l ∷ []) [] f h = inl (f .0)
+finished-cut (l ∷ []) (b ∷ r) f h = (f .0, inr (omega arith, h))
+finished-cut (l ∷ (k ∷ ls)) r f h = (f .0, finished-cut (k ∷ ls) r (f .1) h)
+
+text-cut : (f : Bool) (t : List ℕ) → Cut (linesRead f t)
+text-cut true t = subst Cut (sym (lines-of-cut t)) (finished-cut (closedLines t) (unfinished t) (cut-ends t) (cut-open t))
+text-cut false t = subst Cut (append-nil (closedLines t)) (finished-cut (closedLines t) [] (cut-ends t) has-none)
+
+part-block : (first : ℕ) (ls : List (List ℕ)) → Cut ls → (p : Part) → blockSays srt first ls ≡ blockSaid p → PartAgain 1 p
+part-block first ls c (stays x) e = tt
+part-block first ls c (passes r k x) e = tt
+part-block first ls c (cue q) e =
+    let said = ap (blockSays srt first) (cut-lines ls c) ∙ e in
+    record { first = first; block = concat ls; said = said; again = block-back first (concat ls) q said }
+
+body-again : (n : ℕ) (body : List (List ℕ)) (after : Reading) → Cut body → AllAgain 1 (after .parts) → AllAgain 1 (bodyThen n body after .parts)
+body-again n [] after c a = a
+body-again n (l ∷ ls) after c a = go (blockSays srt (suc n) (l ∷ ls)) refl
+  where
+    go : (y : BlockSays) → blockSays srt (suc n) (l ∷ ls) ≡ y → AllAgain 1 (blockThen y after .parts)
+    go (blockFaulty f) e = tt
+    go (blockSaid p) e = (part-block (suc n) (l ∷ ls) c p e, a)
+
+blanks-again : (ls : List (List ℕ)) (after : Reading) → AllAgain 1 (after .parts) → AllAgain 1 (blanksThen ls after .parts)
+blanks-again [] after a = a
+blanks-again (l ∷ ls) after a = again-unless 1 (lineFault 0 l) ((stays l ∷ []) ⊕ blanksThen ls after) (tt, blanks-again ls after a)
+
+closes-again : (f : Bool) (x n : ℕ) (body blanks : List (List ℕ)) (after : Reading) → Cut body → AllAgain 1 (after .parts) → AllAgain 1 (closesBlock f x n body blanks after .parts)
+closes-again true x n body [] after c a = body-again n body after c a
+closes-again false x n body [] after c a = a
+closes-again true x n body (l ∷ ls) after c a =
+    again-unless 1 (lineFault (markBehind x body) l) (bodyThen n body ((stays l ∷ []) ⊕ blanksThen ls after)) (body-again n body ((stays l ∷ []) ⊕ blanksThen ls after) c (tt, blanks-again ls after a))
+closes-again false x n body (l ∷ ls) after c a =
+    again-unless 1 (lineFault (markBehind x body) l) (bodyThen n body ((stays l ∷ []) ⊕ blanksThen ls after)) (body-again n body ((stays l ∷ []) ⊕ blanksThen ls after) c (tt, blanks-again ls after a))
+
+srt-again : (f : Bool) (end : Reading) → AllAgain 1 (end .parts) → (x n : ℕ) (bs : List Block) → Cut (blockLines bs) → AllAgain 1 (srtRead f end x n bs .parts)
+unfolding srtRead
+srt-again f end a x n [] c = a
+srt-again f end a x n (b ∷ bs) c =
+    let d = cut-behind (b .blanks) (blockLines bs) (cut-behind (b .body) (b .blanks ++ blockLines bs) c) in
+    again-unless 1 (bodyFault x 0 (b .body)) _
+    (closes-again f x n (b .body) (b .blanks) (srtRead f end 0 (n + lineCount (b .body) + lineCount (b .blanks)) bs) (cut-before (b .body) (b .blanks ++ blockLines bs) c)
+    (srt-again f end a 0 (n + lineCount (b .body) + lineCount (b .blanks)) bs d))
+
+-- ---- the text
+no-columns-apart : Apart noColumns
+no-columns-apart e = refl
+
+module _ (f : Bool) (x : ℕ) (t : List ℕ) where
+  ass-behind : AllAgain 0 (readBehind 0 f x t .parts)
+  unfolding linesSay
+  ass-behind = ass-again _ tt x noColumns 0 (linesRead f t) no-columns-apart
+
+  srt-behind : AllAgain 1 (readBehind 1 f x t .parts)
+  unfolding linesSay
+  srt-behind = srt-again f _ tt x 0 (blocksOf (linesRead f t)) (subst Cut (sym (blocks-joined (linesRead f t))) (text-cut f t))
+
+mark-again : (kind : ℕ) (b : Bool) → AllAgain kind (markWritten b)
+mark-again kind true = (tt, tt)
+mark-again kind false = tt
+
+module _ (f : Bool) (text : List ℕ) where
+  -- a BOM that is written back, then the lines behind it
+  with-mark : (kind : ℕ) → AllAgain kind (readBehind kind f (markLength text) (behindMark text) .parts) → AllAgain kind (plainRead kind f text .parts)
+  unfolding plainRead
+  with-mark kind a =
+      again-append kind (markBack kind f text) (readBehind kind f (markLength text) (behindMark text) .parts) (mark-again kind (marked text && opened kind f (markLength text) (linesRead f (behindMark text)))) a
+
+  pub text-again : (kind : ℕ) → kindBad kind ≡ false → AllAgain kind (plainRead kind f text .parts)
+  text-again kind k =
+      by-kind (λ i. AllAgain i (plainRead i f text .parts))
+      (with-mark 0 (ass-behind f (markLength text) (behindMark text))) (with-mark 1 (srt-behind f (markLength text) (behindMark text))) kind k

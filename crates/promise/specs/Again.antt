@@ -1,0 +1,59 @@
+-- A caption that is written, read again: by the same columns in ASS, as the same block in SRT, it says the same cue with the times written.
+use mathlib.Core.Path.{_≡_}
+use mathlib.Core.List.{List, [], _∷_}
+use Prim.Native.Nat.{ℕ, zero, suc, _*_, _<_}
+use Rattle.text.specs.Line.{linesOf}
+use Rattle.time.specs.Kind.{unitsOf}
+use Rattle.time.specs.Write.{timeText}
+use Rattle.event.specs.Says.{Cue, Part, stays, passes, cue}
+use Rattle.event.specs.Emit.{render}
+use Rattle.assline.specs.declared.layout.Columns.{Columns}
+use Rattle.ass.specs.Line.{lineSays, says}
+use Rattle.block.specs.Style.{srt}
+use Rattle.block.specs.Block.{blockSays, blockCue, says as blockSaid}
+
+-- the same cue with other times
+abbrev pub timed : Cue → (s e : ℕ) → Cue
+timed q s e =
+    record {
+      line = q .line;
+      start = s;
+      startMark = q .startMark;
+      stop = e;
+      stopMark = q .stopMark;
+      tagged = q .tagged;
+      frame = q .frame;
+    }
+
+-- its frame with these times in the places of the old ones, as it is written
+abbrev pub written : (kind : ℕ) → Cue → (s e : ℕ) → List ℕ
+written kind q s e = render (q .frame) (timeText kind (q .startMark) s) (timeText kind (q .stopMark) e)
+
+-- ASS: the cue is that of a line, read by some columns behind some lines; times below 10,000 hours
+pub record LineAgain (q : Cue) : Type 0 where
+  pub columns : Columns
+  pub before : ℕ
+  pub line : List ℕ
+  pub next : Columns
+  pub said : lineSays columns before line ≡ says next (cue q)
+  pub again : (s e : ℕ) → s < 36000000 * unitsOf 0 → e < 36000000 * unitsOf 0 → lineSays columns before (written 0 q s e) ≡ says next (cue (timed q s e))
+
+-- SRT: the cue is that of a block, given as its bytes, and has no tag; an end of 100 hours or more has thirteen bytes, of which document 01 reads twelve
+pub record BlockAgain (q : Cue) : Type 0 where
+  pub first : ℕ
+  pub block : List ℕ
+  pub said : blockSays srt first (linesOf block) ≡ blockSaid (cue q)
+  pub again : (s e : ℕ) → s < 36000000 * unitsOf 1 → e < 360000 * unitsOf 1 → blockSays srt first (linesOf (written 1 q s e)) ≡ blockSaid (cue (blockCue (q .line) s (q .startMark) e (q .stopMark) (q .frame)))
+
+abbrev pub CueAgain : (kind : ℕ) → Cue → Type 0
+CueAgain zero q = LineAgain q
+CueAgain (suc k) q = BlockAgain q
+
+abbrev pub PartAgain : (kind : ℕ) → Part → Type 0
+PartAgain kind (stays l) = Unit {0}
+PartAgain kind (passes r n l) = Unit {0}
+PartAgain kind (cue q) = CueAgain kind q
+
+abbrev pub AllAgain : (kind : ℕ) → List Part → Type 0
+AllAgain kind [] = Unit {0}
+AllAgain kind (p ∷ ps) = PartAgain kind p × AllAgain kind ps
