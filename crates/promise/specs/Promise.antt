@@ -1,4 +1,18 @@
--- DEMAND 3, from the bytes of a sheet and a trim list to the last caption.
+-- DEMAND 3, from the bytes of a sheet and a trim list to the last caption. Its words, and where each stands:
+--
+-- "Suppose a sheet and trim list are accepted, the map that 01 defines is built from them, and a fresh session is opened with it and the sheet's
+-- timescale T." The premises of `Promise`: `mapOf` of the bytes answers 0, and open met its contract with the map's numbers and its timescale.
+-- "For every list of feeds and finishes through that map, refused ones included, each given the session that the last call returned," `Kept`: a
+-- list of calls made (`Made`), each lent the map or one that 15 refuses (`Proper`), each meeting its contract with the session of the last (`Ran`).
+-- "the number of every call is the one that 01's plain reader gives. After the list, joined output, warnings in order, outcome and all counts are
+-- the reader's for the whole text taken." Demand: `same`, over `plainRead` (specs/Plain).
+-- "Captions decided = shifted + clipped + dropped + passed." Demand: `sum`; and `passed` counts warnings 1 and 2.
+-- "A decided one whose times are read is dropped exactly when, in ticks rounded down, no stretch of positive length ends after its start and
+-- starts before its end." Demand: `fates`, each `CueRight`, with event/specs/Fates: `Right`, `NoneMeets`.
+-- "Otherwise both ticks, cut to the first such stretch, move by its shift d." event/specs/Fates: `IsShifted`, `IsClipped`, `FirstMet`.
+-- "Unclipped, with S, E read and s, e written in 1/U second (ASS 100, SRT 1000): S×T + U×d − U − T < s×T ≤ S×T + U×d and
+-- E×T + U×d − U < e×T < E×T + U×d + T, however many stretches come before." The same definitions, by time/specs/Near: `NearStart`, `NearEnd`.
+-- Beside its words: a caption that is written, read again, gives the times written (Demand: `again`), and open answers 0 (`opens`).
 use mathlib.Core.Path.{_≡_}
 use mathlib.Core.List.{List}
 use Prim.Native.Nat.{ℕ, _<_}
