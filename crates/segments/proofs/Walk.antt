@@ -3,7 +3,7 @@ use mathlib.Core.Path.{_≡_, refl}
 use mathlib.Core.Bool.{Bool, true, false, not}
 use mathlib.Core.List.{List}
 use lib.Dec.{T as Holds}
-use package.mir.Syntax.{Ty, Mutability, named, w64, tyInt, tyRef}
+use package.mir.Syntax.{Ty, Lifetime, Mutability, w64, tyInt, tyRef}
 use package.mir.Val.{Val}
 use denote.Memory.{pointee}
 use denote.Slice.{sliceTy}
@@ -23,8 +23,12 @@ fails false _ = refl
 abbrev pub word : Ty
 word = tyInt w64
 
-abbrev pub records : Mutability → Ty
-records m = sliceTy (tyRef (named 0) m (pointee (T.the-row .written)))
+-- a slice of records, and of 64-bit numbers
+abbrev pub records : Lifetime → Mutability → Ty
+records ℓ m = sliceTy (tyRef ℓ m (pointee (T.the-row .written)))
+
+abbrev pub words : Lifetime → Mutability → Ty
+words ℓ m = sliceTy (tyRef ℓ m word)
 
 abbrev pub vals : Segment → List Val
 vals = LL.vals T.the-type T′.the-laws

@@ -33,7 +33,7 @@ use denote.Laws.{Is, shows}
 use denote.Plain.{uint-makes, nothing-lawful}
 use denote.Builtin.{usize, u32, u64, unit}
 use denote.Ref.{RefT}
-use denote.Slice.{sliceTy, sliceVal, ShrSlice, MutSlice, Room, slice-vals, shr-slice-tells, mut-slice-tells, shr-slice-copy}
+use denote.Slice.{sliceVal, ShrSlice, MutSlice, Room, slice-vals, shr-slice-tells, mut-slice-tells, shr-slice-copy}
 use denote.Index.{place-is, elem-out, elem-back, looks-slice, shuts-slice}
 use denote.Signature.{plain}
 use denote.Steps.{owned, peeks, nothing, heard}
@@ -54,7 +54,7 @@ use Rattle.segmap.proofs.segment.Segment.Laws as T′
 use Rattle.segments.specs.Records.{noSegment, flatNumber}
 use Rattle.segments.proofs.RecordLaws.{flat-short, flat-start, flat-turn, flat-done}
 use Rattle.segments.proofs.Again.{LentAgain, lends-again, comes-back}
-use Rattle.segments.proofs.Walk.{holds, fails, word, records, vals}
+use Rattle.segments.proofs.Walk.{holds, fails, word, words, records, vals}
 use Rattle.segments.proofs.flattening.numbers_at as is
 use Rattle.segments.proofs.flattening.numbers_at.Symbol as is-def
 use Rattle.segments.proofs.flattening.numbers_at.Symbol.{name as #numbers-at}
@@ -73,13 +73,13 @@ abbrev half : Ty
 half = tyInt w32
 
 abbrev numbers : Ty
-numbers = sliceTy (tyRef (named 1) mut word)
+numbers = words (named 1) mut
 
 abbrev one : Ty
 one = tyRef erased mut word
 
 abbrev lent : Ty
-lent = sliceTy one
+lent = words erased mut
 
 module _ {M : Type 1} (𝓤 : URA M) (H : Heap 𝓤) (A : Atoms 𝓤) (mem : Memory → SProp 𝓤) (run : Routine → Fun 𝓤) where
   -- the contract that the proof cites
@@ -161,16 +161,16 @@ module _ {M : Type 1} (𝓤 : URA M) (H : Heap 𝓤) (A : Atoms 𝓤) (W : Given
 
   module _ (𝓣 : Tables 𝓤 H) (l₀ l₁ l₂ l₃ l₄ l₅ l₆ l₇ l₈ l₉ l₁₀ l₁₁ l₁₂ l₁₃ l₁₄ l₁₅ : ℕ) where
     abbrev En : Env 𝓤 H
-    En = (half, l₀) ∷ (records imm, l₁) ∷ (numbers, l₂) ∷ (word, l₃) ∷ (T′.mir, l₄) ∷ (word, l₅) ∷ (word, l₆) ∷ (word, l₇) ∷ (tyBool, l₈) ∷ (word, l₉) ∷ (tyBool, l₁₀) ∷ (tyPtr, l₁₁) ∷ (T′.mir, l₁₂) ∷ (tyUnit, l₁₃) ∷ (one, l₁₄) ∷ (lent, l₁₅) ∷ []
+    En = (half, l₀) ∷ (records (named 0) imm, l₁) ∷ (numbers, l₂) ∷ (word, l₃) ∷ (T′.mir, l₄) ∷ (word, l₅) ∷ (word, l₆) ∷ (word, l₇) ∷ (tyBool, l₈) ∷ (word, l₉) ∷ (tyBool, l₁₀) ∷ (tyPtr, l₁₁) ∷ (T′.mir, l₁₂) ∷ (tyUnit, l₁₃) ∷ (one, l₁₄) ∷ (lent, l₁₅) ∷ []
 
     -- room for _4 to _15 and for _0, and that each local dies
     abbrev Empty : List (Item 𝓤)
     Empty = ‵ (froom T′.mir l₄ 0) ∷ ‵ (froom word l₅ 0) ∷ ‵ (froom word l₆ 0) ∷ ‵ (froom word l₇ 0) ∷ ‵ (froom tyBool l₈ 0) ∷ ‵ (froom word l₉ 0) ∷ ‵ (froom tyBool l₁₀ 0) ∷ ‵ (froom tyPtr l₁₁ 0) ∷ ‵ (froom T′.mir l₁₂ 0) ∷ ‵ (froom tyUnit l₁₃ 0) ∷ ‵ (froom one l₁₄ 0) ∷ ‵ (froom lent l₁₅ 0) ∷ ‵ (froom half l₀ 0)
-        ∷ ‵ (fdies half l₀) ∷ ‵ (fdies (records imm) l₁) ∷ ‵ (fdies numbers l₂) ∷ ‵ (fdies word l₃) ∷ ‵ (fdies T′.mir l₄) ∷ ‵ (fdies word l₅) ∷ ‵ (fdies word l₆) ∷ ‵ (fdies word l₇) ∷ ‵ (fdies tyBool l₈) ∷ ‵ (fdies word l₉) ∷ ‵ (fdies tyBool l₁₀) ∷ ‵ (fdies tyPtr l₁₁) ∷ ‵ (fdies T′.mir l₁₂) ∷ ‵ (fdies tyUnit l₁₃) ∷ ‵ (fdies one l₁₄) ∷ ‵ (fdies lent l₁₅) ∷ []
+        ∷ ‵ (fdies half l₀) ∷ ‵ (fdies (records (named 0) imm) l₁) ∷ ‵ (fdies numbers l₂) ∷ ‵ (fdies word l₃) ∷ ‵ (fdies T′.mir l₄) ∷ ‵ (fdies word l₅) ∷ ‵ (fdies word l₆) ∷ ‵ (fdies word l₇) ∷ ‵ (fdies tyBool l₈) ∷ ‵ (fdies word l₉) ∷ ‵ (fdies tyBool l₁₀) ∷ ‵ (fdies tyPtr l₁₁) ∷ ‵ (fdies T′.mir l₁₂) ∷ ‵ (fdies tyUnit l₁₃) ∷ ‵ (fdies one l₁₄) ∷ ‵ (fdies lent l₁₅) ∷ []
 
     -- the invariant: the tokens; what the records own; the numbers; _1; _2; _3; and those
     abbrev I : Turn → List (Item 𝓤)
-    I t = ‵ (flft κ q) ∷ ‵ (flft κ′ q′) ∷ ‵ Own ∷ ‵ (OwnM (t .zs) (length fs)) ∷ ‵ (fat fullShare (records imm) l₁ 0 (sliceVal (b, o) n)) ∷ ‵ (fat fullShare numbers l₂ 0 (sliceVal (b′, o′) (length fs))) ∷ ‵ (fat fullShare word l₃ 0 (vint w64 (t .i))) ∷ Empty
+    I t = ‵ (flft κ q) ∷ ‵ (flft κ′ q′) ∷ ‵ Own ∷ ‵ (OwnM (t .zs) (length fs)) ∷ ‵ (fat fullShare (records (named 0) imm) l₁ 0 (sliceVal (b, o) n)) ∷ ‵ (fat fullShare numbers l₂ 0 (sliceVal (b′, o′) (length fs))) ∷ ‵ (fat fullShare word l₃ 0 (vint w64 (t .i))) ∷ Empty
 
     -- where the loop is left, the rest of the body runs
     abbrev Left : Kit.Post 𝓤 H
@@ -181,7 +181,7 @@ module _ {M : Type 1} (𝓤 : URA M) (H : Heap 𝓤) (A : Atoms 𝓤) (W : Given
 
     -- at a return the locals are freed, the first first
     leaves : (r : ℕ) (zs : List ℕ) → r < 2 ^ 32 → length zs ≡ length fs → (r ≡ flatNumber ys (length fs)) × (zs ≡ placed (flatOf ys) fs)
-        → Sq W (‵ (flft κ q) ∷ ‵ (flft κ′ q′) ∷ ‵ Own ∷ ‵ (OwnM zs (length fs)) ∷ ‵ (froom (records imm) l₁ 0) ∷ ‵ (froom numbers l₂ 0) ∷ ‵ (froom word l₃ 0) ∷ Empty) (frees En (prop (Post (vint w32 r))))
+        → Sq W (‵ (flft κ q) ∷ ‵ (flft κ′ q′) ∷ ‵ Own ∷ ‵ (OwnM zs (length fs)) ∷ ‵ (froom (records (named 0) imm) l₁ 0) ∷ ‵ (froom numbers l₂ 0) ∷ ‵ (froom word l₃ 0) ∷ Empty) (frees En (prop (Post (vint w32 r))))
     leaves r zs g l e =
         move ! (19 ∷ 20 ∷ []) $ free1 ! $ move ! (4 ∷ 19 ∷ []) $ free1 ! $ move ! (4 ∷ 18 ∷ []) $ free1 ! $ move ! (4 ∷ 17 ∷ []) $ free1 ! $ move ! (4 ∷ 16 ∷ []) $ free1 ! $ move ! (4 ∷ 15 ∷ []) $ free1 ! $ move ! (4 ∷ 14 ∷ []) $ free1 ! $ move ! (4 ∷ 13 ∷ []) $ free1 ! $
         move ! (4 ∷ 12 ∷ []) $ free1 ! $ move ! (4 ∷ 11 ∷ []) $ free1 ! $ move ! (4 ∷ 10 ∷ []) $ free1 ! $ move ! (4 ∷ 9 ∷ []) $ free1 ! $ move ! (4 ∷ 8 ∷ []) $ free1 ! $ move ! (4 ∷ 7 ∷ []) $ free1 ! $ move ! (4 ∷ 6 ∷ []) $ free1 ! $ move ! (4 ∷ 5 ∷ []) $ free1 ! $ free0 ! $ by ! (exits r zs g l e)

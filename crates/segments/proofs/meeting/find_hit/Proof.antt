@@ -173,11 +173,11 @@ module _ {M : Type 1} (𝓤 : URA M) (H : Heap 𝓤) (A : Atoms 𝓤) (W : Given
 
   module _ (𝓣 : Tables 𝓤 H) (l₀ l₁ l₂ l₃ l₄ l₅ l₆ l₇ l₈ l₉ l₁₀ l₁₁ l₁₂ : ℕ) where
     abbrev En : Env 𝓤 H
-    En = (H′.mir, l₀) ∷ (records imm, l₁) ∷ (word, l₂) ∷ (word, l₃) ∷ (word, l₄) ∷ (T′.mir, l₅) ∷ (T′.mir, l₆) ∷ (word, l₇) ∷ (tyBool, l₈) ∷ (tyPtr, l₉) ∷ (T′.mir, l₁₀) ∷ (tyBool, l₁₁) ∷ (word, l₁₂) ∷ []
+    En = (H′.mir, l₀) ∷ (records (named 0) imm, l₁) ∷ (word, l₂) ∷ (word, l₃) ∷ (word, l₄) ∷ (T′.mir, l₅) ∷ (T′.mir, l₆) ∷ (word, l₇) ∷ (tyBool, l₈) ∷ (tyPtr, l₉) ∷ (T′.mir, l₁₀) ∷ (tyBool, l₁₁) ∷ (word, l₁₂) ∷ []
 
     -- that each local dies
     abbrev Die : List (Item 𝓤)
-    Die = ‵ (fdies H′.mir l₀) ∷ ‵ (fdies (records imm) l₁) ∷ ‵ (fdies word l₂) ∷ ‵ (fdies word l₃) ∷ ‵ (fdies word l₄) ∷ ‵ (fdies T′.mir l₅) ∷ ‵ (fdies T′.mir l₆) ∷ ‵ (fdies word l₇) ∷ ‵ (fdies tyBool l₈) ∷ ‵ (fdies tyPtr l₉) ∷ ‵ (fdies T′.mir l₁₀) ∷ ‵ (fdies tyBool l₁₁) ∷ ‵ (fdies word l₁₂) ∷ []
+    Die = ‵ (fdies H′.mir l₀) ∷ ‵ (fdies (records (named 0) imm) l₁) ∷ ‵ (fdies word l₂) ∷ ‵ (fdies word l₃) ∷ ‵ (fdies word l₄) ∷ ‵ (fdies T′.mir l₅) ∷ ‵ (fdies T′.mir l₆) ∷ ‵ (fdies word l₇) ∷ ‵ (fdies tyBool l₈) ∷ ‵ (fdies tyPtr l₉) ∷ ‵ (fdies T′.mir l₁₀) ∷ ‵ (fdies tyBool l₁₁) ∷ ‵ (fdies word l₁₂) ∷ []
 
     -- room for _5 to _12 and for _0
     abbrev Empty : List (Item 𝓤)
@@ -185,7 +185,7 @@ module _ {M : Type 1} (𝓤 : URA M) (H : Heap 𝓤) (A : Atoms 𝓤) (W : Given
 
     -- the invariant: the token; what the slice owns; _1; _2; _3; _4; and those
     abbrev I : Turn → List (Item 𝓤)
-    I t = ‵ (flft κ q) ∷ ‵ Own ∷ ‵ (fat fullShare (records imm) l₁ 0 (sliceVal (b, o) n)) ∷ ‵ (fat fullShare word l₂ 0 (vint w64 x)) ∷ ‵ (fat fullShare word l₃ 0 (vint w64 y)) ∷ ‵ (fat fullShare word l₄ 0 (vint w64 (t .i))) ∷ Empty
+    I t = ‵ (flft κ q) ∷ ‵ Own ∷ ‵ (fat fullShare (records (named 0) imm) l₁ 0 (sliceVal (b, o) n)) ∷ ‵ (fat fullShare word l₂ 0 (vint w64 x)) ∷ ‵ (fat fullShare word l₃ 0 (vint w64 y)) ∷ ‵ (fat fullShare word l₄ 0 (vint w64 (t .i))) ∷ Empty
 
     -- where the loop is left, the rest of the body runs
     abbrev Left : Kit.Post 𝓤 H
@@ -196,7 +196,7 @@ module _ {M : Type 1} (𝓤 : URA M) (H : Heap 𝓤) (A : Atoms 𝓤) (W : Given
 
     -- at a return the locals are freed, the first first
     leaves : (r : Hit) (v : Val) → Is H₀.the-row r (v ∷ []) → r ≡ hitOf (findHit ys x y)
-        → Sq W (‵ (flft κ q) ∷ ‵ Own ∷ ‵ (froom (records imm) l₁ 0) ∷ ‵ (froom word l₂ 0) ∷ ‵ (froom word l₃ 0) ∷ ‵ (froom word l₄ 0) ∷ Empty) (frees En (prop (Post v)))
+        → Sq W (‵ (flft κ q) ∷ ‵ Own ∷ ‵ (froom (records (named 0) imm) l₁ 0) ∷ ‵ (froom word l₂ 0) ∷ ‵ (froom word l₃ 0) ∷ ‵ (froom word l₄ 0) ∷ Empty) (frees En (prop (Post v)))
     leaves r v g e =
         move ! (14 ∷ 15 ∷ []) $ free1 ! $ move ! (2 ∷ 14 ∷ []) $ free1 ! $ move ! (2 ∷ 13 ∷ []) $ free1 ! $ move ! (2 ∷ 12 ∷ []) $ free1 ! $ move ! (2 ∷ 11 ∷ []) $ free1 ! $ move ! (2 ∷ 10 ∷ []) $ free1 ! $ move ! (2 ∷ 9 ∷ []) $ free1 ! $
         move ! (2 ∷ 8 ∷ []) $ free1 ! $ move ! (2 ∷ 7 ∷ []) $ free1 ! $ move ! (2 ∷ 6 ∷ []) $ free1 ! $ move ! (2 ∷ 5 ∷ []) $ free1 ! $ move ! (2 ∷ 4 ∷ []) $ free1 ! $ move ! (2 ∷ 3 ∷ []) $ free1 ! $ free0 ! $ by ! (exits r v g e)

@@ -79,12 +79,12 @@ module _ {M : Type 1} (𝓤 : URA M) (H : Heap 𝓤) (A : Atoms 𝓤) (W : Given
 
   module _ (C : Calls 𝓤 H) (Λ : Loops 𝓤 H) (l₀ l₁ l₂ l₃ l₄ l₅ l₆ l₇ : ℕ) where
     abbrev En : Env 𝓤 H
-    En = (T′.mir, l₀) ∷ (records imm, l₁) ∷ (word, l₂) ∷ (word, l₃) ∷ (tyBool, l₄) ∷ (word, l₅) ∷ (tyPtr, l₆) ∷ (T′.mir, l₇) ∷ []
+    En = (T′.mir, l₀) ∷ (records (named 0) imm, l₁) ∷ (word, l₂) ∷ (word, l₃) ∷ (tyBool, l₄) ∷ (word, l₅) ∷ (tyPtr, l₆) ∷ (T′.mir, l₇) ∷ []
 
     -- at a return the locals are freed, the first first
     leaves : (s : Segment) → Is T.the-row s (T′.lowered s ∷ []) → s ≡ getD ys i noSegment
         → Sq W (‵ (flft κ q) ∷ ‵ Own ∷ ‵ (froom T′.mir l₇ 0) ∷ ‵ (fdies T′.mir l₇) ∷ ‵ (froom tyPtr l₆ 0) ∷ ‵ (fdies tyPtr l₆) ∷ ‵ (froom word l₅ 0) ∷ ‵ (fdies word l₅) ∷ ‵ (froom tyBool l₄ 0) ∷ ‵ (fdies tyBool l₄)
-        ∷ ‵ (froom word l₃ 0) ∷ ‵ (fdies word l₃) ∷ ‵ (froom word l₂ 0) ∷ ‵ (fdies word l₂) ∷ ‵ (froom (records imm) l₁ 0) ∷ ‵ (fdies (records imm) l₁) ∷ ‵ (froom T′.mir l₀ 0) ∷ ‵ (fdies T′.mir l₀) ∷ []) (frees En (prop (Post (T′.lowered s))))
+        ∷ ‵ (froom word l₃ 0) ∷ ‵ (fdies word l₃) ∷ ‵ (froom word l₂ 0) ∷ ‵ (fdies word l₂) ∷ ‵ (froom (records (named 0) imm) l₁ 0) ∷ ‵ (fdies (records (named 0) imm) l₁) ∷ ‵ (froom T′.mir l₀ 0) ∷ ‵ (fdies T′.mir l₀) ∷ []) (frees En (prop (Post (T′.lowered s))))
     leaves s g e =
         move ! (16 ∷ 17 ∷ []) $ free1 ! $ move ! (14 ∷ 15 ∷ []) $ free1 ! $ move ! (12 ∷ 13 ∷ []) $ free1 ! $ move ! (10 ∷ 11 ∷ []) $ free1 ! $
         move ! (8 ∷ 9 ∷ []) $ free1 ! $ move ! (6 ∷ 7 ∷ []) $ free1 ! $ move ! (4 ∷ 5 ∷ []) $ free1 ! $ move ! (2 ∷ 3 ∷ []) $ free1 ! $ free0 ! $ by ! (exits s g e)
