@@ -2,3 +2,4 @@ pub mod RecordLaws
 pub mod BuildLaws
 pub mod Again
 pub mod Walk
+pub mod LocalArray
