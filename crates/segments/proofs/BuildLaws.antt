@@ -88,7 +88,7 @@ module _ (s list : List ℕ) (d : ℕ) where
         → w ≡ recorded (mapOf s list d (6 * length m) .segments) m
     built-records z z₀ w q g =
         let front : take (6 * r .count) z ≡ flatOf (mapOf s list d 6144 .segments) =
-            ap (λ (k : ℕ). take (6 * k) z) (told-count s list d 6144 r e) ∙ ap (take (6 * mapOf s list d 6144 .count)) q ∙ map-front s list d 6144 z₀ in
+        ap (λ (k : ℕ). take (6 * k) z) (told-count s list d 6144 r e) ∙ ap (take (6 * mapOf s list d 6144 .count)) q ∙ map-front s list d 6144 z₀ in
         g ∙ ap (λ (l : List ℕ). recorded (narrowed (segmentsOf l)) m) front
         ∙ ap (λ (xs : List Segment). recorded (narrowed xs) m) (flat-back (mapOf s list d 6144 .segments))
         ∙ ap (λ (xs : List Segment). recorded xs m) (map-narrow 6144)

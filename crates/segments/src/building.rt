@@ -39,7 +39,7 @@ fn fill(flat: &[u64], count: usize, map: &mut [Segment])
 // Makes the map of a sheet and a trim list, and writes it to the first records of `map`. A refusal writes nothing.
 pub fn build(sheet: &[u8], list: &[u8], direction: u32, map: &mut [Segment]) -> Made
     ensures { λ r. ⌜ (r ≡ madeOf (mapOf (now (sheet .entry)) (now (list .entry)) direction (6 * length (now (map .entry)))))
-      × (now (map .exit) ≡ recorded (mapOf (now (sheet .entry)) (now (list .entry)) direction (6 * length (now (map .entry))) .segments) (now (map .entry))) ⌝ }
+        × (now (map .exit) ≡ recorded (mapOf (now (sheet .entry)) (now (list .entry)) direction (6 * length (now (map .entry))) .segments) (now (map .entry))) ⌝ }
 {
     if map.len() < base::MOST_SEGMENTS {
         return Made {

@@ -35,16 +35,14 @@ fn is_met(s: Segment, a: u64, b: u64) -> bool
 fn hit_at(place: usize, s: Segment, next: Segment) -> Hit
     ensures { λ r. ⌜ r ≡ hitAt place s next ⌝ }
 {
-    Hit::At(
-        Met {
-            place,
-            source: s.source_start_dts,
-            output: s.output_start,
-            duration: s.duration,
-            later: next.source_start_dts,
-            span: next.duration,
-        },
-    )
+    Hit::At(Met {
+        place,
+        source: s.source_start_dts,
+        output: s.output_start,
+        duration: s.duration,
+        later: next.source_start_dts,
+        span: next.duration,
+    })
 }
 
 // The first record that meets the ticks start to end, any of 64 bits.
