@@ -19,7 +19,7 @@ use Rattle.segmap.specs.Map.{snappedOf, mapNumber, Map, mapOf, made, madeOf}
 use Rattle.segmap.proofs.SegmentLaws.{flat-back}
 use Rattle.segmap.proofs.MapLaws.{short-made}
 use Rattle.segmap.proofs.Built.{map-count, map-front, told-number, told-count, map-refused, made-parts, made-segments, made-few, made-bounded}
-use Rattle.segments.specs.Records.{recorded, narrow, narrowed}
+use Rattle.segments.specs.Records.{recorded, mapInto, narrow, narrowed}
 
 -- ---- the widths of a record hold the segments of a map
 narrow-same : (a : ℕ) → a ≤ mostFrames → a % 4294967296 ≡ a
@@ -67,10 +67,10 @@ module _ (s list : List ℕ) (d : ℕ) where
             omega (arith, told-count s list d lent r q, map-count s list d lent)
 
   -- ---- fewer than 1,024 records are lent
-  pub short-number : (m : List Segment) → length m < mostSegments → made 16 0 0 ≡ madeOf (mapOf s list d (6 * length m))
+  pub short-number : (m : List Segment) → length m < mostSegments → made 16 0 0 ≡ madeOf (mapInto s list d m)
   short-number m h = short-made s list d (6 * length m) (made 16 0 0) (omega arith) refl
 
-  pub short-records : (m : List Segment) → length m < mostSegments → m ≡ recorded (mapOf s list d (6 * length m) .segments) m
+  pub short-records : (m : List Segment) → length m < mostSegments → m ≡ recorded (mapInto s list d m .segments) m
   unfolding recorded
   short-records m h =
       let e : 16 ≡ mapNumber s list d (6 * length m) = told-number s list d (6 * length m) (made 16 0 0) (short-number m h) in
@@ -78,14 +78,14 @@ module _ (s list : List ℕ) (d : ℕ) where
 
   -- ---- the flat map z, made in 6,144 places, is read back into the records m
   module _ (m : List Segment) (h : mostSegments ≤ length m) (r : Made) (e : r ≡ madeOf (mapOf s list d 6144)) where
-    same-map : mapOf s list d 6144 ≡ mapOf s list d (6 * length m)
+    same-map : mapOf s list d 6144 ≡ mapInto s list d m
     same-map = map-lent 6144 (6 * length m) (omega arith) (omega arith)
 
-    pub built-number : r ≡ madeOf (mapOf s list d (6 * length m))
+    pub built-number : r ≡ madeOf (mapInto s list d m)
     built-number = e ∙ ap madeOf same-map
 
     pub built-records : (z z₀ : List ℕ) (w : List Segment) → z ≡ put (flatOf (mapOf s list d 6144 .segments)) z₀ → w ≡ recorded (narrowed (segmentsOf (take (6 * r .count) z))) m
-        → w ≡ recorded (mapOf s list d (6 * length m) .segments) m
+        → w ≡ recorded (mapInto s list d m .segments) m
     built-records z z₀ w q g =
         let front : take (6 * r .count) z ≡ flatOf (mapOf s list d 6144 .segments) =
         ap (λ (k : ℕ). take (6 * k) z) (told-count s list d 6144 r e) ∙ ap (take (6 * mapOf s list d 6144 .count)) q ∙ map-front s list d 6144 z₀ in

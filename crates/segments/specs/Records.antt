@@ -6,12 +6,17 @@ use lib.ListN.{length, drop, getD}
 use Rattle.base.specs.Refusal.{faultUnless}
 use Rattle.segmap.specs.declared.segment.Segment.{Segment}
 use Rattle.segmap.specs.Segment.{sourceOf, outputOf, segment}
+use Rattle.segmap.specs.Map.{Map, mapOf}
 use Rattle.event.specs.declared.meeting.Hit.{Hit}
 use Rattle.event.specs.declared.meeting.Hit.the-variants.{At}
 
 -- v in the first records of l, and the rest of l as it was
 unfoldable pub recorded : List Segment → List Segment → List Segment
 recorded v l = v ++ drop (length v) l
+
+-- the map that a sheet and a list give, where the records m are lent for it: fewer than 1,024 are 16
+abbrev pub mapInto : (sheet list : List ℕ) (direction : ℕ) → List Segment → Map
+mapInto sheet list d m = mapOf sheet list d (6 * length m)
 
 -- the number of a map of records that is handed to `lent` places, six to a record: 16 where it does not fit
 unfoldable pub flatNumber : List Segment → (lent : ℕ) → ℕ

@@ -5,8 +5,8 @@ ghost use mathlib.Core.Path.{_≡_};
 ghost use Prim.Native.Nat.{_+_, _*_, _≤_};
 ghost use lib.ListN.{length, take};
 ghost use Rattle.segmap.specs.Segment.{segmentsOf};
-ghost use Rattle.segmap.specs.Map.{madeOf, mapOf};
-ghost use Rattle.segments.specs.Records.{recorded, segmentAt, narrowed};
+ghost use Rattle.segmap.specs.Map.{madeOf};
+ghost use Rattle.segments.specs.Records.{recorded, mapInto, segmentAt, narrowed};
 
 // The segment whose six numbers stand from the place `at` on.
 fn segment_of(flat: &[u64], at: usize) -> Segment
@@ -38,8 +38,8 @@ fn fill(flat: &[u64], count: usize, map: &mut [Segment])
 
 // Makes the map of a sheet and a trim list, and writes it to the first records of `map`. A refusal writes nothing.
 pub fn build(sheet: &[u8], list: &[u8], direction: u32, map: &mut [Segment]) -> Made
-    ensures { λ r. ⌜ (r ≡ madeOf (mapOf (now (sheet .entry)) (now (list .entry)) direction (6 * length (now (map .entry)))))
-        × (now (map .exit) ≡ recorded (mapOf (now (sheet .entry)) (now (list .entry)) direction (6 * length (now (map .entry))) .segments) (now (map .entry))) ⌝ }
+    ensures { λ r. ⌜ (r ≡ madeOf (mapInto (now (sheet .entry)) (now (list .entry)) direction (now (map .entry))))
+        × (now (map .exit) ≡ recorded (mapInto (now (sheet .entry)) (now (list .entry)) direction (now (map .entry)) .segments) (now (map .entry))) ⌝ }
 {
     if map.len() < base::MOST_SEGMENTS {
         return Made {

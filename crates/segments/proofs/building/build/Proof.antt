@@ -58,7 +58,7 @@ use Rattle.segmap.proofs.make as mk
 use Rattle.segmap.proofs.make.Symbol as mk-def
 use Rattle.segmap.proofs.make.Symbol.{name as #make}
 use Rattle.segmap.proofs.make.Met as mk-thm
-use Rattle.segments.specs.Records.{recorded, narrowed}
+use Rattle.segments.specs.Records.{recorded, mapInto, narrowed}
 use Rattle.segments.proofs.BuildLaws.{short-number, short-records, count-few, built-number, built-records}
 use Rattle.segments.proofs.Again.{LentAgain, lends-again, comes-back}
 use Rattle.segments.proofs.LocalArray.{words-of, zeros-typed, LentMut, LentShr, Shared, lends-zeros, shares-array, room-back}
@@ -145,7 +145,7 @@ module _ {M : Type 1} (𝓤 : URA M) (H : Heap 𝓤) (A : Atoms 𝓤) (W : Given
 
   -- what the contract says of the result r and of the last records zs
   abbrev Built : Made → List Segment → Type 0
-  Built r zs = (r ≡ madeOf (mapOf ss ls d (6 * length ms))) × (zs ≡ recorded (mapOf ss ls d (6 * length ms) .segments) ms)
+  Built r zs = (r ≡ madeOf (mapInto ss ls d ms)) × (zs ≡ recorded (mapInto ss ls d ms .segments) ms)
 
   -- what is had between the statements beside the locals
   abbrev Having : List Segment → List (Item 𝓤) → List (Item 𝓤)
