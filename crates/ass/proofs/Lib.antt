@@ -1,5 +1,5 @@
 pub mod TellLaws
 pub mod SayLaws
-pub mod DecisionLaws
 pub mod LineFits
 pub mod LineFine
+pub mod LineBack

@@ -20,13 +20,12 @@ use Rattle.event.specs.declared.setting.Config.{Config}
 use Rattle.event.specs.Says.{Cue, unplaced, short, Part, stays, passes, cue}
 use Rattle.event.specs.Emit.{emitBy, emitOf}
 use Rattle.event.specs.Told.{partIn}
-use Rattle.event.proofs.FineLaws.{Set}
+use Rattle.event.proofs.FineLaws.{Set, cue-fine}
 use Rattle.assline.specs.declared.layout.Columns.{Columns}
 use Rattle.assline.specs.Columns.{columnsIn, fields, fieldAt}
 use Rattle.assline.specs.Section.{eventsName, bracketed, inside, inSection}
 use Rattle.ass.specs.Line.{formatWord, dialogueWord, commentWord, LineSays, faulty, says, timesSay, captionSays, wordSays, textSays, lineSays}
 use Rattle.ass.specs.Answer.{columnsAfter, answerOf, answerTo, lineIn, columnsNext}
-use Rattle.ass.proofs.DecisionLaws.{cue-fine}
 
 -- ---- what is known of the cue that line n + 1 says: its line, times below 10,000 hours, and ASS's mark
 pub record Timely (n : ℕ) (q : Cue) : Type 0 where

@@ -26,6 +26,7 @@ use Rattle.event.specs.Says.{unplaced, short, Part, stays, passes, cue}
 use Rattle.event.specs.Emit.{Emit, warnIf, cueEmit, emitBy, emitOf}
 use Rattle.event.specs.Told.{refusal, cueIn, partIn}
 use Rattle.event.proofs.FineLaws.{Set, decide-fine}
+use Rattle.event.proofs.WordLaws.{Words, decide-words}
 use Rattle.assline.specs.declared.layout.Columns.{Columns}
 use Rattle.assline.specs.Columns.{columnsIn, fields, fieldAt}
 use Rattle.assline.specs.Section.{eventsName, bracketed, inside, inSection}
@@ -35,7 +36,6 @@ use Rattle.ass.specs.Answer.{answerTo, lineIn}
 use Rattle.ass.proofs.TellLaws.{render-most}
 use Rattle.assline.proofs.FitLaws.{rest-long, line-most}
 use Rattle.ass.proofs.SayLaws.{starts-long, parts-room}
-use Rattle.ass.proofs.DecisionLaws.{Words, decide-words}
 
 -- what is emitted for a line of n bytes
 pub record Small (n : ℕ) (e : Emit) : Type 0 where

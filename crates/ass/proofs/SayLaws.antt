@@ -23,14 +23,15 @@ use Rattle.event.specs.Decide.{decideIn}
 use Rattle.event.specs.Fates.{passed}
 use Rattle.event.specs.Says.{Reason, unplaced, short, reasonNumber, Part, stays, passes, cue, badTime}
 use Rattle.event.specs.Emit.{none, decided, emit, emitBy, warning}
-use Rattle.event.specs.Told.{Answer, refusal, answered, cueIn, partIn, Tells}
+use Rattle.event.specs.Told.{refusal, answered, cueIn, partIn, Tells, refusedWith}
+use Rattle.event.proofs.TellLaws.{tells-same, tells-refused}
 use Rattle.assline.specs.declared.layout.Columns.{Columns}
 use Rattle.assline.specs.Columns.{columnsIn, fields, fieldAt}
 use Rattle.assline.specs.Section.{eventsName, bracketed, inside, inSection}
 use Rattle.assline.specs.Frame.{lineFrame, frameMost}
 use Rattle.ass.specs.Line.{formatWord, dialogueWord, commentWord, LineSays, faulty, says, lineCue, timesSay, captionSays, wordSays, textSays, lineSays}
-use Rattle.ass.specs.Answer.{columnsAfter, answerTo, lineIn, columnsNext, refusedWith, stayedWith}
-use Rattle.ass.proofs.TellLaws.{tells-same, tells-refused, tells-stayed}
+use Rattle.ass.specs.Answer.{columnsAfter, answerTo, lineIn, columnsNext, stayedWith}
+use Rattle.ass.proofs.TellLaws.{tells-stayed}
 use Rattle.assline.proofs.FitLaws.{line-most}
 
 -- ---- a caption

@@ -1,5 +1,5 @@
 -- Laws of what the functions of a caption tell: lines that stay, captions that pass, and captions that are kept.
-use mathlib.Core.Path.{_≡_, refl, sym, ap, subst, _∙_}
+use mathlib.Core.Path.{_≡_, refl, sym, ap, _∙_}
 use mathlib.Core.Bool.{Bool, true, false, cond, _&&_}
 use mathlib.Core.List.{List, [], _∷_, _++_}
 use Prim.Native.Nat.{ℕ, zero, suc, _+_, _*_, _-_, _≤_, _<_, _^_}
@@ -11,38 +11,19 @@ use Rattle.time.specs.Write.{timeText}
 use Rattle.time.proofs.Written.{text-23}
 use Rattle.event.specs.declared.telling.Told.{Told}
 use Rattle.event.specs.declared.telling.Counted.{Counted}
-use Rattle.event.specs.declared.telling.Counted.the-variants.{Nothing, Passed, Dropped as Lost}
+use Rattle.event.specs.declared.telling.Counted.the-variants.{Nothing, Passed}
 use Rattle.event.specs.declared.retiming.Retimed.{Retimed}
-use Rattle.event.specs.declared.retiming.Decision.{Decision}
-use Rattle.event.specs.declared.retiming.Decision.the-variants.{Strange, Dropped, Kept}
 use Rattle.event.specs.Fates.{passed, fateFor}
-use Rattle.event.specs.Says.{Piece, bytes, start, stop, Cue}
+use Rattle.event.specs.Says.{Piece, bytes, start, stop}
 use Rattle.event.specs.Emit.{Warning, none, decided, emit, warning, warnIf, placesOf, render, keptEmit}
-use Rattle.event.specs.Told.{Answer, refusal, answered, countedOf, cueIn, Tells}
+use Rattle.event.specs.Told.{answered, countedOf, Tells}
 use Rattle.assline.specs.declared.layout.Columns.{Columns}
 use Rattle.assline.specs.Columns.{fields, fieldAt}
 use Rattle.assline.specs.Tags.{tagged}
 use Rattle.assline.specs.Frame.{lineFrame, framePlaced, frameAfter, frameMost}
 use Rattle.ass.specs.Line.{lineCue}
-use Rattle.ass.specs.Answer.{refusedWith, stayedWith}
+use Rattle.ass.specs.Answer.{stayedWith}
 use Rattle.assline.proofs.WriteLaws.{frame-put}
-
--- an answer that is equal to another
-pub tells-same : {a b : Answer} {r : Told} {o o′ w w′ : List ℕ} → a ≡ b → Tells b r o o′ w w′ → Tells a r o o′ w w′
-tells-same {a} {b} {r} {o} {o′} {w} {w′} e h = subst (λ (x : Answer). Tells x r o o′ w w′) (sym e) h
-
--- an answer that writes nothing
-pub tells-refused : (n : ℕ) (r : Told) (o w : List ℕ) → r ≡ refusedWith n → Tells (refusal n) r o o w w
-unfolding placesOf
-tells-refused n r o w e =
-    record {
-      number = ap (λ (d : Told). d .number) e;
-      counted = ap (λ (d : Told). d .counted) e;
-      written = ap (λ (d : Told). d .written) e;
-      warned = ap (λ (d : Told). d .warned) e;
-      text = sym (put-nil o);
-      warnings = sym (put-nil w);
-    }
 
 -- ---- a line that stays
 pub stayed-told : (l o o′ : List ℕ) (n : ℕ) → 3 * length l ≤ length o → (n ≡ placedLength l o) × (o′ ≡ placed l o)
@@ -150,20 +131,3 @@ module _ (kind x S a E b : ℕ) (c : Columns) (v r y : List ℕ) (R : Retimed) (
         text = p .1 ∙ fp .0;
         warnings = q .1 ∙ ap (λ (u : List ℕ). put u w) z;
       }
-
--- ---- by the decision: D is that of the definition, and d the one that the code was told
-module _ (kind : ℕ) (q : Cue) (D d : Decision) (ed : d ≡ D) where
-  by-told : (v : Decision) → d ≡ v → cueIn kind q D ≡ cueIn kind q v
-  by-told v p = ap (cueIn kind q) (sym ed ∙ p)
-
-  pub settle-strange : (r : Told) (o w : List ℕ) → d ≡ Strange → r ≡ refusedWith 15 → Tells (cueIn kind q D) r o o w w
-  settle-strange r o w p e = tells-same (by-told Strange p) (tells-refused 15 r o w e)
-
-  pub settle-dropped : (o w : List ℕ) → d ≡ Dropped → Tells (cueIn kind q D) (record { number = 0; counted = Lost; written = 0; warned = 0 }) o o w w
-  unfolding placesOf
-  settle-dropped o w p =
-      tells-same (by-told Dropped p)
-      (record { number = refl; counted = refl; written = refl; warned = refl; text = sym (put-nil o); warnings = sym (put-nil w) })
-
-  pub settle-kept : (R : Retimed) (r : Told) (o o′ w w′ : List ℕ) → d ≡ Kept R → Tells (answered (keptEmit kind q R)) r o o′ w w′ → Tells (cueIn kind q D) r o o′ w w′
-  settle-kept R r o o′ w w′ p h = tells-same (by-told (Kept R) p) h

@@ -43,9 +43,6 @@ columnsNext c n l room places =
     (cond (ltb places 4) c
     (columnsAfter c (lineSays c n l)))
 
--- a refusal, and a line that stays, handed back
-abbrev pub refusedWith : ℕ → Told
-refusedWith n = record { number = n; counted = Nothing; written = 0; warned = 0 }
-
+-- a line that stays, handed back
 abbrev pub stayedWith : ℕ → Told
 stayedWith k = record { number = 0; counted = Nothing; written = k; warned = 0 }

@@ -14,6 +14,8 @@ use event::Counted;
 use event::Decision;
 use event::Retimed;
 use event::Told;
+use event::counted_by;
+use event::refused;
 use time::Time;
 ghost use mathlib.Core.Path.{_≡_};
 ghost use mathlib.Core.Bool.{_&&_};
@@ -25,30 +27,19 @@ ghost use Rattle.text.specs.Line.{textOf, terminatorOf};
 ghost use Rattle.time.specs.Read.{timeIn};
 ghost use Rattle.segmap.specs.Segment.{segmentsOf};
 ghost use Rattle.event.specs.Decide.{decideIn};
-ghost use Rattle.event.specs.Fates.{passed, fateFor};
+ghost use Rattle.event.specs.Fates.{passed};
 ghost use Rattle.event.specs.Emit.{none, decided, emit, warning, warnIf, placesOf, keptEmit};
-ghost use Rattle.event.specs.Told.{countedOf, answered, cueIn, Tells};
+ghost use Rattle.event.specs.Told.{answered, cueIn, Tells};
 ghost use Rattle.assline.specs.Columns.{fields, fieldAt};
 ghost use Rattle.assline.specs.Tags.{tagged};
 ghost use Rattle.assline.specs.Frame.{lineFrame, frameMost};
 ghost use Rattle.ass.specs.Line.{lineCue, timesSay, captionSays, wordSays};
-ghost use Rattle.ass.specs.Answer.{columnsAfter, answerTo, lineIn, columnsNext, refusedWith, stayedWith};
+ghost use Rattle.ass.specs.Answer.{columnsAfter, answerTo, lineIn, columnsNext, stayedWith};
 
 // What a line tells, and the columns for the next one.
 pub struct LineTold {
     pub told: Told,
     pub columns: Columns,
-}
-
-fn refused(number: u32) -> Told
-    ensures { λ r. ⌜ r ≡ refusedWith number ⌝ }
-{
-    Told {
-        number,
-        counted: Counted::Nothing,
-        written: 0,
-        warned: 0,
-    }
 }
 
 // A line that stays as it is.
@@ -106,19 +97,6 @@ fn warn(tag: bool, lost: bool, line: u64, warnings: &mut [u64]) -> usize
         return base::pair_at(warnings, 0, 4, line);
     }
     0
-}
-
-// How a kept caption is counted.
-fn counted_by(r: Retimed) -> Counted
-    ensures { λ c. ⌜ c ≡ countedOf (decided (fateFor r)) ⌝ }
-{
-    if r.start_cut {
-        return Counted::Clipped;
-    }
-    if r.end_cut {
-        return Counted::Clipped;
-    }
-    Counted::Shifted
 }
 
 // A caption that is kept.

@@ -7,11 +7,12 @@ use native.Mathlib.Omega.{arith}
 use native.Mathlib.Numerals.{add-one}
 use borrow.Author.Tests.{eq-eqb, ne-eqb, eqb-true, eqb-false}
 use lib.Dec.{eqb}
-use lib.ListN.{length, take, drop, length-drop}
+use lib.ListN.{length, take, drop, getD, length-drop}
 use lib.Seq.{take-all}
 use Rattle.text.specs.White.{trim}
 use Rattle.text.specs.Find.{equals, first}
 use Rattle.text.specs.Piece.{pieces}
+use Rattle.text.proofs.Laws.{equals-true}
 use Rattle.text.proofs.PieceLaws.{pieces-none, pieces-some}
 use Rattle.assline.specs.declared.layout.Columns.{Columns}
 use Rattle.assline.specs.Columns.{comma, startName, endName, namesIn, further, placeIn, columnsIn}
@@ -108,3 +109,34 @@ module _ (s t p n : List ℕ) (i k start stop start′ stop′ : ℕ) (a b : Boo
         starts = onward-more startName n (namesIn u) start start′ k a ea es ∙ ap (λ (l : List (List ℕ)). onward start k (placeIn startName l)) (sym q) ∙ inv .starts;
         stops = onward-more endName n (namesIn u) stop stop′ k b eb ee ∙ ap (λ (l : List (List ℕ)). onward stop k (placeIn endName l)) (sym q) ∙ inv .stops;
       }
+
+-- ---- Start and End are not one column: where their places are the same, both are unknown
+abbrev pub Apart : Columns → Type 0
+Apart c = c .start ≡ c .«end» → c .start ≡ 0
+
+further-same : (x y : ℕ) → further x ≡ further y → x ≡ y
+further-same zero zero e = refl
+further-same zero (suc y) e = absurd (omega arith)
+further-same (suc x) zero e = absurd (omega arith)
+further-same (suc x) (suc y) e = omega arith
+
+further-one : (x : ℕ) → further x ≡ 1 → ⊥
+further-one zero e = omega arith
+further-one (suc x) e = omega arith
+
+places-apart : (a b : List ℕ) → (a ≡ b → ⊥) → (cs : List (List ℕ)) → placeIn a cs ≡ placeIn b cs → placeIn a cs ≡ 0
+unfolding placeIn
+places-apart a b n [] e = refl
+places-apart a b n (c ∷ cs) e = go (equals a c) refl (equals b c) refl e (places-apart a b n cs)
+  where
+    go : (x : Bool) → equals a c ≡ x → (y : Bool) → equals b c ≡ y → cond x 1 (further (placeIn a cs)) ≡ cond y 1 (further (placeIn b cs))
+        → (placeIn a cs ≡ placeIn b cs → placeIn a cs ≡ 0) → cond x 1 (further (placeIn a cs)) ≡ 0
+    go true p true q e ih = absurd (n (equals-true a c p ∙ sym (equals-true b c q)))
+    go true p false q e ih = absurd (further-one (placeIn b cs) (sym e))
+    go false p true q e ih = absurd (further-one (placeIn a cs) e)
+    go false p false q e ih = ap further (ih (further-same (placeIn a cs) (placeIn b cs) e))
+
+-- a `Format:` line sets such columns
+pub format-apart : (s : List ℕ) → Apart (columnsIn s)
+unfolding columnsIn
+format-apart s = places-apart startName endName (λ e. let z : 83 ≡ 69 = ap (λ (l : List ℕ). getD l 0 0) e in omega arith) (namesIn s)

@@ -11,7 +11,7 @@ use lib.Seq.{take-all}
 use Rattle.text.specs.Find.{first, contains, upTo, past}
 use Rattle.assline.specs.Columns.{comma, fields, fieldAt}
 
-fields-some : (n : ℕ) (s : List ℕ) → first comma s < length s → fields (suc (suc n)) s ≡ take (first comma s) s ∷ fields (suc n) (drop (first comma s + 1) s)
+pub fields-some : (n : ℕ) (s : List ℕ) → first comma s < length s → fields (suc (suc n)) s ≡ take (first comma s) s ∷ fields (suc n) (drop (first comma s + 1) s)
 unfolding fields contains upTo past
 fields-some n s h = rw (lt-ltb (first comma s) (length s) h)
 
@@ -114,7 +114,7 @@ module _ (s t : List ℕ) (c n : ℕ) (inv : leb n (length (fields n t)) ≡ leb
       go (suc (suc n)) h = absurd (omega arith)
 
 -- ---- the field at a place
-at-none : (k : ℕ) (fs : List (List ℕ)) → length fs < k → fieldAt k fs ≡ []
+pub at-none : (k : ℕ) (fs : List (List ℕ)) → length fs < k → fieldAt k fs ≡ []
 unfolding fieldAt
 at-none zero fs h = absurd (omega arith)
 at-none (suc k) [] h = refl

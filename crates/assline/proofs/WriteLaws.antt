@@ -41,7 +41,7 @@ length-placed at v l = go (leb (at + length v) (length l)) refl
     go false e = refl
 
 module _ (s e : List ℕ) where
-  piece-text : (i j k : ℕ) (f : List ℕ) → pieceText s e (pieceAt i j k f) ≡ cond (eqb k j) e (cond (eqb k i) s f)
+  pub piece-text : (i j k : ℕ) (f : List ℕ) → pieceText s e (pieceAt i j k f) ≡ cond (eqb k j) e (cond (eqb k i) s f)
   unfolding pieceAt pieceText
   piece-text i j k f = go (eqb k j) (eqb k i)
     where
@@ -50,7 +50,7 @@ module _ (s e : List ℕ) where
       go false true = refl
       go false false = refl
 
-  is-bytes : (l : List ℕ) → l ≡ pieceText s e (bytes l)
+  pub is-bytes : (l : List ℕ) → l ≡ pieceText s e (bytes l)
   unfolding pieceText
   is-bytes l = refl
 
@@ -168,7 +168,7 @@ module _ (s e : List ℕ) where
   render-step start ps = refl
   render-step stop ps = refl
 
-  render-nil : render [] s e ≡ []
+  pub render-nil : render [] s e ≡ []
   unfolding render
   render-nil = refl
 

@@ -6,14 +6,15 @@ use mathlib.Core.List.{List, [], _∷_, _++_, append-assoc, append-nil}
 use Prim.Native.Nat.{ℕ, zero, suc, _+_, _*_, _-_, _≤_, _<_}
 use native.Mathlib.Omega.{arith}
 use lib.Dec.{ltb, eqb}
-use lib.Seq.{drop-drop, getD-append-add, getD-drop}
-use lib.ListN.{length, drop, getD, length-append, length-drop, drop-of-length-le}
+use lib.Seq.{drop-drop, getD-drop}
+use lib.ListN.{length, drop, getD, length-append, drop-of-length-le}
 use Rattle.base.specs.Width.{byWidth}
 use Rattle.text.specs.Utf8.{tail}
 use Rattle.text.specs.Find.{first, contains, upTo, past}
 use Rattle.text.specs.White.{whiteHead, headFrom, trimHead}
 use Rattle.text.specs.Line.{ontoFirst, linesOf, concat, lineCount, textOf, terminatorOf, endsLine, hasLf}
 use Rattle.text.proofs.LineLaws.{text-terminator, line-then, line-last}
+use Rattle.text.proofs.LineEnds.{lastOf, last-append, last-drop, Ended, ended-swap, text-again, terminator-again, line-ended}
 use Rattle.time.specs.declared.read.Time.{Time}
 use Rattle.time.specs.declared.read.Time.the-variants.{At, Bad}
 use Rattle.time.specs.Kind.{unitsOf, markOf}
@@ -27,7 +28,7 @@ use Rattle.block.specs.Block
 use Rattle.block.specs.Block.{arrow, writtenArrow, afterArrow, blockFrame, blockCue, timesSay, endText, trailing, lineSays, timingSays, blockSays, later, timingOf, Timing, BlockSays, faulty, says}
 use Rattle.block.proofs.WriteLaws.{frame-pieces}
 use Rattle.block.proofs.LineBack.{Plain, plain-text, text-12, lineText, arrow-back, line-back}
-use Rattle.block.proofs.LineEnds.{lf-append, ends-append, lf-plain, lf-drop, lastOf, Ended, ended-swap, text-again, terminator-again, Parted, parted}
+use Rattle.block.proofs.LineEnds.{lf-append, ends-append, lf-plain, lf-drop, lf-get, text-lf}
 
 -- ---- what is trailing is the end of the line's text
 record Drops (s r : List ℕ) : Type 0 where
@@ -55,16 +56,10 @@ trailing-drops t =
           ap (drop (srtEnd (trimHead (drop p t)))) (d .is) ∙ drop-drop (srtEnd (trimHead (drop p t))) (d .count) (drop p t) ∙ drop-drop (d .count + srtEnd (trimHead (drop p t))) p t;
     }
 
-last-drop : (t r : List ℕ) → Drops t r → 0 < length r → lastOf r ≡ lastOf t
-last-drop t r d h =
-    let n : length r ≡ length t - d .count = ap length (d .is) ∙ length-drop (d .count) t in
-    let i : d .count + (length r - 1) ≡ length t - 1 = omega arith in
-    ap (λ (x : List ℕ). getD x (length r - 1) 0) (d .is) ∙ getD-drop (d .count) t (length r - 1) 0 ∙ ap (λ (k : ℕ). getD t k 0) i
-
-last-append : (xs ys : List ℕ) → 0 < length ys → lastOf (xs ++ ys) ≡ lastOf ys
-last-append xs ys h =
-    let i : length (xs ++ ys) - 1 ≡ length xs + (length ys - 1) = omega (arith, length-append xs ys) in
-    ap (λ (k : ℕ). getD (xs ++ ys) k 0) i ∙ getD-append-add xs ys (length ys - 1) 0
+last-trailing : (t : List ℕ) → 0 < length (trailing srt t) → lastOf (trailing srt t) ≡ lastOf t
+last-trailing t h =
+    let d = trailing-drops t in
+    ap lastOf (d .is) ∙ last-drop (d .count) t (subst (λ (x : List ℕ). 0 < length x) (d .is) h)
 
 plain-get : (xs : List ℕ) (i : ℕ) → Plain xs → i < length xs → 44 ≤ getD xs i 0
 plain-get [] i p h = absurd (omega arith)
@@ -85,7 +80,7 @@ whole r = go (ltb (length r) 12) (tail (getD r 12 0)) refl
     go false false e = ap tail (getD-drop 12 r 0 0) ∙ e
 
 -- ---- a written timing line in place of the line l
-module _ (s e : ℕ) (l : List ℕ) (p : Parted l) (he : e < 360000 * 1000) where
+module _ (s e : ℕ) (l : List ℕ) (p : hasLf (textOf l) ≡ false) (he : e < 360000 * 1000) where
   abbrev newText : List ℕ
   newText = lineText s e (trailing srt (textOf l))
 
@@ -97,7 +92,7 @@ module _ (s e : ℕ) (l : List ℕ) (p : Parted l) (he : e < 360000 * 1000) wher
   new-lf =
       let d = trailing-drops (textOf l) in
       lf-append (timeText 1 44 s) _ (lf-plain (timeText 1 44 s) (plain-text s)) ∙
-      lf-append (timeText 1 44 e) (trailing srt (textOf l)) (lf-plain (timeText 1 44 e) (plain-text e)) ∙ ap hasLf (d .is) ∙ lf-drop (d .count) (textOf l) (p .no-lf)
+      lf-append (timeText 1 44 e) (trailing srt (textOf l)) (lf-plain (timeText 1 44 e) (plain-text e)) ∙ ap hasLf (d .is) ∙ lf-drop (d .count) (textOf l) p
 
   new-last : lastOf newText ≡ 13 → lastOf (textOf l) ≡ 13
   new-last q = go (trailing srt (textOf l)) refl
@@ -115,25 +110,25 @@ module _ (s e : ℕ) (l : List ℕ) (p : Parted l) (he : e < 360000 * 1000) wher
           let g : lastOf (timeText 1 44 e) ≡ 13 = ap lastOf (sym (append-nil (timeText 1 44 e))) ∙ sym (behind []) ∙ ap (λ (x : List ℕ). lastOf (lineText s e x)) (sym z) ∙ q in
           absurd (omega (arith, plain-get (timeText 1 44 e) (length (timeText 1 44 e) - 1) (plain-text e) (omega (arith, E12))))
       go (b ∷ t) z =
-          sym (last-drop (textOf l) (trailing srt (textOf l)) (trailing-drops (textOf l)) (rw z (omega arith))) ∙ ap lastOf z ∙
+          sym (last-trailing (textOf l) (rw z (omega arith))) ∙ ap lastOf z ∙
           sym (last-append (timeText 1 44 e) (b ∷ t) (omega arith)) ∙ sym (behind (b ∷ t)) ∙ ap (λ (x : List ℕ). lastOf (lineText s e x)) (sym z) ∙ q
 
   new-ended : Ended newText (terminatorOf l)
-  new-ended = ended-swap (textOf l) newText (terminatorOf l) new-last (p .ended)
+  new-ended = ended-swap (textOf l) newText (terminatorOf l) (λ q. absurd (lf-get newText (length newText - 1) new-lf q)) new-last (line-ended l)
 
   new-text : textOf newLine ≡ newText
-  new-text = text-again newText (terminatorOf l) new-lf new-ended
+  new-text = text-again newText (terminatorOf l) new-ended
 
   new-terminator : terminatorOf newLine ≡ terminatorOf l
-  new-terminator = terminator-again newText (terminatorOf l) new-lf new-ended
+  new-terminator = terminator-again newText (terminatorOf l) new-ended
 
   new-ends : endsLine l ≡ true → endsLine newLine ≡ true
   new-ends h =
-      ends-append newText (terminatorOf l) new-lf ∙ sym (ends-append (textOf l) (terminatorOf l) (p .no-lf)) ∙ ap endsLine (text-terminator l) ∙ h
+      ends-append newText (terminatorOf l) new-lf ∙ sym (ends-append (textOf l) (terminatorOf l) p) ∙ ap endsLine (text-terminator l) ∙ h
 
   new-open : hasLf l ≡ false → hasLf newLine ≡ false
   new-open h =
-      lf-append newText (terminatorOf l) new-lf ∙ sym (lf-append (textOf l) (terminatorOf l) (p .no-lf)) ∙ ap hasLf (text-terminator l) ∙ h
+      lf-append newText (terminatorOf l) new-lf ∙ sym (lf-append (textOf l) (terminatorOf l) p) ∙ ap hasLf (text-terminator l) ∙ h
 
   new-long : 0 < length newLine
   new-long =
@@ -246,7 +241,7 @@ module _ (first : ℕ) (b : List (List ℕ)) (l : List ℕ) (a : List (List ℕ)
       ≡ says (cue (blockCue (first + lineCount b) s 44 e 44 (blockFrame (concat b) (trailing srt (textOf l)) (terminatorOf l) (concat a))))
   unfolding blockSays
   written-back s e hs he =
-      let p = parted l (cut-line b l a cut) in
+      let p = text-lf l (cut-line b l a cut) in
       let m : List ℕ = newLine s e l p he in
       let w : render (blockFrame (concat b) (trailing srt (textOf l)) (terminatorOf l) (concat a)) (timeText 1 44 s) (timeText 1 44 e) ≡ concat (b ++ m ∷ a) =
       frame-pieces (concat b) (trailing srt (textOf l)) (terminatorOf l) (concat a) (timeText 1 44 s) (timeText 1 44 e) ∙

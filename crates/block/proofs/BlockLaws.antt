@@ -1,5 +1,5 @@
 -- Laws of what the functions of a block answer.
-use mathlib.Core.Path.{_≡_, refl, sym, ap, subst, _∙_}
+use mathlib.Core.Path.{_≡_, refl, sym, ap, _∙_}
 use mathlib.Core.Bool.{Bool, true, false, _&&_, true≢false}
 use mathlib.Core.List.{List, [], _++_}
 use Prim.Native.Nat.{ℕ, _+_, _*_, _-_, _/_, _≤_, _<_}
@@ -20,15 +20,15 @@ use Rattle.segmap.specs.declared.segment.Segment.{Segment}
 use Rattle.event.specs.declared.setting.Config.{Config}
 use Rattle.event.specs.declared.telling.Told.{Told}
 use Rattle.event.specs.declared.telling.Counted.{Counted}
-use Rattle.event.specs.declared.telling.Counted.the-variants.{Nothing, Dropped as Lost}
+use Rattle.event.specs.declared.telling.Counted.the-variants.{Nothing}
 use Rattle.event.specs.declared.retiming.Retimed.{Retimed}
-use Rattle.event.specs.declared.retiming.Decision.{Decision}
-use Rattle.event.specs.declared.retiming.Decision.the-variants.{Strange, Dropped, Kept}
+use Rattle.event.specs.declared.retiming.Decision.the-variants.{Kept}
 use Rattle.event.specs.Decide.{decideIn}
 use Rattle.event.specs.Fates.{fateFor}
-use Rattle.event.specs.Says.{Piece, Cue, stays, badTime}
+use Rattle.event.specs.Says.{Piece, stays, badTime}
 use Rattle.event.specs.Emit.{Warning, decided, warnIf, placesOf, render, emitBy}
-use Rattle.event.specs.Told.{Answer, refusal, countedOf, cueIn, partIn, Tells}
+use Rattle.event.specs.Told.{refusal, countedOf, cueIn, partIn, Tells, refusedWith}
+use Rattle.event.proofs.TellLaws.{tells-same, tells-refused}
 use Rattle.block.specs.declared.srt.Times.{Times}
 use Rattle.block.specs.declared.srt.Reading.{Reading}
 use Rattle.block.specs.declared.srt.Reading.the-variants.{Bad as Unread, Both}
@@ -36,44 +36,10 @@ use Rattle.block.specs.declared.timing.Place.{Place}
 use Rattle.block.specs.Style.{srtEnd, srt}
 use Rattle.block.specs.Block
 use Rattle.block.specs.Block.{arrow, afterArrow, blockFrame, blockCue, timesSay, endText, trailing, lineSays, timingSays, blockSays, timingOf, Timing, faulty, says}
-use Rattle.block.specs.Answer.{answerTo, blockIn, refusedWith, readingOf}
+use Rattle.block.specs.Answer.{answerTo, blockIn, readingOf}
 use Rattle.block.specs.Place.{placeIn}
 use Rattle.block.proofs.PlaceLaws.{Stands, stands}
 use Rattle.block.proofs.WriteLaws.{line-long}
-
--- an answer that writes nothing
-pub tells-refused : (n : ℕ) (r : Told) (o w : List ℕ) → r ≡ refusedWith n → Tells (refusal n) r o o w w
-unfolding placesOf
-tells-refused n r o w e =
-    record {
-      number = ap (λ (d : Told). d .number) e;
-      counted = ap (λ (d : Told). d .counted) e;
-      written = ap (λ (d : Told). d .written) e;
-      warned = ap (λ (d : Told). d .warned) e;
-      text = sym (put-nil o);
-      warnings = sym (put-nil w);
-    }
-
--- an answer that is equal to another
-pub tells-same : {a b : Answer} {r : Told} {o o′ w w′ : List ℕ} → a ≡ b → Tells b r o o′ w w′ → Tells a r o o′ w w′
-tells-same {a} {b} {r} {o} {o′} {w} {w′} e h = subst (λ (x : Answer). Tells x r o o′ w w′) (sym e) h
-
--- ---- settle: D is the decision by the definition, and d the one that the code was told
-module _ (kind : ℕ) (q : Cue) (D d : Decision) (ed : d ≡ D) where
-  by-told : (v : Decision) → d ≡ v → cueIn kind q D ≡ cueIn kind q v
-  by-told v p = ap (cueIn kind q) (sym ed ∙ p)
-
-  pub settle-strange : (r : Told) (o w : List ℕ) → d ≡ Strange → r ≡ refusedWith 15 → Tells (cueIn kind q D) r o o w w
-  settle-strange r o w p e = tells-same (by-told Strange p) (tells-refused 15 r o w e)
-
-  pub settle-dropped : (o w : List ℕ) → d ≡ Dropped → Tells (cueIn kind q D) (record { number = 0; counted = Lost; written = 0; warned = 0 }) o o w w
-  unfolding placesOf
-  settle-dropped o w p =
-      tells-same (by-told Dropped p)
-      (record { number = refl; counted = refl; written = refl; warned = refl; text = sym (put-nil o); warnings = sym (put-nil w) })
-
-  pub settle-kept : (x : Retimed) (r : Told) (o o′ w w′ : List ℕ) → d ≡ Kept x → Tells (cueIn kind q (Kept x)) r o o′ w w′ → Tells (cueIn kind q D) r o o′ w w′
-  settle-kept x r o o′ w w′ p h = tells-same (by-told (Kept x) p) h
 
 -- without a tag there is no warning 3
 no-tag : (t : Bool) (n : ℕ) (l : List Warning) → warnIf (t && false) 3 n ++ l ≡ l

@@ -13,33 +13,17 @@ use Rattle.time.specs.declared.read.Time.{Time}
 use Rattle.time.specs.declared.read.Time.the-variants.{At, Bad}
 use Rattle.time.specs.Kind.{unitsOf, markOf}
 use Rattle.time.specs.Read.{timeIn}
-use Rattle.time.specs.Convert.{ticksOf, coreUnits}
 use Rattle.time.proofs.Reading.{time-below, time-mark}
 use Rattle.segmap.specs.Segment.{segmentsOf, mapBad}
 use Rattle.event.specs.declared.setting.Config.{Config}
-use Rattle.event.specs.Hit.{Found, miss, hit, findHit}
-use Rattle.event.specs.Decide.{decideHit, decideTicks, decideOf}
 use Rattle.event.specs.Says.{Cue, stays, passes, cue}
-use Rattle.event.specs.Emit.{cueEmit, emitBy, emitOf}
-use Rattle.event.specs.Told.{answered, cueIn, partIn}
-use Rattle.event.proofs.FineLaws.{Set, decide-fine}
+use Rattle.event.specs.Emit.{emitBy}
+use Rattle.event.specs.Told.{partIn}
+use Rattle.event.proofs.FineLaws.{Set, cue-fine}
 use Rattle.block.specs.Style.{Style, srt}
 use Rattle.block.specs.Block
 use Rattle.block.specs.Block.{arrow, blockFrame, timesSay, endText, trailing, lineSays, timingSays, blockSays, timingOf, Timing, BlockSays, faulty, says}
 use Rattle.block.specs.Answer.{answerOf, answerTo, blockIn}
-
--- ---- a cue through the map: document 01's decision is never strange
-hit-answered : (kind T U a b : ℕ) (q : Cue) (f : Found) → cueIn kind q (decideHit T U a b f) ≡ answered (cueEmit kind q (decideHit T U a b f))
-hit-answered kind T U a b q miss = refl
-hit-answered kind T U a b q (hit i x xs) = refl
-
-pub cue-fine : (c : Config) → Set c → (m : List ℕ) → mapBad m ≡ false → (q : Cue) → q .start ≤ coreUnits → q .stop ≤ coreUnits
-    → partIn c (segmentsOf m) (cue q) ≡ answered (emitOf c (segmentsOf m) (cue q))
-unfolding partIn emitBy decideOf decideTicks
-cue-fine c set m g q hs he =
-    ap (cueIn (c .kind) q) (decide-fine c set m (q .start) (q .stop) g hs he) ∙
-    hit-answered (c .kind) (c .timescale) (unitsOf (c .kind)) _ _ q
-    (findHit (segmentsOf m) (ticksOf (c .timescale) (unitsOf (c .kind)) (q .start)) (ticksOf (c .timescale) (unitsOf (c .kind)) (q .stop)))
 
 -- ---- what is known of the cue that a block says: times below 10,000 hours, and SRT's mark; no tag
 pub record Timely (q : Cue) : Type 0 where

@@ -2,9 +2,8 @@
 use mathlib.Core.Path.{_≡_, refl, sym, ap, subst, _∙_}
 use mathlib.Core.Bool.{Bool, true, false, cond, _&&_}
 use mathlib.Core.List.{List, [], _++_}
-use Prim.Native.Nat.{ℕ, _+_, _*_, _≤_, _<_, _^_}
+use Prim.Native.Nat.{ℕ, _+_, _*_, _≤_}
 use native.Mathlib.Omega.{arith}
-use native.Mathlib.Nat.{le-refl, mul-le-mul}
 use lib.Dec.{ltb}
 use lib.ListN.{length, length-append}
 use Rattle.text.specs.Find.{upTo}
@@ -12,23 +11,20 @@ use Rattle.text.specs.Line.{linesOf, concat, lineCount, textOf, terminatorOf}
 use Rattle.text.proofs.LineLaws.{lines-joined}
 use Rattle.time.specs.declared.read.Time.{Time}
 use Rattle.time.specs.declared.read.Time.the-variants.{At, Bad}
-use Rattle.time.specs.Kind.{unitsOf}
 use Rattle.time.specs.Read.{timeIn}
-use Rattle.time.specs.Convert.{startUnits, endUnits, coreUnits, coreTicks, coreHolds, startWithin, endWithin}
-use Rattle.time.proofs.Conversions.{start-low, end-start}
-use Rattle.time.proofs.Limits.{core-within, units-high}
+use Rattle.time.specs.Convert.{coreUnits}
 use Rattle.time.proofs.Reading.{time-most}
 use Rattle.segmap.specs.declared.segment.Segment.{Segment}
-use Rattle.segmap.specs.Segment.{sourceOf, outputOf, segmentsOf, endBad, mapBad}
+use Rattle.segmap.specs.Segment.{segmentsOf, mapBad}
 use Rattle.event.specs.declared.setting.Config.{Config}
 use Rattle.event.specs.declared.retiming.Decision.{Decision}
 use Rattle.event.specs.declared.retiming.Decision.the-variants.{Strange, Dropped, Kept}
-use Rattle.event.specs.Hit.{Found, miss, hit, findHit, metOf}
-use Rattle.event.specs.Decide.{retimedBy, limitedHit, decideIn, decideOf}
+use Rattle.event.specs.Decide.{decideIn, decideOf}
 use Rattle.event.specs.Says.{Part, stays, passes, cue}
 use Rattle.event.specs.Emit.{Emit, warnIf, cueEmit, emitBy, emitOf}
 use Rattle.event.specs.Told.{refusal, cueIn, partIn}
 use Rattle.event.proofs.FineLaws.{Set, decide-fine}
+use Rattle.event.proofs.WordLaws.{Words, decide-words}
 use Rattle.block.specs.Style.{srt}
 use Rattle.block.specs.Block
 use Rattle.block.specs.Block.{arrow, blockFrame, blockCue, timesSay, endText, trailing, lineSays, timingSays, blockSays, timingOf, Timing, BlockSays, faulty, says}
@@ -36,57 +32,6 @@ use Rattle.block.specs.Answer.{answerTo, blockIn}
 use Rattle.block.specs.Place.{placeIn}
 use Rattle.block.proofs.PlaceLaws.{Placed, timing-placed}
 use Rattle.block.proofs.WriteLaws.{kept-length, line-long}
-
--- ---- the times that a decision writes are words
-abbrev pub Words : Decision → Type 0
-Words Strange = Unit {0}
-Words Dropped = Unit {0}
-Words (Kept r) = (r .start < 2 ^ 64) × (r .stop < 2 ^ 64)
-
-scaled-below : (x T ticks U : ℕ) → x * T ≤ ticks * U → 1 ≤ T → ticks ≤ coreTicks → U ≤ 1000 → x < 2 ^ 63
-scaled-below x T ticks U h t k u =
-    let a : x * 1 ≤ x * T = mul-le-mul (le-refl x) t in
-    let b : ticks * U ≤ coreTicks * 1000 = mul-le-mul k u in
-    omega arith
-
-module _ (kind T ticks : ℕ) where
-  start-of : (b : Bool) → coreHolds kind T ticks coreTicks ≡ b → cond b (startUnits T (unitsOf kind) ticks) 0 < 2 ^ 63
-  start-of true e =
-      let w = core-within kind T ticks coreTicks e in
-      scaled-below _ T ticks (unitsOf kind) (start-low T (unitsOf kind) ticks) (w .T-low) (w .value-most) (units-high kind (w .kind-known))
-  start-of false e = omega arith
-
-  start-word : startWithin kind T ticks < 2 ^ 64
-  unfolding startWithin
-  start-word = omega (arith, start-of (coreHolds kind T ticks coreTicks) refl)
-
-  end-of : (b : Bool) → coreHolds kind T ticks coreTicks ≡ b → cond b (endUnits T (unitsOf kind) ticks) 0 < 2 ^ 64
-  end-of true e =
-      let w = core-within kind T ticks coreTicks e in
-      let s : startUnits T (unitsOf kind) ticks < 2 ^ 63 =
-      scaled-below _ T ticks (unitsOf kind) (start-low T (unitsOf kind) ticks) (w .T-low) (w .value-most) (units-high kind (w .kind-known)) in
-      omega (arith, end-start T (unitsOf kind) ticks (w .T-low))
-  end-of false e = omega arith
-
-  end-word : endWithin kind T ticks < 2 ^ 64
-  unfolding endWithin
-  end-word = end-of (coreHolds kind T ticks coreTicks) refl
-
-tested-words : (s t : Bool) (d : Decision) → Words d → Words (cond s Strange (cond t Strange d))
-tested-words true t d w = tt
-tested-words false true d w = tt
-tested-words false false d w = w
-
-hit-words : (c : Config) (a b : ℕ) (f : Found) → Words (limitedHit c a b f)
-hit-words c a b miss = tt
-hit-words c a b (hit i x xs) =
-    tested-words (endBad (sourceOf x) (x .duration)) (endBad (outputOf x) (x .duration))
-    (Kept (retimedBy (startWithin (c .kind) (c .timescale)) (endWithin (c .kind) (c .timescale)) a b (metOf i x xs)))
-    (start-word (c .kind) (c .timescale) _, end-word (c .kind) (c .timescale) _)
-
-pub decide-words : (c : Config) (m : List Segment) (S E : ℕ) → Words (decideIn c m S E)
-unfolding decideIn
-decide-words c m S E = hit-words c _ _ (findHit m _ _)
 
 -- ---- what is emitted for a block of n bytes
 pub record Small (n : ℕ) (e : Emit) : Type 0 where

@@ -19,8 +19,7 @@ use Rattle.time.specs.declared.read.Time.the-variants.{At}
 use Rattle.time.specs.Kind.{kindBad, unitsOf, markOf, fractionDigits, hourDigits}
 use Rattle.time.specs.Read.{timeIn}
 use Rattle.time.specs.Write.{pad, widest, textWith, timeText}
-use Rattle.time.proofs.Pad.{width-bound}
-use Rattle.time.proofs.Written.{text-length, text-some, text-10}
+use Rattle.time.proofs.Written.{text-some, srt-12, text-10}
 use Rattle.time.proofs.RoundTrip.{time-back}
 use Rattle.event.specs.Says.{cue}
 use Rattle.block.specs.Style.{srtEnd, srt}
@@ -67,14 +66,8 @@ text-long : (units : ℕ) → 0 < length (timeText 1 44 units)
 text-long units = omega (arith, text-10 1 44 units srt-known)
 
 -- below 100 hours a time has 12 bytes
-with-12 : (units : ℕ) → units < 360000 * 1000 → length (textWith (unitsOf 1) (fractionDigits 1) (hourDigits 1) 44 units) ≡ 12
-unfolding unitsOf fractionDigits hourDigits
-with-12 units h =
-    let w = width-bound 1 (units / 1000 / 60 / 60) (omega arith) in
-    omega (arith, text-length 1000 3 2 44 units)
-
 pub text-12 : (units : ℕ) → units < 360000 * 1000 → length (timeText 1 44 units) ≡ 12
-text-12 units h = ap length (text-some 1 44 units srt-known) ∙ with-12 units h
+text-12 units h = srt-12 44 units (omega arith)
 
 text-back : (units : ℕ) → units < 36000000 * 1000 → timeIn 1 (timeText 1 44 units) ≡ At units 44
 unfolding markOf unitsOf

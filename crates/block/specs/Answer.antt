@@ -9,8 +9,6 @@ use Rattle.segmap.specs.declared.segment.Segment.{Segment}
 use Rattle.time.specs.declared.read.Time.{Time}
 use Rattle.time.specs.declared.read.Time.the-variants.{At, Bad as NoTime}
 use Rattle.event.specs.declared.setting.Config.{Config}
-use Rattle.event.specs.declared.telling.Told.{Told}
-use Rattle.event.specs.declared.telling.Counted.the-variants.{Nothing}
 use Rattle.event.specs.Says.{faultNumber}
 use Rattle.event.specs.Emit.{emitOf}
 use Rattle.event.specs.Told.{Answer, refusal, answered, partIn}
@@ -36,10 +34,6 @@ blockIn s m first b room places =
     cond (ltb room (3 * length b)) (refusal 16)
     (cond (ltb places 2) (refusal 16)
     (answerTo s m (blockSays srt first (linesOf b))))
-
--- a refusal, handed back
-abbrev pub refusedWith : ℕ → Told
-refusedWith n = record { number = n; counted = Nothing; written = 0; warned = 0 }
 
 -- what is read of a start and an end
 abbrev pub readingOf : Time → Time → Reading

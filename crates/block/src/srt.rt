@@ -8,6 +8,8 @@ use event::Counted;
 use event::Decision;
 use event::Retimed;
 use event::Told;
+use event::counted_by;
+use event::refused;
 use time::Time;
 ghost use mathlib.Core.Path.{_≡_};
 ghost use Prim.Native.Nat.{_+_, _*_, _≤_};
@@ -18,12 +20,11 @@ ghost use Rattle.time.specs.Write.{timeText};
 ghost use Rattle.segmap.specs.Segment.{segmentsOf};
 ghost use Rattle.event.specs.declared.retiming.Decision.the-variants.{Kept};
 ghost use Rattle.event.specs.Decide.{decideIn};
-ghost use Rattle.event.specs.Fates.{fateFor};
-ghost use Rattle.event.specs.Emit.{decided, warnIf, placesOf, render};
-ghost use Rattle.event.specs.Told.{countedOf, cueIn, Tells};
+ghost use Rattle.event.specs.Emit.{warnIf, placesOf, render};
+ghost use Rattle.event.specs.Told.{cueIn, Tells};
 ghost use Rattle.block.specs.Style.{srt};
 ghost use Rattle.block.specs.Block.{writtenArrow, blockFrame, blockCue, lineSays};
-ghost use Rattle.block.specs.Answer.{readingOf, refusedWith, answerTo, blockIn};
+ghost use Rattle.block.specs.Answer.{readingOf, answerTo, blockIn};
 
 // The times of a timing line, each with its mark.
 struct Times {
@@ -37,17 +38,6 @@ struct Times {
 enum Reading {
     Bad,
     Both(Times),
-}
-
-fn refused(number: u32) -> Told
-    ensures { λ r. ⌜ r ≡ refusedWith number ⌝ }
-{
-    Told {
-        number,
-        counted: Counted::Nothing,
-        written: 0,
-        warned: 0,
-    }
 }
 
 fn put_arrow(out: &mut [u8], at: usize) -> usize
@@ -87,19 +77,6 @@ fn warn(lost: bool, line: u64, warnings: &mut [u64]) -> usize
         return base::pair_at(warnings, 0, 4, line);
     }
     0
-}
-
-// How a kept caption is counted.
-fn counted_by(r: Retimed) -> Counted
-    ensures { λ c. ⌜ c ≡ countedOf (decided (fateFor r)) ⌝ }
-{
-    if r.start_cut {
-        return Counted::Clipped;
-    }
-    if r.end_cut {
-        return Counted::Clipped;
-    }
-    Counted::Shifted
 }
 
 // A caption that is kept.

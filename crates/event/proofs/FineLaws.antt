@@ -20,6 +20,9 @@ use Rattle.event.specs.declared.retiming.Decision.{Decision}
 use Rattle.event.specs.declared.retiming.Decision.the-variants.{Strange, Dropped, Kept}
 use Rattle.event.specs.Hit.{meetsParts, meets, Found, miss, hit, findFrom, findHit, metOf}
 use Rattle.event.specs.Decide.{moved, retimedBy, retimedAt, decideHit, decideTicks, decideOf, limitedHit, decideIn}
+use Rattle.event.specs.Says.{Cue, cue}
+use Rattle.event.specs.Emit.{cueEmit, emitBy, emitOf}
+use Rattle.event.specs.Told.{answered, cueIn, partIn}
 use Rattle.event.proofs.DecideLaws.{Fits, fits}
 
 -- ---- a setting within the limits: a known kind, and T from 1 to 1,000,000
@@ -103,3 +106,16 @@ module _ (c : Config) (set : Set c) where
 
   pub decide-fine : (m : List ℕ) (S E : ℕ) → mapBad m ≡ false → S ≤ coreUnits → E ≤ coreUnits → decideIn c (segmentsOf m) S E ≡ decideOf c (segmentsOf m) S E
   decide-fine m S E g hs he = decide-same (segmentsOf m) S E (any-good m g) hs he
+
+-- ---- a cue through the map: document 01's decision is never strange
+hit-answered : (kind T U a b : ℕ) (q : Cue) (f : Found) → cueIn kind q (decideHit T U a b f) ≡ answered (cueEmit kind q (decideHit T U a b f))
+hit-answered kind T U a b q miss = refl
+hit-answered kind T U a b q (hit i x xs) = refl
+
+pub cue-fine : (c : Config) → Set c → (m : List ℕ) → mapBad m ≡ false → (q : Cue) → q .start ≤ coreUnits → q .stop ≤ coreUnits
+    → partIn c (segmentsOf m) (cue q) ≡ answered (emitOf c (segmentsOf m) (cue q))
+unfolding partIn emitBy decideOf decideTicks
+cue-fine c set m g q hs he =
+    ap (cueIn (c .kind) q) (decide-fine c set m (q .start) (q .stop) g hs he) ∙
+    hit-answered (c .kind) (c .timescale) (unitsOf (c .kind)) _ _ q
+    (findHit (segmentsOf m) (ticksOf (c .timescale) (unitsOf (c .kind)) (q .start)) (ticksOf (c .timescale) (unitsOf (c .kind)) (q .stop)))

@@ -47,6 +47,10 @@ partIn c m (stays l) = answered (emitBy (c .kind) (decideIn c m) (stays l))
 partIn c m (passes x n l) = answered (emitBy (c .kind) (decideIn c m) (passes x n l))
 partIn c m (cue q) = cueIn (c .kind) q (decideIn c m (q .start) (q .stop))
 
+-- a refusal, handed back
+abbrev pub refusedWith : ℕ → Told
+refusedWith n = record { number = n; counted = Nothing; written = 0; warned = 0 }
+
 -- what the code hands back and leaves in the lent output and in the lent places
 pub record Tells (a : Answer) (r : Told) (out out′ places places′ : List ℕ) : Type 0 where
   pub number : r .number ≡ a .number

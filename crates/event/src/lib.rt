@@ -14,3 +14,5 @@ pub use retiming::decide;
 pub use setting::Config;
 pub use telling::Counted;
 pub use telling::Told;
+pub use telling::counted_by;
+pub use telling::refused;

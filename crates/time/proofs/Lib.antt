@@ -8,4 +8,5 @@ pub mod Written
 pub mod Reading
 pub mod Free
 pub mod RoundTrip
+pub mod ReadFree
 mod Examples

@@ -73,7 +73,7 @@ pub read-limits : (kind u : ℕ) (b : Bool) → b ≡ kindBad kind → b ≡ fal
 read-limits kind u b e h eu = (omega (arith, units-low kind (sym e ∙ h)), omega (arith, units-high kind (sym e ∙ h)))
 
 -- ---- what is known of a time that was read: its four parts are there, and its units
-record Found (U n : ℕ) (h m s f : Number) : Type 0 where
+pub record Found (U n : ℕ) (h m s f : Number) : Type 0 where
   pub hours : ℕ
   pub minutes : ℕ
   pub seconds : ℕ
@@ -113,7 +113,7 @@ from-mark U n mark k (Value a) NoNumber s f e = not-at e
 from-mark U n mark k NoNumber m s f e = not-at e
 
 module _ (U n mark k : ℕ) (text : List ℕ) (e : timeWith U mark text ≡ At n k) where
-  parts : Found U n (number mostHours (upTo colon text)) (number mostMinutes (upTo colon (past colon text))) (number mostSeconds (upTo (mark ∷ []) (past colon (past colon text)))) (number (U - 1) (past (mark ∷ []) (past colon (past colon text))))
+  pub parts : Found U n (number mostHours (upTo colon text)) (number mostMinutes (upTo colon (past colon text))) (number mostSeconds (upTo (mark ∷ []) (past colon (past colon text)))) (number (U - 1) (past (mark ∷ []) (past colon (past colon text))))
   unfolding timeWith
   parts = time-parts U n mark k _ _ _ _ e
 
@@ -148,7 +148,7 @@ module _ (U n mark k : ℕ) (text : List ℕ) (e : timeWith U mark text ≡ At n
       let t : (p .hours * 60 + p .minutes) * 60 + p .seconds ≤ 35999999 = omega arith in
       omega (arith, mul-le-mul-right U t, p .is-units)
 
-read-known : (kind n k : ℕ) (text : List ℕ) → timeIn kind text ≡ At n k → (kindBad kind ≡ false) × (timeWith (unitsOf kind) (markOf kind) (trim text) ≡ At n k)
+pub read-known : (kind n k : ℕ) (text : List ℕ) → timeIn kind text ≡ At n k → (kindBad kind ≡ false) × (timeWith (unitsOf kind) (markOf kind) (trim text) ≡ At n k)
 unfolding timeIn
 read-known kind n k text e = go (kindBad kind) refl e
   where

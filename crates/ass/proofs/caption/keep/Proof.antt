@@ -6,7 +6,7 @@ use Rattle.ass.proofs.caption.keep.Statement.{statement}
 use Rattle.ass.proofs.caption.keep.Tie as tie
 use Rattle.ass.proofs.caption.keep.Reads as reads
 use Rattle.ass.proofs.caption.keep.Lts as lts
-use Rattle.ass.proofs.caption.counted_by.Reads as counted-by-reads
+use Rattle.event.proofs.counted_by.Reads as counted-by-reads
 use Rattle.ass.proofs.caption.tag_cut.Reads as tag-cut-reads
 use Rattle.ass.proofs.caption.warn.Reads as warn-reads
 use Rattle.assline.proofs.write_kept.Reads as write-kept-reads

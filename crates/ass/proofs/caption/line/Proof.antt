@@ -7,7 +7,7 @@ use Rattle.ass.proofs.caption.line.Tie as tie
 use Rattle.ass.proofs.caption.line.Reads as reads
 use Rattle.ass.proofs.caption.line.Lts as lts
 use Rattle.ass.proofs.caption.event_line.Reads as event-line-reads
-use Rattle.ass.proofs.caption.refused.Reads as refused-reads
+use Rattle.event.proofs.refused.Reads as refused-reads
 use Rattle.ass.proofs.caption.stayed.Reads as stayed-reads
 use Rattle.assline.proofs.in_section.Reads as in-section-reads
 use Rattle.assline.proofs.is_section.Reads as is-section-reads

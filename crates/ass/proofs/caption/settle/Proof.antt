@@ -4,14 +4,14 @@ use Rattle.event.specs.Decide.{decideIn}
 use Rattle.segmap.specs.Segment.{segmentsOf}
 use Rattle.assline.specs.Columns.{fields}
 use Rattle.ass.specs.Line.{lineCue}
-use Rattle.ass.proofs.TellLaws.{settle-strange, settle-dropped, settle-kept}
+use Rattle.event.proofs.TellLaws.{settle-strange, settle-dropped, settle-kept}
 use borrow.Author.Needs.{needs}
 use Rattle.ass.proofs.caption.settle.Statement.{statement}
 use Rattle.ass.proofs.caption.settle.Tie as tie
 use Rattle.ass.proofs.caption.settle.Reads as reads
 use Rattle.ass.proofs.caption.settle.Lts as lts
 use Rattle.ass.proofs.caption.keep.Reads as keep-reads
-use Rattle.ass.proofs.caption.refused.Reads as refused-reads
+use Rattle.event.proofs.refused.Reads as refused-reads
 use Rattle.event.proofs.decide.Reads as decide-reads
 
 abbrev Q : tie.Start → Cue

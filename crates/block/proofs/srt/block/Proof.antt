@@ -1,6 +1,7 @@
 use mathlib.Core.Path.{_≡_, refl}
 use native.Mathlib.Omega.{arith}
-use Rattle.block.proofs.BlockLaws.{tells-same, tells-refused, answer-1, answer-2, block-3, block-4, block-room}
+use Rattle.event.proofs.TellLaws.{tells-same, tells-refused}
+use Rattle.block.proofs.BlockLaws.{answer-1, answer-2, block-3, block-4, block-room}
 use borrow.Author.Needs.{needs}
 use Rattle.block.proofs.srt.block.Statement.{statement}
 use Rattle.block.proofs.srt.block.Tie as tie
@@ -9,7 +10,7 @@ use Rattle.block.proofs.srt.block.Lts as lts
 use Rattle.base.proofs.bytes.Reads as bytes-reads
 use Rattle.base.proofs.front.Reads as front-reads
 use Rattle.base.proofs.rest.Reads as rest-reads
-use Rattle.block.proofs.srt.refused.Reads as refused-reads
+use Rattle.event.proofs.refused.Reads as refused-reads
 use Rattle.block.proofs.srt.timed.Reads as timed-reads
 use Rattle.block.proofs.timing.locate.Reads as locate-reads
 

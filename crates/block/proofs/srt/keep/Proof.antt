@@ -5,7 +5,7 @@ use Rattle.block.proofs.srt.keep.Statement.{statement}
 use Rattle.block.proofs.srt.keep.Tie as tie
 use Rattle.block.proofs.srt.keep.Reads as reads
 use Rattle.block.proofs.srt.keep.Lts as lts
-use Rattle.block.proofs.srt.counted_by.Reads as counted-by-reads
+use Rattle.event.proofs.counted_by.Reads as counted-by-reads
 use Rattle.block.proofs.srt.warn.Reads as warn-reads
 use Rattle.block.proofs.srt.write_kept.Reads as write-kept-reads
 

@@ -1,11 +1,11 @@
-use Rattle.block.proofs.BlockLaws.{settle-strange, settle-dropped, settle-kept}
+use Rattle.event.proofs.TellLaws.{settle-strange, settle-dropped, settle-kept}
 use borrow.Author.Needs.{needs}
 use Rattle.block.proofs.srt.settle.Statement.{statement}
 use Rattle.block.proofs.srt.settle.Tie as tie
 use Rattle.block.proofs.srt.settle.Reads as reads
 use Rattle.block.proofs.srt.settle.Lts as lts
 use Rattle.block.proofs.srt.keep.Reads as keep-reads
-use Rattle.block.proofs.srt.refused.Reads as refused-reads
+use Rattle.event.proofs.refused.Reads as refused-reads
 use Rattle.event.proofs.decide.Reads as decide-reads
 
 decide-requires : tie.Need-decide-requires

@@ -8,7 +8,7 @@ use Rattle.block.proofs.srt.timed.Lts as lts
 use Rattle.base.proofs.front.Reads as front-reads
 use Rattle.base.proofs.rest.Reads as rest-reads
 use Rattle.block.proofs.srt.read_times.Reads as read-times-reads
-use Rattle.block.proofs.srt.refused.Reads as refused-reads
+use Rattle.event.proofs.refused.Reads as refused-reads
 use Rattle.block.proofs.srt.settle.Reads as settle-reads
 use Rattle.block.proofs.timing.after_arrow.Reads as after-arrow-reads
 use Rattle.block.proofs.timing.before_arrow.Reads as before-arrow-reads

@@ -1,0 +1,73 @@
+-- What demand 3 says of each caption of the ASS text, in plain words: 5–25 is cut to the first segment, 12–20 meets none, 21–25 moves with the second.
+use Prim.Native.Nat.{ℕ}
+use mathlib.Core.Path.{_≡_, refl, sym, ap, subst, _∙_}
+use mathlib.Core.List.{List}
+use lib.ListN.{length}
+use Rattle.base.specs.Part.{last}
+use Rattle.base.specs.Refusal.{_orElse_, faultUnless}
+use Rattle.text.specs.Utf8.{leadLen, secondLow, secondHigh, tail, widthBy, charWidth, utf8From, utf8, codeBy, codeHead}
+use Rattle.text.specs.White.{whiteHigh, white, whiteHead, endsWhite, whiteTail, headFrom, keepFrom, trimHead, trimTail, trim}
+use Rattle.text.specs.Find.{starts, equals, first, contains, upTo, past}
+use Rattle.text.specs.Piece.{piecesFrom, pieces}
+use Rattle.text.specs.Number.{digit, digits, valueFrom, natural, unsigned, number}
+use Rattle.text.specs.Line.{linesOf, textOf, terminatorLength, terminatorOf}
+use Rattle.time.specs.Kind.{kindBad, unitsOf, markOf}
+use Rattle.time.specs.Convert.{ticksOf, startUnits, endUnits, scaledUp}
+use Rattle.time.specs.Read.{timeWith, timeIn}
+use Rattle.segmap.specs.declared.segment.Segment.{Segment}
+use Rattle.segmap.specs.Segment.{flatOf, segmentsOf, endBad, segmentBad, anyBad, mapBad}
+use Rattle.event.specs.declared.setting.Config.{Config}
+use Rattle.event.specs.Hit.{meetsParts, findFrom, lostRule}
+use Rattle.event.specs.Decide.{decideTicks, decideOf}
+use Rattle.event.specs.Fates.{Fate, dropped, shifted, clipped, Right}
+use Rattle.event.specs.Says.{Cue}
+use Rattle.event.specs.Emit.{Caption, none, decided, Emit, emitBy}
+use Rattle.assline.specs.Columns.{namesIn, placeIn, columnsIn, fields, fieldAt}
+use Rattle.assline.specs.Tags.{holdsAny}
+use Rattle.assline.specs.Section.{bracketed, inside}
+use Rattle.assline.specs.Frame.{pieceAt, fieldPieces}
+use Rattle.ass.specs.Line.{captionSays, wordSays, textSays, lineSays}
+use Rattle.table.specs.Example.{setting}
+use Rattle.machine.specs.Calls.{readingOf}
+use Rattle.promise.specs.Demand.{CueRight, AllRight}
+use Rattle.promise.specs.Plain.{lineFault, assRead, linesSay, plainRead}
+use Rattle.example.specs.Worked.{plainMap, plainFour}
+use Rattle.example.specs.Texts.{assFirst, assRest, assSaid}
+use Rattle.example.proofs.Four.{fates}
+use Rattle.example.proofs.AssRun.{known}
+
+said-is : readingOf (plainRead 0) (plainFour 0 assFirst assRest .reader) .parts ≡ assSaid
+unfolding leadLen secondLow secondHigh tail widthBy charWidth utf8From utf8 codeBy codeHead whiteHigh white whiteHead last endsWhite whiteTail headFrom keepFrom trimHead trimTail trim starts equals first contains upTo past piecesFrom pieces digit digits valueFrom natural unsigned number linesOf textOf terminatorLength terminatorOf kindBad unitsOf markOf timeWith timeIn namesIn placeIn columnsIn fields fieldAt holdsAny bracketed inside pieceAt fieldPieces captionSays wordSays textSays lineSays faultUnless _orElse_ lineFault assRead linesSay plainRead flatOf segmentsOf endBad segmentBad anyBad mapBad
+said-is = refl
+
+flat-back : segmentsOf (flatOf (plainMap .segments)) ≡ plainMap .segments
+unfolding flatOf segmentsOf
+flat-back = refl
+
+-- the fate that a cue's emit carries is the right one
+abbrev fateIn : Caption → Fate
+fateIn none = dropped
+fateIn (decided f) = f
+
+right-of : (c : Config) (m : List Segment) (q : Cue) (e : Emit) → CueRight c m q e → (f : Fate) → e .caption ≡ decided f
+    → Right (c .timescale) (unitsOf (c .kind)) m (q .start) (q .stop) f
+right-of c m q e r f p =
+    subst (Right (c .timescale) (unitsOf (c .kind)) m (q .start) (q .stop)) (ap fateIn (sym (r .caption) ∙ p)) (r .right)
+
+module _ (out short places : List ℕ) (long : length out ≡ 32768) (few : length short ≡ 32767) (enough : length places ≡ 4096) where
+  pub ass-fates : AllRight (setting 0) (plainMap .segments) assSaid
+  ass-fates =
+      subst (λ (m : List Segment). AllRight (setting 0) m assSaid) flat-back
+      (subst (AllRight (setting 0) (segmentsOf (flatOf (plainMap .segments)))) said-is (fates 0 known assFirst assRest out short places long few enough))
+
+  pub first-clipped : Right 30000 (unitsOf 0) (plainMap .segments) 5 25 (clipped 5 11)
+  unfolding emitBy decideOf decideTicks findFrom meetsParts lostRule ticksOf startUnits endUnits scaledUp unitsOf
+  first-clipped = right-of (setting 0) (plainMap .segments) _ _ (ass-fates .1 .1 .0) (clipped 5 11) refl
+
+  pub second-dropped : Right 30000 (unitsOf 0) (plainMap .segments) 12 20 dropped
+  unfolding emitBy decideOf decideTicks findFrom meetsParts lostRule ticksOf startUnits endUnits scaledUp unitsOf
+  second-dropped = right-of (setting 0) (plainMap .segments) _ _ (ass-fates .1 .1 .1 .0) dropped refl
+
+  pub last-shifted : Right 30000 (unitsOf 0) (plainMap .segments) 21 25 (shifted 10 15)
+  unfolding emitBy decideOf decideTicks findFrom meetsParts lostRule ticksOf startUnits endUnits scaledUp unitsOf
+  last-shifted = right-of (setting 0) (plainMap .segments) _ _ (ass-fates .1 .1 .1 .1 .1 .0) (shifted 10 15) refl

@@ -1,0 +1,66 @@
+-- Four calls on an ASS text, by computation: a cue clipped with warning 4, one dropped, a line that passes with warning 2, and a cue shifted at finish.
+use Prim.Native.Nat.{ℕ}
+use mathlib.Core.Path.{_≡_, refl, ap, _∙_}
+use mathlib.Core.Bool.{true, false}
+use mathlib.Core.List.{List, [], _∷_, _++_}
+use lib.ListN.{length, replicate, length-replicate}
+use Rattle.base.specs.Part.{last}
+use Rattle.base.specs.Refusal.{_orElse_, faultUnless}
+use Rattle.text.specs.Utf8.{leadLen, secondLow, secondHigh, tail, widthBy, charWidth, utf8From, utf8, codeBy, codeHead}
+use Rattle.text.specs.White.{whiteHigh, white, whiteHead, endsWhite, whiteTail, headFrom, keepFrom, trimHead, trimTail, trim}
+use Rattle.text.specs.Find.{starts, equals, first, contains, upTo, past}
+use Rattle.text.specs.Piece.{piecesFrom, pieces}
+use Rattle.text.specs.Number.{digit, digits, valueFrom, natural, unsigned, number}
+use Rattle.text.specs.Line.{linesOf, textOf, terminatorLength, terminatorOf}
+use Rattle.time.specs.Kind.{kindBad, unitsOf, markOf, fractionDigits, hourDigits}
+use Rattle.time.specs.Convert.{ticksOf, startUnits, endUnits, scaledUp}
+use Rattle.time.specs.Read.{timeWith, timeIn}
+use Rattle.time.specs.Write.{pad, widthUnder, width, textWith, timeText}
+use Rattle.segmap.specs.Segment.{flatOf, segmentsOf, endBad, segmentBad, anyBad, mapBad}
+use Rattle.event.specs.Hit.{meetsParts, findFrom, lostRule}
+use Rattle.event.specs.Decide.{decideTicks, decideOf}
+use Rattle.event.specs.Emit.{emitBy, emitsOf, render, outputOf, warningsOf}
+use Rattle.assline.specs.Columns.{namesIn, placeIn, columnsIn, fields, fieldAt}
+use Rattle.assline.specs.Tags.{holdsAny}
+use Rattle.assline.specs.Section.{bracketed, inside}
+use Rattle.assline.specs.Frame.{pieceAt, fieldPieces}
+use Rattle.ass.specs.Line.{captionSays, wordSays, textSays, lineSays}
+use Rattle.machine.specs.Counts.{countAll}
+use Rattle.machine.specs.Calls.{Heard}
+use Rattle.promise.specs.Runs.{outcome}
+use Rattle.promise.specs.Plain.{lineFault, assRead, linesSay, plainRead}
+use Rattle.example.specs.Worked.{plainMap, opened, made, toldBy, readBy, plainFour}
+use Rattle.example.specs.Texts.{assFirst, assRest, assTold}
+use Rattle.example.proofs.Four.{worked}
+
+-- the reader after the four calls: the refused piece is in its text once
+abbrev heard : Heard
+heard =
+    record {
+      numbers = 0 ∷ 16 ∷ 0 ∷ 0 ∷ [];
+      reader = record { text = assFirst ++ assRest; finished = true; ended = true };
+    }
+
+heard-is : plainFour 0 assFirst assRest ≡ heard
+unfolding leadLen secondLow secondHigh tail widthBy charWidth utf8From utf8 codeBy codeHead whiteHigh white whiteHead last endsWhite whiteTail headFrom keepFrom trimHead trimTail trim starts equals first contains upTo past piecesFrom pieces digit digits valueFrom natural unsigned number linesOf textOf terminatorLength terminatorOf kindBad unitsOf markOf timeWith timeIn namesIn placeIn columnsIn fields fieldAt holdsAny bracketed inside pieceAt fieldPieces captionSays wordSays textSays lineSays faultUnless _orElse_ lineFault assRead linesSay plainRead flatOf segmentsOf endBad segmentBad anyBad mapBad
+heard-is = refl
+
+read-is : readBy 0 plainMap heard ≡ assTold
+unfolding leadLen secondLow secondHigh tail widthBy charWidth utf8From utf8 codeBy codeHead whiteHigh white whiteHead last endsWhite whiteTail headFrom keepFrom trimHead trimTail trim starts equals first contains upTo past piecesFrom pieces digit digits valueFrom natural unsigned number linesOf textOf terminatorLength terminatorOf kindBad unitsOf markOf timeWith timeIn namesIn placeIn columnsIn fields fieldAt holdsAny bracketed inside pieceAt fieldPieces captionSays wordSays textSays lineSays faultUnless _orElse_ lineFault assRead linesSay plainRead flatOf segmentsOf emitBy emitsOf render outputOf warningsOf timeText textWith pad width widthUnder fractionDigits hourDigits decideOf decideTicks findFrom meetsParts lostRule ticksOf startUnits endUnits scaledUp countAll
+read-is = refl
+
+pub known : kindBad 0 ≡ false
+unfolding kindBad
+known = refl
+
+-- for any buffers of these lengths
+pub ass-run : (out short places : List ℕ) → length out ≡ 32768 → length short ≡ 32767 → length places ≡ 4096
+    → toldBy (outcome (opened 0 .session) (made 0 assFirst assRest out short places)) ≡ assTold
+ass-run out short places long few enough =
+    worked 0 known assFirst assRest out short places long few enough ∙ ap (readBy 0 plainMap) heard-is ∙ read-is
+
+-- for buffers of zeros
+pub ass-zeros : toldBy (outcome (opened 0 .session) (made 0 assFirst assRest (replicate 32768 0) (replicate 32767 0) (replicate 4096 0))) ≡ assTold
+ass-zeros =
+    ass-run (replicate 32768 0) (replicate 32767 0) (replicate 4096 0)
+    (length-replicate {A = ℕ} 32768 0) (length-replicate {A = ℕ} 32767 0) (length-replicate {A = ℕ} 4096 0)

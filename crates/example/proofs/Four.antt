@@ -1,0 +1,117 @@
+-- The four calls through demand 3: what they told is what the plain reader tells, for both kinds, any two pieces and any buffers of these lengths.
+use mathlib.Core.Path.{_≡_, refl, sym, ap, subst, _∙_}
+use mathlib.Core.Logic.{inl}
+use mathlib.Core.Bool.{Bool, true, false, cond, true≢false}
+use mathlib.Core.List.{List, [], _∷_}
+use Prim.Native.Nat.{ℕ, zero, suc, _<_}
+use native.Mathlib.Omega.{arith}
+use lib.Dec.{ltb}
+use lib.ListN.{length, getD}
+use borrow.Author.Tests.{ltb-true}
+use Rattle.sheet_vectors.specs.Small.{smallSheet}
+use Rattle.time.specs.Kind.{kindBad}
+use Rattle.segmap.specs.Segment.{flatOf, segmentsOf}
+use Rattle.segmap.specs.Map.{Map}
+use Rattle.assline.specs.declared.layout.Columns.{Columns}
+use Rattle.table.specs.Example.{theList, theMap, setting}
+use Rattle.table.proofs.TheMap.{map-is}
+use Rattle.machine.specs.Session as model
+use Rattle.machine.specs.Session.{Call, fresh, openSession}
+use Rattle.machine.specs.Calls.{newReader, hear, readingOf}
+use Rattle.machine.proofs.Numbers.{opened as opened-good, opens-fresh}
+use Rattle.kinds.specs.Kit.{kit}
+use Rattle.foreign.specs.View.{stored}
+use Rattle.session.specs.Answer.{OpenAnswered, openOf}
+use Rattle.promise.specs.Plain.{plainRead}
+use Rattle.promise.specs.Demand.{AllRight, Demand, heard}
+use Rattle.promise.specs.Runs.{Made, callsOf, outcome}
+use Rattle.promise.specs.Promise.{configOf}
+use Rattle.promise.proofs.ThePromise.{built-opens, promise}
+use Rattle.example.specs.Worked.{lentMap, plainMap, opened, four, fourCalls, made, toldBy, readBy, plainFour}
+use Rattle.example.proofs.RunsExist.{made-ran}
+
+-- ---- the sheet's bytes
+abbrev allBytes : List ℕ → Bool
+allBytes [] = true
+allBytes (b ∷ l) = cond (ltb b 256) (allBytes l) false
+
+byte-onto : (b : ℕ) (l : List ℕ) (t : Bool) → ltb b 256 ≡ t → cond t (allBytes l) false ≡ true → (allBytes l ≡ true → (j : ℕ) → getD l j 0 < 256)
+    → (j : ℕ) → getD (b ∷ l) j 0 < 256
+byte-onto b l true p e h zero = ltb-true b 256 p
+byte-onto b l true p e h (suc j) = h e j
+byte-onto b l false p e h j = absurd (true≢false (sym e))
+
+byte-at : (l : List ℕ) → allBytes l ≡ true → (j : ℕ) → getD l j 0 < 256
+byte-at [] e j = omega arith
+byte-at (b ∷ l) e j = byte-onto b l (ltb b 256) refl e (byte-at l) j
+
+all-bytes : allBytes smallSheet ≡ true
+unfolding smallSheet
+all-bytes = refl
+
+sheet-bytes : (j : ℕ) → getD smallSheet j 0 < 256
+sheet-bytes j = byte-at smallSheet all-bytes j
+
+map-number : theMap .number ≡ 0
+map-number = ap (λ (x : Map). x .number) map-is
+
+-- ---- the session
+module _ (kind : ℕ) (k : kindBad kind ≡ false) where
+  opens-0 : openSession kit (configOf kind (theMap .timescale)) lentMap .number ≡ 0
+  opens-0 = built-opens smallSheet theList 0 6144 sheet-bytes map-number kind k
+
+  open-is : openSession kit (configOf kind (theMap .timescale)) lentMap ≡ record { number = 0; session = fresh kit (setting kind); emits = [] }
+  open-is =
+      opens-fresh kit (configOf kind (theMap .timescale)) lentMap (opened-good kit (configOf kind (theMap .timescale)) lentMap opens-0)
+      ∙ ap (λ (x : Map). record { number = 0; session = fresh kit (configOf kind (x .timescale)); emits = [] }) map-is
+
+  pub opens : OpenAnswered kind (theMap .timescale) lentMap (opened kind)
+  unfolding openOf
+  opens =
+      record {
+        number = sym (ap (λ (a : model.Answer Columns). a .number) open-is);
+        session = sym (ap (λ (a : model.Answer Columns). stored (a .session)) open-is);
+      }
+
+-- ---- the calls
+module _ (kind : ℕ) (k : kindBad kind ≡ false) (first rest out short places : List ℕ) where
+  abbrev calls : List Made
+  calls = made kind first rest out short places
+
+  -- the premises are met, and demand 3 holds of the list
+  pub demanded : Demand (configOf kind (theMap .timescale)) lentMap (callsOf calls) (outcome (opened kind .session) calls)
+  demanded =
+      promise smallSheet theList 0 6144 kind sheet-bytes map-number k (opened kind) (opens kind k) .kept calls
+      (inl refl, (inl refl, (inl refl, (inl refl, tt))))
+      (made-ran (opened kind .session) (four lentMap first rest out short places))
+
+  came : toldBy (outcome (opened kind .session) calls) ≡ readBy kind theMap (heard (configOf kind (theMap .timescale)) (callsOf calls))
+  came =
+      let d = demanded .same in
+      λ i. record {
+        numbers = d .numbers i;
+        output = d .output i;
+        warnings = d .warnings i;
+        outcome = d .outcome i;
+        counts = d .counts i;
+        taken = d .taken i;
+        ended = d .ended i;
+      }
+
+  -- by the lengths that were lent
+  module _ (long : length out ≡ 32768) (few : length short ≡ 32767) (enough : length places ≡ 4096) where
+    calls-are : callsOf calls ≡ fourCalls lentMap first rest 32768 32767 4096
+    calls-are = λ i. fourCalls lentMap first rest (long i) (few i) (enough i)
+
+    pub worked : toldBy (outcome (opened kind .session) calls) ≡ readBy kind plainMap (plainFour kind first rest)
+    worked =
+        came
+        ∙ ap (λ (xs : List Call). readBy kind theMap (hear (plainRead kind) newReader xs)) calls-are
+        ∙ ap (λ (x : Map). readBy kind x (hear (plainRead kind) newReader (fourCalls (flatOf (x .segments)) first rest 32768 32767 4096))) map-is
+
+    pub fates : AllRight (setting kind) (segmentsOf (flatOf (plainMap .segments))) (readingOf (plainRead kind) (plainFour kind first rest .reader) .parts)
+    fates =
+        subst (λ (x : Map). AllRight (configOf kind (x .timescale)) (segmentsOf (flatOf (x .segments)))
+        (readingOf (plainRead kind) (hear (plainRead kind) newReader (fourCalls (flatOf (x .segments)) first rest 32768 32767 4096) .reader) .parts)) map-is
+        (subst (λ (xs : List Call). AllRight (configOf kind (theMap .timescale)) (segmentsOf lentMap)
+        (readingOf (plainRead kind) (hear (plainRead kind) newReader xs .reader) .parts)) calls-are (demanded .fates))

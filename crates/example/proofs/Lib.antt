@@ -1,0 +1,5 @@
+pub mod RunsExist
+pub mod Four
+pub mod AssRun
+pub mod AssFates
+pub mod SrtRun

@@ -1,0 +1,71 @@
+-- Two texts cut within a time, and what four calls tell of them.
+use mathlib.Core.Bool.{true, false}
+use mathlib.Core.List.{List, [], _∷_}
+use Prim.Native.Nat.{ℕ}
+use Rattle.base.specs.Ascii.{ascii}
+use Rattle.event.specs.Says.{bytes, start, stop, short, Cue, Part, stays, passes, cue}
+use Rattle.event.specs.Emit.{warning}
+use Rattle.example.specs.Worked.{Told}
+
+-- ---- ASS; the last line has no terminator
+abbrev pub assFirst : List ℕ
+assFirst = ascii "[Events]\nFormat:Start,End\nDialogue:0:0:0.05,0:0:0."
+
+abbrev pub assRest : List ℕ
+assRest = ascii "25\nDialogue:0:0:0.12,0:0:0.20\nDialogue:0:0:0.21\nDialogue:0:0:0.21,0:0:0.25"
+
+-- 5–25 clipped to 5–11 with warning 4, 12–20 dropped, one field of two passed with warning 2, 21–25 shifted to 10–15
+abbrev pub assTold : Told
+assTold =
+    record {
+      numbers = 0 ∷ 16 ∷ 0 ∷ 0 ∷ [];
+      output = ascii "[Events]\nFormat:Start,End\nDialogue:0:00:00.05,0:00:00.11\nDialogue:0:0:0.21\nDialogue:0:00:00.10,0:00:00.15";
+      warnings = warning 4 3 ∷ warning 2 5 ∷ [];
+      outcome = 0;
+      counts = record { shifted = 1; clipped = 1; dropped = 1; passed = 1 };
+      taken = 124;
+      ended = true;
+    }
+
+-- what the text alone says
+abbrev pub assCue : (line start stop : ℕ) → (terminator : List ℕ) → Cue
+assCue n S E z =
+    record {
+      line = n;
+      start = S;
+      startMark = 46;
+      stop = E;
+      stopMark = 46;
+      tagged = false;
+      frame = bytes (ascii "Dialogue:") ∷ start ∷ bytes (ascii ",") ∷ stop ∷ bytes z ∷ [];
+    }
+
+abbrev pub assSaid : List Part
+assSaid =
+    stays (ascii "[Events]\n")
+    ∷ stays (ascii "Format:Start,End\n")
+    ∷ cue (assCue 3 5 25 (10 ∷ []))
+    ∷ cue (assCue 4 12 20 (10 ∷ []))
+    ∷ passes short 5 (ascii "Dialogue:0:0:0.21\n")
+    ∷ cue (assCue 6 21 25 [])
+    ∷ []
+
+-- ---- SRT; the last block is ended by the finish
+abbrev pub srtFirst : List ℕ
+srtFirst = ascii "1\n00:00:00,050 --> 00:00:0"
+
+abbrev pub srtRest : List ℕ
+srtRest = ascii "0,250\na\n\n2\n00:00:00,120 --> 00:00:00,200\nb\n\n3\n00:00:00,210 --> 00:00:00,250\nc"
+
+-- 50–250 clipped to 50–101 with warning 4, 120–200 dropped with its block, 210–250 shifted to 109–150
+abbrev pub srtTold : Told
+srtTold =
+    record {
+      numbers = 0 ∷ 16 ∷ 0 ∷ 0 ∷ [];
+      output = ascii "1\n00:00:00,050 --> 00:00:00,101\na\n\n\n3\n00:00:00,109 --> 00:00:00,150\nc";
+      warnings = warning 4 2 ∷ [];
+      outcome = 0;
+      counts = record { shifted = 1; clipped = 1; dropped = 1; passed = 0 };
+      taken = 103;
+      ended = true;
+    }

@@ -1,0 +1,86 @@
+-- The worked example: document 01's map, a session just opened, and four calls: a feed, the same text's rest lent an output one byte too short (16),
+-- the rest again, a finish.
+use mathlib.Core.Bool.{Bool}
+use mathlib.Core.List.{List, [], _∷_}
+use Prim.Native.Nat.{ℕ}
+use lib.ListN.{length}
+use Rattle.segmap.specs.Segment.{segment, flatOf}
+use Rattle.segmap.specs.Map.{Map}
+use Rattle.event.specs.Emit.{Warning, outputOf, warningsOf}
+use Rattle.assline.specs.declared.layout.Columns.{Columns}
+use Rattle.table.specs.Example.{theMap, setting}
+use Rattle.machine.specs.declared.counting.Counts.{Counts}
+use Rattle.machine.specs.Counts.{countsOf}
+use Rattle.machine.specs.Session.{Call, fresh}
+use Rattle.machine.specs.Calls.{Played, Heard, newReader, hear, readingOf, emitsIn}
+use Rattle.kinds.specs.Kit.{kit}
+use Rattle.foreign.specs.View.{stored}
+use Rattle.session.specs.declared.calling.Opened.{Opened}
+use Rattle.session.specs.Answer.{feedCall, finishCall}
+use Rattle.promise.specs.Plain.{plainRead}
+use Rattle.promise.specs.Runs.{Made}
+use Rattle.promise.specs.Promise.{configOf}
+use Rattle.example.specs.Calls.{Asked, feeding, finishing, makes}
+
+-- the map of the example's bytes, as it is lent, and the numbers that it is
+abbrev pub lentMap : List ℕ
+lentMap = flatOf (theMap .segments)
+
+abbrev pub plainMap : Map
+plainMap = record { number = 0; timescale = 30000; count = 2; segments = segment 0 3 0 3 0 3003 ∷ segment 6 10 6006 4 3003 4004 ∷ [] }
+
+-- what open answers
+abbrev pub opened : (kind : ℕ) → Opened
+opened kind = record { number = 0; session = stored (fresh kit (setting kind)) }
+
+-- the four calls, as they are lent and by their lengths
+abbrev pub four : (map first rest out short places : List ℕ) → List Asked
+four m first rest out short places =
+    feeding m first out places ∷ feeding m rest short places ∷ feeding m rest out places ∷ finishing m out places ∷ []
+
+abbrev pub fourCalls : (map first rest : List ℕ) → (out short places : ℕ) → List Call
+fourCalls m first rest o s w = feedCall m first o w ∷ feedCall m rest s w ∷ feedCall m rest o w ∷ finishCall m o w ∷ []
+
+-- made from the session that open answered, each result as its contract says
+abbrev pub made : (kind : ℕ) → (first rest out short places : List ℕ) → List Made
+made kind first rest out short places = makes (opened kind .session) (four lentMap first rest out short places)
+
+-- what a caller has in hand after a list
+pub record Told : Type 0 where
+  pub numbers : List ℕ
+  pub output : List ℕ
+  pub warnings : List Warning
+  pub outcome : ℕ
+  pub counts : Counts
+  pub taken : ℕ
+  pub ended : Bool
+
+-- by the calls that were made
+abbrev pub toldBy : Played Columns → Told
+toldBy p =
+    record {
+      numbers = p .numbers;
+      output = p .output;
+      warnings = p .warnings;
+      outcome = p .session .outcome;
+      counts = p .session .counts;
+      taken = p .session .taken;
+      ended = p .session .ended;
+    }
+
+-- by the plain reader, through a map
+abbrev pub readBy : (kind : ℕ) → Map → Heard → Told
+readBy kind x h =
+    record {
+      numbers = h .numbers;
+      output = outputOf (emitsIn (plainRead kind) (configOf kind (x .timescale)) (flatOf (x .segments)) (h .reader));
+      warnings = warningsOf (emitsIn (plainRead kind) (configOf kind (x .timescale)) (flatOf (x .segments)) (h .reader));
+      outcome = readingOf (plainRead kind) (h .reader) .fault;
+      counts = countsOf (emitsIn (plainRead kind) (configOf kind (x .timescale)) (flatOf (x .segments)) (h .reader));
+      taken = length (h .reader .text);
+      ended = h .reader .ended;
+    }
+
+-- the plain reader on the four calls, the map being the example's
+abbrev pub plainFour : (kind : ℕ) → (first rest : List ℕ) → Heard
+plainFour kind first rest = hear (plainRead kind) newReader (fourCalls (flatOf (plainMap .segments)) first rest 32768 32767 4096)

@@ -1,0 +1,4 @@
+pub mod AmountLaws
+pub mod HeldLaws
+pub mod ViewLaws
+pub mod ForeignLaws

@@ -1,0 +1,37 @@
+use Rattle.foreign.proofs.ForeignLaws.{kept-many, kept-columns, kept-large, kept-held}
+use borrow.Author.Needs.{needs}
+use Rattle.foreign.proofs.whole.kept_bad.Statement.{statement}
+use Rattle.foreign.proofs.whole.kept_bad.Tie as tie
+
+returns : tie.Need-returns
+returns c = search kept-many
+
+columns-bad-requires : tie.Need-columns-bad-requires
+columns-bad-requires c κs = search needs
+
+returns-2 : tie.Need-returns-2
+returns-2 c = search kept-columns
+
+returns-3 : tie.Need-returns-3
+returns-3 c = search kept-large
+
+front-requires : tie.Need-front-requires
+front-requires c κs = search needs
+
+held-bad-requires : tie.Need-held-bad-requires
+held-bad-requires c κs = search needs
+
+returns-4 : tie.Need-returns-4
+returns-4 c = search kept-held
+
+pub kept-bad-spec : {M : Type 1} → statement M
+kept-bad-spec =
+    tie.close
+    (tie.spec
+    returns
+    columns-bad-requires
+    returns-2
+    returns-3
+    front-requires
+    held-bad-requires
+    returns-4)

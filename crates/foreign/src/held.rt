@@ -1,0 +1,69 @@
+// The held bytes: the open block's lines, each with its LF, then the unfinished line.
+ghost use mathlib.Core.Path.{_≡_};
+ghost use mathlib.Core.Bool.{_||_, not};
+ghost use lib.ListN.{length};
+ghost use Rattle.text.specs.Utf8.{utf8};
+ghost use Rattle.text.specs.Line.{concat, linesOf};
+ghost use Rattle.block.specs.Style.{blankIn};
+ghost use Rattle.machine.specs.Cut.{closedLines};
+ghost use Rattle.kinds.specs.Kit.{linesBad, heldBad};
+
+// How many bytes the finished lines have together.
+pub fn block_end(held: &[u8]) -> usize
+    ensures { λ r. ⌜ r ≡ length (concat (closedLines (now (held .entry)))) ⌝ }
+{
+    let mut n = held.len();
+    while n > 0 {
+        if held[n - 1] == 10 {
+            return n;
+        }
+        n -= 1;
+    }
+    0
+}
+
+// Whether a finished line ends a block or is not UTF-8.
+fn line_bad(kind: u32, line: &[u8]) -> bool
+    ensures { λ r. ⌜ r ≡ (blankIn kind (now (line .entry)) || not (utf8 (now (line .entry)))) ⌝ }
+{
+    if block::is_blank_in(kind, line) {
+        return true;
+    }
+    !text::is_utf8(line)
+}
+
+// Whether one of the lines is such a line.
+fn lines_bad(kind: u32, s: &[u8]) -> bool
+    ensures { λ r. ⌜ r ≡ linesBad kind (linesOf (now (s .entry))) ⌝ }
+{
+    let mut t = s;
+    while t.len() > 0 {
+        let k = text::line_length(t);
+        if line_bad(kind, base::front(t, k)) {
+            return true;
+        }
+        let u = base::rest(t, k);
+        t = u;
+    }
+    false
+}
+
+// Whether these are held bytes that can't be.
+pub fn held_bad(kind: u32, held: &[u8]) -> bool
+    ensures { λ r. ⌜ r ≡ heldBad kind (now (held .entry)) ⌝ }
+{
+    let e = block_end(held);
+    if kind == 0 {
+        if base::MOST_LINE < held.len() {
+            return true;
+        }
+        return 0 < e;
+    }
+    if base::MOST_BLOCK < e {
+        return true;
+    }
+    if lines_bad(kind, base::front(held, e)) {
+        return true;
+    }
+    base::MOST_LINE < base::less(held.len(), e)
+}

@@ -1,0 +1,9 @@
+// The session that a caller keeps between two calls, and the test for a foreign one (17).
+mod amounts;
+mod held;
+mod holding;
+mod whole;
+
+pub use held::block_end;
+pub use holding::Session;
+pub use whole::foreign;

@@ -1,0 +1,54 @@
+// A foreign session (17).
+use crate::amounts::columns_bad;
+use crate::amounts::config_bad;
+use crate::amounts::counts_above;
+use crate::held::held_bad;
+use crate::holding::Session;
+use assline::Columns;
+ghost use mathlib.Core.Path.{_≡_};
+ghost use mathlib.Core.Bool.{_||_};
+ghost use lib.Dec.{ltb};
+ghost use lib.ListN.{length};
+ghost use Rattle.base.specs.Limits.{mostHeld};
+ghost use Rattle.kinds.specs.Kit.{strange};
+ghost use Rattle.foreign.specs.View.{heldOf, foreignOf};
+
+// Whether more bytes are held than were taken, or the columns or the held bytes, the first `n` of the room, are ones that 17 refuses.
+fn kept_bad(kind: u32, taken: u32, columns: Columns, n: usize, room: &[u8]) -> bool
+    requires { ⌜ length (now room) ≡ mostHeld ⌝ }
+    ensures { λ r. ⌜ r ≡ (ltb taken n || strange kind columns (heldOf n (now (room .entry)))) ⌝ }
+{
+    if (taken as usize) < n {
+        return true;
+    }
+    if columns_bad(columns) {
+        return true;
+    }
+    if base::MOST_HELD < n {
+        return true;
+    }
+    held_bad(kind, base::front(room, n))
+}
+
+// Whether the session is foreign.
+pub fn foreign(session: Session) -> bool
+    ensures { λ r. ⌜ r ≡ foreignOf session ⌝ }
+{
+    let config = session.config;
+    let counts = session.counts;
+    let columns = session.columns;
+    let taken = session.taken;
+    if config_bad(config) {
+        return true;
+    }
+    if base::MOST_TAKEN < taken {
+        return true;
+    }
+    if counts_above(taken, counts) {
+        return true;
+    }
+    if taken < session.lines {
+        return true;
+    }
+    kept_bad(config.kind, taken, columns, session.held_len, &session.held)
+}

@@ -1,0 +1,63 @@
+-- Demand 3: for every configuration and map that open accepts, and for every list of calls that are lent the map or one that 15 refuses.
+use mathlib.Core.Path.{_≡_, sym, ap, subst, _∙_}
+use mathlib.Core.Bool.{Bool}
+use mathlib.Core.List.{List}
+use Prim.Native.Nat.{ℕ}
+use native.Mathlib.Omega.{arith}
+use Rattle.time.proofs.Limits.{units-low, timescale-low}
+use Rattle.segmap.specs.Segment.{segmentsOf}
+use Rattle.event.specs.declared.setting.Config.{Config}
+use Rattle.assline.specs.declared.layout.Columns.{Columns}
+use Rattle.machine.specs.declared.counting.Counts.{Counts}
+use Rattle.machine.specs.Counts.{total}
+use Rattle.machine.specs.Reader.{Reading}
+use Rattle.machine.specs.Session.{Session, Answer, Call, openSession, fresh}
+use Rattle.machine.specs.Calls.{play, Proper, newReader, hear, SameAsReader}
+use Rattle.machine.proofs.Emits.{total-parts}
+use Rattle.machine.proofs.Lists.{same-as-reader}
+use Rattle.machine.proofs.Numbers.{Opened, opened, opens-fresh, opened-config}
+use Rattle.machine.proofs.Refine.{Returned, Trace, traced, trace-plays}
+use Rattle.kinds.specs.Kit.{kit, said}
+use Rattle.promise.specs.Plain.{plainRead}
+use Rattle.promise.specs.Demand.{passings, saidIn, played, Demand}
+use Rattle.kinds.proofs.KindLaws.{lawful}
+use Rattle.promise.proofs.PlainText.{said-plain}
+use Rattle.promise.proofs.PartLaws.{all-right, passed-warnings}
+
+-- from a fresh session the plain reader's answers
+module _ (c : Config) (m : List ℕ) (o : Opened c m) where
+  read-same : _≡_ {A = Bool → List ℕ → Reading} (λ f t. said (c .kind) f t) (λ f t. plainRead (c .kind) f t)
+  read-same = λ i f t. said-plain (c .kind) (o .kind-known) f t i
+
+  fresh-same : (xs : List Call) → Proper m xs
+      → SameAsReader (λ f t. plainRead (c .kind) f t) c m (play kit (fresh kit c) xs) (hear (λ f t. plainRead (c .kind) f t) newReader xs)
+  fresh-same xs p =
+      subst (λ (r : Bool → List ℕ → Reading). SameAsReader r c m (play kit (fresh kit c) xs) (hear r newReader xs)) read-same
+      (same-as-reader kit c m (lawful (c .kind) (o .kind-known)) (opened-config c m o) xs p)
+
+  fresh-demand : (xs : List Call) → Proper m xs → Demand c m xs (play kit (fresh kit c) xs)
+  fresh-demand xs p =
+      let h = fresh-same xs p in
+      let ps = saidIn c xs .parts in
+      record {
+        same = h;
+        sum = sym (ap total (h .counts) ∙ total-parts c (segmentsOf m) ps);
+        passed =
+            ap (λ (k : Counts). k .passed) (h .counts) ∙ passed-warnings c (segmentsOf m) ps
+            ∙ ap passings (sym (h .warnings));
+        fates = all-right c (segmentsOf m) (timescale-low (c .timescale) (o .timescale-good)) (omega (arith, units-low (c .kind) (o .kind-known))) ps;
+      }
+
+-- DEMAND 3 of the model
+pub demand : (c : Config) (m : List ℕ) → openSession kit c m .number ≡ 0 → (xs : List Call) → Proper m xs → Demand c m xs (played c m xs)
+demand c m z xs p =
+    let o = opened kit c m z in
+    subst (λ (s : Session Columns). Demand c m xs (play kit s xs)) (ap (λ (a : Answer Columns). a .session) (sym (opens-fresh kit c m o)))
+    (fresh-demand c m o xs p)
+
+-- DEMAND 3 of the code: s is the session that open answered with 0, C the sessions as the code has them, and each call's result is as its contract says
+pub demand-traced : {C : Type 0} (view : C → Session Columns) (c : Config) (m : List ℕ) → openSession kit c m .number ≡ 0
+    → (s : C) → view s ≡ openSession kit c m .session → (xs : List Call) → Proper m xs
+    → (rs : List (Returned C)) → Trace kit view s xs rs → Demand c m xs (traced kit view s rs)
+demand-traced view c m z s e xs p rs t =
+    subst (Demand c m xs) (sym (trace-plays kit view t ∙ ap (λ (y : Session Columns). play kit y xs) e)) (demand c m z xs p)

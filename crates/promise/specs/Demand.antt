@@ -1,0 +1,98 @@
+-- Demand 3: for every list of feeds and finishes, what the calls answered, wrote, warned of and counted is what the text says, each part put through the map.
+use mathlib.Core.Path.{_≡_}
+use mathlib.Core.Bool.{Bool, true, false, _&&_}
+use mathlib.Core.List.{List, [], _∷_, _++_}
+use Prim.Native.Nat.{ℕ, suc}
+use lib.Dec.{ltb, leb}
+use Rattle.time.specs.Kind.{unitsOf}
+use Rattle.time.specs.Convert.{ticksOf}
+use Rattle.time.specs.Write.{timeText}
+use Rattle.segmap.specs.declared.segment.Segment.{Segment}
+use Rattle.segmap.specs.Segment.{sourceOf, sourceEnd, segmentsOf}
+use Rattle.event.specs.declared.setting.Config.{Config}
+use Rattle.event.specs.Fates.{Fate, passed, dropped, shifted, clipped, FirstMet, Right}
+use Rattle.event.specs.Says.{reasonNumber, Cue, Part, stays, passes, cue, captionsIn}
+use Rattle.event.specs.Emit.{Warning, warning, warnIf, none, decided, Emit, render, emitOf}
+use Rattle.assline.specs.declared.layout.Columns.{Columns}
+use Rattle.machine.specs.Counts.{total}
+use Rattle.machine.specs.Reader.{Reading}
+use Rattle.machine.specs.Session.{Call, openSession}
+use Rattle.machine.specs.Calls.{Played, play, Heard, newReader, hear, readingOf, SameAsReader}
+use Rattle.kinds.specs.Kit.{kit}
+use Rattle.promise.specs.Plain.{plainRead}
+
+-- ---- what is right for each part, in plain words
+module _ (c : Config) (m : List Segment) where
+  -- the ticks of a time that was read
+  abbrev pub ticks : ℕ → ℕ
+  ticks S = ticksOf (c .timescale) (unitsOf (c .kind)) S
+
+  -- the very next segment is of positive length and starts before tick b
+  abbrev pub lostNext : List Segment → (b : ℕ) → Bool
+  lostNext [] b = false
+  lostNext (x ∷ xs) b = ltb 0 (x .duration) && ltb (sourceOf x) b
+
+  -- warnings of a cue that is kept: 3 where its start was cut and it has a relative tag, then 4 where its end was cut and a part was lost
+  pub record Warned (q : Cue) (ws : List Warning) : Type 0 where
+    pub segment : Segment
+    pub first : FirstMet m (ticks (q .start)) (ticks (q .stop)) segment
+    pub warnings : ws
+        ≡ warnIf (ltb (ticks (q .start)) (sourceOf segment) && q .tagged) 3 (q .line)
+        ++ warnIf (ltb (sourceEnd segment) (ticks (q .stop)) && lostNext (first .others) (ticks (q .stop))) 4 (q .line)
+
+  -- a dropped cue leaves nothing; a kept one is written with its new times in the places of the old ones
+  abbrev pub Leaves : Cue → Fate → (out : List ℕ) → List Warning → Type 0
+  Leaves q passed out ws = ⊥
+  Leaves q dropped out ws = (out ≡ []) × (ws ≡ [])
+  Leaves q (shifted s e) out ws =
+      (out ≡ render (q .frame) (timeText (c .kind) (q .startMark) s) (timeText (c .kind) (q .stopMark) e)) × (ws ≡ [])
+  Leaves q (clipped s e) out ws =
+      (out ≡ render (q .frame) (timeText (c .kind) (q .startMark) s) (timeText (c .kind) (q .stopMark) e)) × Warned q ws
+
+  pub record CueRight (q : Cue) (e : Emit) : Type 0 where
+    pub fate : Fate
+    pub caption : e .caption ≡ decided fate
+    pub right : Right (c .timescale) (unitsOf (c .kind)) m (q .start) (q .stop) fate
+    pub leaves : Leaves q fate (e .out) (e .warnings)
+
+  -- bytes stay; a caption that passes keeps its bytes and gets its warning
+  abbrev pub PartRight : Part → Emit → Type 0
+  PartRight (stays l) e = (e .out ≡ l) × (e .warnings ≡ []) × (e .caption ≡ none)
+  PartRight (passes r n l) e = (e .out ≡ l) × (e .warnings ≡ warning (reasonNumber r) n ∷ []) × (e .caption ≡ decided passed)
+  PartRight (cue q) e = CueRight q e
+
+  abbrev pub AllRight : List Part → Type 0
+  AllRight [] = Unit {0}
+  AllRight (p ∷ ps) = PartRight p (emitOf c m p) × AllRight ps
+
+-- how many warnings of kind 1 or 2
+abbrev pub countIf : Bool → ℕ → ℕ
+countIf true n = suc n
+countIf false n = n
+
+unfoldable pub passings : List Warning → ℕ
+passings [] = 0
+passings (w ∷ ws) = countIf (leb (w .kind) 2) (passings ws)
+
+-- ---- the list
+module _ (c : Config) (xs : List Call) where
+  -- the plain reader after the list, and what it has read
+  abbrev pub heard : Heard
+  heard = hear (plainRead (c .kind)) newReader xs
+
+  abbrev pub saidIn : Reading
+  saidIn = readingOf (plainRead (c .kind)) (heard .reader)
+
+-- from the session that open returned
+abbrev pub played : (c : Config) → (m : List ℕ) → List Call → Played Columns
+played c m xs = play kit (openSession kit c m .session) xs
+
+pub record Demand (c : Config) (m : List ℕ) (xs : List Call) (p : Played Columns) : Type 0 where
+  -- numbers, joined output, warnings, outcome, counts, taken: the plain reader's
+  pub same : SameAsReader (plainRead (c .kind)) c m p (heard c xs)
+  -- captions decided, counted from the text alone, are shifted + clipped + dropped + passed
+  pub sum : captionsIn (saidIn c xs .parts) ≡ total (p .session .counts)
+  -- passed counts warnings 1 and 2
+  pub passed : p .session .counts .passed ≡ passings (p .warnings)
+  -- every caption has its true fate, its bytes and its warnings
+  pub fates : AllRight c (segmentsOf m) (saidIn c xs .parts)

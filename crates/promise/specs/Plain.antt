@@ -1,0 +1,150 @@
+-- Document 01's plain reader of a whole text, by lines and blocks. It shares with the session only what one ASS line and one SRT block say.
+use mathlib.Core.Bool.{Bool, true, false, _&&_, cond}
+use mathlib.Core.List.{List, [], _∷_}
+use Prim.Native.Nat.{ℕ, zero, suc, _+_}
+use lib.Dec.{leb, eqb}
+use lib.ListN.{length, drop}
+use Rattle.base.specs.Limits.{mostLine, mostBlock}
+use Rattle.base.specs.Refusal.{_orElse_, faultUnless}
+use Rattle.text.specs.Utf8.{utf8}
+use Rattle.text.specs.Find.{starts}
+use Rattle.text.specs.Line.{linesOf, lineCount}
+use Rattle.event.specs.Says.{Part, stays, faultNumber}
+use Rattle.assline.specs.declared.layout.Columns.{Columns}
+use Rattle.ass.specs.Line.{LineSays, lineSays, faulty as lineFaulty, says as lineSaid}
+use Rattle.block.specs.Style.{srt, blankIn}
+use Rattle.block.specs.Block.{BlockSays, blockSays, faulty as blockFaulty, says as blockSaid}
+use Rattle.machine.specs.Cut.{closedLines, unfinished}
+use Rattle.machine.specs.Machine.{bom}
+use Rattle.machine.specs.Reader.{Reading, fails, _⊕_}
+use Rattle.kinds.specs.Takes.{noColumns}
+
+-- ---- the text behind a leading BOM, and the bytes that the BOM adds to its first line
+abbrev pub marked : List ℕ → Bool
+marked text = starts bom text
+
+abbrev pub behindMark : List ℕ → List ℕ
+behindMark text = cond (marked text) (drop 3 text) text
+
+abbrev pub markLength : List ℕ → ℕ
+markLength text = cond (marked text) 3 0
+
+-- ---- the checks of a line: 19 (x bytes of BOM stand before it), 20, and for a line of an SRT block 21 (size bytes of the block came before it)
+unfoldable pub lineFault : (x : ℕ) → List ℕ → ℕ
+lineFault x l = faultUnless (leb (x + length l) mostLine) 19 orElse faultUnless (utf8 l) 20
+
+unfoldable pub bodyLineFault : (x size : ℕ) → List ℕ → ℕ
+bodyLineFault x size l = lineFault x l orElse faultUnless (leb (size + length l) mostBlock) 21
+
+-- a reading, unless a fault comes before it
+abbrev pub unlessFault : ℕ → Reading → Reading
+unlessFault zero r = r
+unlessFault (suc k) r = fails (suc k)
+
+-- ---- ASS: line by line; n lines came before, and `end` is what comes behind the last one
+abbrev pub lineThen : LineSays → (Columns → Reading) → Reading
+lineThen (lineFaulty f) after = fails (faultNumber f)
+lineThen (lineSaid c p) after = (p ∷ []) ⊕ after c
+
+unfoldable pub assRead : (end : Reading) → (x : ℕ) → Columns → (n : ℕ) → List (List ℕ) → Reading
+assRead end x c n [] = end
+assRead end x c n (l ∷ ls) = unlessFault (lineFault x l) (lineThen (lineSays c n l) (λ d. assRead end 0 d (suc n) ls))
+
+-- ---- SRT: a block is the non-blank lines, then the blank ones
+pub record Block : Type 0 where
+  pub body : List (List ℕ)
+  pub blanks : List (List ℕ)
+
+abbrev pub blockOf : (body blanks : List (List ℕ)) → Block
+blockOf body blanks = record { body = body; blanks = blanks }
+
+-- a line that is not blank goes to the block behind it
+abbrev pub ontoBlock : List ℕ → List Block → List Block
+ontoBlock l [] = blockOf (l ∷ []) [] ∷ []
+ontoBlock l (b ∷ bs) = blockOf (l ∷ b .body) (b .blanks) ∷ bs
+
+-- a blank line goes to the blank ones behind it, and ends a block before them
+abbrev pub ontoBlanks : List ℕ → (body blanks : List (List ℕ)) → List Block → List Block
+ontoBlanks l [] blanks bs = blockOf [] (l ∷ blanks) ∷ bs
+ontoBlanks l (k ∷ ks) blanks bs = blockOf [] (l ∷ []) ∷ blockOf (k ∷ ks) blanks ∷ bs
+
+abbrev pub blankOnto : List ℕ → List Block → List Block
+blankOnto l [] = blockOf [] (l ∷ []) ∷ []
+blankOnto l (b ∷ bs) = ontoBlanks l (b .body) (b .blanks) bs
+
+unfoldable pub blocksOf : List (List ℕ) → List Block
+blocksOf [] = []
+blocksOf (l ∷ ls) = cond (blankIn 1 l) (blankOnto l (blocksOf ls)) (ontoBlock l (blocksOf ls))
+
+-- the first fault of a block's non-blank lines
+unfoldable pub bodyFault : (x size : ℕ) → List (List ℕ) → ℕ
+bodyFault x size [] = 0
+bodyFault x size (l ∷ ls) = bodyLineFault x size l orElse bodyFault 0 (size + length l) ls
+
+-- what the block says (22), and what comes after it; n lines came before the block
+abbrev pub blockThen : BlockSays → Reading → Reading
+blockThen (blockFaulty f) after = fails (faultNumber f)
+blockThen (blockSaid p) after = (p ∷ []) ⊕ after
+
+abbrev pub bodyThen : (n : ℕ) → (body : List (List ℕ)) → Reading → Reading
+bodyThen n [] after = after
+bodyThen n (l ∷ ls) after = blockThen (blockSays srt (suc n) (l ∷ ls)) after
+
+-- blank lines stay
+abbrev pub blanksThen : List (List ℕ) → Reading → Reading
+blanksThen [] after = after
+blanksThen (l ∷ ls) after = unlessFault (lineFault 0 l) ((stays l ∷ []) ⊕ blanksThen ls after)
+
+-- the bytes of BOM before the first blank line
+abbrev pub blankMark : (x : ℕ) → (body : List (List ℕ)) → ℕ
+blankMark x [] = x
+blankMark x (l ∷ ls) = 0
+
+-- a block ends at its first blank line, behind that line's own checks, or at finish; one that neither has closed is left out
+abbrev pub closesBlock : (finished : Bool) → (x n : ℕ) → (body blanks : List (List ℕ)) → Reading → Reading
+closesBlock true x n body [] after = bodyThen n body after
+closesBlock false x n body [] after = after
+closesBlock f x n body (l ∷ ls) after = unlessFault (lineFault (blankMark x body) l) (bodyThen n body ((stays l ∷ []) ⊕ blanksThen ls after))
+
+unfoldable pub srtRead : (finished : Bool) → (end : Reading) → (x n : ℕ) → List Block → Reading
+srtRead f end x n [] = end
+srtRead f end x n (b ∷ bs) =
+    unlessFault (bodyFault x 0 (b .body))
+    (closesBlock f x n (b .body) (b .blanks) (srtRead f end 0 (n + lineCount (b .body) + lineCount (b .blanks)) bs))
+
+-- ---- the text
+-- each line that LF closes, after a finish the rest too
+abbrev pub linesRead : (finished : Bool) → List ℕ → List (List ℕ)
+linesRead true t = linesOf t
+linesRead false t = closedLines t
+
+unfoldable pub linesSay : (kind : ℕ) → (finished : Bool) → (end : Reading) → (x : ℕ) → List (List ℕ) → Reading
+linesSay kind f end x ls = cond (eqb kind 0) (assRead end x noColumns 0 ls) (srtRead f end x 0 (blocksOf ls))
+
+-- until a finish the rest is only tested for 19
+abbrev pub restFault : (finished : Bool) → (x : ℕ) → (lines : List (List ℕ)) → (rest : List ℕ) → ℕ
+restFault true x ls r = 0
+restFault false x [] r = faultUnless (leb (x + length r) mostLine) 19
+restFault false x (l ∷ ls) r = faultUnless (leb (length r) mostLine) 19
+
+-- the BOM is written back where the first line passes its checks (19 and 20; in SRT also 21), or at finish where there is no line
+abbrev pub firstFault : (kind x : ℕ) → List ℕ → ℕ
+firstFault kind x l = cond (eqb kind 0) (lineFault x l) (cond (blankIn kind l) (lineFault x l) (bodyLineFault x 0 l))
+
+abbrev pub opened : (kind : ℕ) → (finished : Bool) → (x : ℕ) → List (List ℕ) → Bool
+opened kind f x [] = f
+opened kind f x (l ∷ ls) = eqb (firstFault kind x l) 0
+
+abbrev pub markWritten : Bool → List Part
+markWritten true = stays bom ∷ []
+markWritten false = []
+
+module _ (kind : ℕ) (finished : Bool) where
+  -- t: the text behind its BOM of x bytes
+  abbrev pub readBehind : (x : ℕ) → (t : List ℕ) → Reading
+  readBehind x t = linesSay kind finished (fails (restFault finished x (closedLines t) (unfinished t))) x (linesRead finished t)
+
+  unfoldable pub plainRead : (text : List ℕ) → Reading
+  plainRead text =
+      markWritten (marked text && opened kind finished (markLength text) (linesRead finished (behindMark text)))
+      ⊕ readBehind (markLength text) (behindMark text)

@@ -1,0 +1,69 @@
+use native.Mathlib.Omega.{arith}
+use Rattle.session.proofs.TakenLaws.{end-none, end-fault, end-said, end-fits}
+use borrow.Author.Needs.{needs}
+use Rattle.session.proofs.taking.end_block.Statement.{statement}
+use Rattle.session.proofs.taking.end_block.Tie as tie
+use Rattle.session.proofs.taking.end_block.Reads as reads
+use Rattle.session.proofs.taking.end_block.Lts as lts
+use Rattle.block.proofs.block.Reads as block-reads
+use Rattle.session.proofs.taking.count.Reads as count-reads
+use Rattle.session.proofs.taking.first_line.Reads as first-line-reads
+use Rattle.session.proofs.taking.lines_in.Reads as lines-in-reads
+
+returns : tie.Need-returns
+returns c =
+    let a = c .before .before .before .before .before .args in
+    (end-none (a .config) (a .map .now) (a .n) (a .counts) (a .block .now) (a .out .now) (a .warnings .now) (c .if1 .taken), (omega arith, omega arith))
+
+lines-in-requires : tie.Need-lines-in-requires
+lines-in-requires c κs = search needs
+
+first-line-requires : tie.Need-first-line-requires
+first-line-requires c κs = search needs
+
+block-requires : tie.Need-block-requires
+block-requires c κs = search needs
+
+same-length : tie.Need-same-length
+same-length c = search needs
+
+same-length-2 : tie.Need-same-length-2
+same-length-2 c = search needs
+
+returns-2 : tie.Need-returns-2
+returns-2 c =
+    let a = c .before .before .before .before .before .before .before .before .before .before .before .before .before .before .before .before .args in
+    let r = c .before .before .before .before .before .before .before .before .before .before .before .before .before .before .before .before .pre in
+    (end-fault (a .config) (a .map .now) (a .n) (a .counts) (a .block .now) _ _ _ (a .out .now) _ (a .warnings .now) _ (r .0) (r .3) (r .4) (c .before .before .before .before .before .before .before .before .before .before .before .if1 .left) (c .before .before .before .before .before .before .before .before .before .before .lines-in .ensures) (c .before .before .before .before .before .before .before .before .before .first-line .ensures) (c .before .before .before .before .before .before .block .ensures) (c .if2 .taken), (omega arith, omega arith))
+
+count-requires : tie.Need-count-requires
+count-requires c κs = search needs
+
+same-length-3 : tie.Need-same-length-3
+same-length-3 c = search needs
+
+same-length-4 : tie.Need-same-length-4
+same-length-4 c = search needs
+
+returns-3 : tie.Need-returns-3
+returns-3 c =
+    let a = c .before .before .before .before .before .before .before .before .before .before .before .before .before .before .before .before .before .args in
+    let r = c .before .before .before .before .before .before .before .before .before .before .before .before .before .before .before .before .before .pre in
+    let b = c .before .before .before .before .before .before .before .block in
+    (end-said (a .config) (a .map .now) (a .n) (a .counts) (a .block .now) _ _ _ (a .out .now) _ (a .warnings .now) _ (r .0) (r .3) (r .4) (c .before .before .before .before .before .before .before .before .before .before .before .before .if1 .left) (c .before .before .before .before .before .before .before .before .before .before .before .lines-in .ensures) (c .before .before .before .before .before .before .before .before .before .before .first-line .ensures) (b .ensures) _ (c .before .if2 .left) (c .count .ensures), end-fits (a .config) (a .map .now) (a .n) (a .counts) (a .block .now) _ _ _ _ _ _ (b .ensures) (b .kept .1 .1 .1 .1 .1 .0))
+
+pub end-block-spec : {M : Type 1} → statement M
+end-block-spec =
+    tie.close
+    (tie.spec
+    returns
+    lines-in-requires
+    first-line-requires
+    block-requires
+    same-length
+    same-length-2
+    returns-2
+    count-requires
+    same-length-3
+    same-length-4
+    returns-3)

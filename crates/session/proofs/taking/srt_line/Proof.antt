@@ -1,0 +1,116 @@
+use mathlib.Core.Path.{_≡_, refl, sym, _∙_}
+use mathlib.Core.Bool.{true, false}
+use borrow.Author.Tests.{not-true, not-false}
+use Rattle.text.specs.Utf8.{utf8}
+use Rattle.block.specs.Style.{blankIn}
+use Rattle.session.proofs.TakenLaws.{srt-20, srt-22, srt-blank, srt-21, srt-add, quiet-small, blank-fits}
+use borrow.Author.Needs.{needs}
+use Rattle.session.proofs.taking.srt_line.Statement.{statement}
+use Rattle.session.proofs.taking.srt_line.Tie as tie
+use Rattle.session.proofs.taking.srt_line.Reads as reads
+use Rattle.session.proofs.taking.srt_line.Lts as lts
+use Rattle.base.proofs.bytes_at.Reads as bytes-at-reads
+use Rattle.block.proofs.is_blank_in.Reads as is-blank-in-reads
+use Rattle.session.proofs.taking.end_block.Reads as end-block-reads
+use Rattle.session.proofs.taking.quiet.Reads as quiet-reads
+use Rattle.text.proofs.is_utf8.Reads as is-utf8-reads
+
+is-utf8-requires : tie.Need-is-utf8-requires
+is-utf8-requires c κs = search needs
+
+quiet-requires : tie.Need-quiet-requires
+quiet-requires c κs = search needs
+
+returns : tie.Need-returns
+returns c =
+    let a = c .before .before .before .before .before .before .before .before .args in
+    let u : utf8 (a .line .now) ≡ false = sym (c .before .before .is-utf8 .ensures) ∙ not-true _ (c .before .if1 .taken) in
+    (λ s p b q. srt-20 (a .config) (a .map .now) (a .n) (a .counts) (a .columns) (a .block .now) (a .line .now) _ _ _ u (c .quiet .ensures) s p b q, quiet-small _ _ _ _ _ _ _ (c .quiet .ensures))
+
+is-blank-in-requires : tie.Need-is-blank-in-requires
+is-blank-in-requires c κs = search needs
+
+end-block-requires : tie.Need-end-block-requires
+end-block-requires c κs = search needs
+
+quiet-requires-2 : tie.Need-quiet-requires-2
+quiet-requires-2 c κs = search needs
+
+same-length : tie.Need-same-length
+same-length c = search needs
+
+same-length-2 : tie.Need-same-length-2
+same-length-2 c = search needs
+
+returns-2 : tie.Need-returns-2
+returns-2 c =
+    let a = c .before .before .before .before .before .before .before .before .before .before .before .before .before .before .before .before .before .before .before .args in
+    let r = c .before .before .before .before .before .before .before .before .before .before .before .before .before .before .before .before .before .before .before .pre in
+    let u : utf8 (a .line .now) ≡ true = sym (c .before .before .before .before .before .before .before .before .before .before .before .before .before .is-utf8 .ensures) ∙ not-false _ (c .before .before .before .before .before .before .before .before .before .before .before .before .if1 .left) in
+    let i : blankIn 1 (a .line .now) ≡ true = sym (c .before .before .before .before .before .before .before .before .before .before .before .is-blank-in .ensures) ∙ c .before .before .before .before .before .before .before .before .before .before .if2 .taken in
+    (λ s p b q. srt-22 (a .config) (a .map .now) (a .n) (a .counts) (a .columns) (a .block .now) (a .line .now) _ _ _ _ _ _ u i (c .before .before .before .before .before .before .before .end-block .ensures .0) (c .before .if3 .taken) (c .quiet2 .ensures) s p b q, quiet-small _ _ _ _ _ _ _ (c .quiet2 .ensures))
+
+bytes-at-requires : tie.Need-bytes-at-requires
+bytes-at-requires c κs = search needs
+
+same-length-3 : tie.Need-same-length-3
+same-length-3 c = search needs
+
+same-length-4 : tie.Need-same-length-4
+same-length-4 c = search needs
+
+returns-3 : tie.Need-returns-3
+returns-3 c =
+    let a = c .before .before .before .before .before .before .before .before .before .before .before .before .before .before .before .before .before .before .before .before .before .before .before .args in
+    let r = c .before .before .before .before .before .before .before .before .before .before .before .before .before .before .before .before .before .before .before .before .before .before .before .pre in
+    let u : utf8 (a .line .now) ≡ true = sym (c .before .before .before .before .before .before .before .before .before .before .before .before .before .before .before .before .before .is-utf8 .ensures) ∙ not-false _ (c .before .before .before .before .before .before .before .before .before .before .before .before .before .before .before .before .if1 .left) in
+    let i : blankIn 1 (a .line .now) ≡ true = sym (c .before .before .before .before .before .before .before .before .before .before .before .before .before .before .before .is-blank-in .ensures) ∙ c .before .before .before .before .before .before .before .before .before .before .before .before .before .before .if2 .taken in
+    let e = c .before .before .before .before .before .before .before .before .before .before .before .end-block in
+    let y = c .before .before .before .bytes-at in
+    (λ s p b q. srt-blank (a .config) (a .map .now) (a .n) (a .counts) (a .columns) (a .block .now) (a .line .now) _ _ _ _ _ _ _ u i (e .ensures .0) (c .before .before .before .before .before .if3 .left) (r .5) (e .ensures .1 .0) (y .ensures .0) (y .ensures .1) s p b q, (refl, blank-fits (a .block .now) (a .line .now) (a .out .now) _ _ _ (e .kept .1 .1 .1 .1 .1 .0) (r .5) (e .ensures .1 .0) (y .ensures .0), e .ensures .1 .1))
+
+add-if4 : tie.Need-add-if4
+add-if4 c = search needs
+
+quiet-requires-3 : tie.Need-quiet-requires-3
+quiet-requires-3 c κs = search needs
+
+returns-4 : tie.Need-returns-4
+returns-4 c =
+    let a = c .before .before .before .before .before .before .before .before .before .before .before .args in
+    let u : utf8 (a .line .now) ≡ true = sym (c .before .before .before .before .before .is-utf8 .ensures) ∙ not-false _ (c .before .before .before .before .if1 .left) in
+    let i : blankIn 1 (a .line .now) ≡ false = sym (c .before .before .before .is-blank-in .ensures) ∙ c .before .before .if2 .left in
+    (λ s p b q. srt-21 (a .config) (a .map .now) (a .n) (a .counts) (a .columns) (a .block .now) (a .line .now) _ _ _ u i (c .before .if4 .taken) (c .quiet3 .ensures) s p b q, quiet-small _ _ _ _ _ _ _ (c .quiet3 .ensures))
+
+quiet-requires-4 : tie.Need-quiet-requires-4
+quiet-requires-4 c κs = search needs
+
+returns-5 : tie.Need-returns-5
+returns-5 c =
+    let a = c .before .before .before .before .before .before .before .before .before .before .before .args in
+    let u : utf8 (a .line .now) ≡ true = sym (c .before .before .before .before .before .is-utf8 .ensures) ∙ not-false _ (c .before .before .before .before .if1 .left) in
+    let i : blankIn 1 (a .line .now) ≡ false = sym (c .before .before .before .is-blank-in .ensures) ∙ c .before .before .if2 .left in
+    (λ s p b q. srt-add (a .config) (a .map .now) (a .n) (a .counts) (a .columns) (a .block .now) (a .line .now) _ _ _ u i (c .before .if4 .left) (c .quiet4 .ensures) s p b q, quiet-small _ _ _ _ _ _ _ (c .quiet4 .ensures))
+
+pub srt-line-spec : {M : Type 1} → statement M
+srt-line-spec =
+    tie.close
+    (tie.spec
+    is-utf8-requires
+    quiet-requires
+    returns
+    is-blank-in-requires
+    end-block-requires
+    quiet-requires-2
+    same-length
+    same-length-2
+    returns-2
+    bytes-at-requires
+    same-length-3
+    same-length-4
+    returns-3
+    add-if4
+    quiet-requires-3
+    returns-4
+    quiet-requires-4
+    returns-5)

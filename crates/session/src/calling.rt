@@ -1,0 +1,265 @@
+// open, feed and finish.
+use crate::ending::finish_run;
+use crate::running::Going;
+use crate::running::run_piece;
+use assline::Columns;
+use event::Config;
+use foreign::Session;
+use machine::Counts;
+ghost use mathlib.Core.Path.{_≡_};
+ghost use Prim.Native.Nat.{_≤_};
+ghost use lib.ListN.{length, replicate, drop};
+ghost use Rattle.base.specs.Put.{put};
+ghost use Rattle.kinds.specs.Takes.{noColumns};
+ghost use Rattle.session.specs.Answer.{Answered, OpenAnswered, feedCall, finishCall, openOf, lengthsBad, refusalOf, beginAt, endedSession};
+
+// What feed and finish hand back: both lengths are those written to the lent output and places.
+pub struct Fed {
+    pub number: u32,
+    pub written: usize,
+    pub warned: usize,
+    pub session: Session,
+}
+
+pub struct Opened {
+    pub number: u32,
+    pub session: Session,
+}
+
+// 16, by the lengths.
+fn lengths_bad(taken: u32, piece: usize, out: usize, places: usize) -> bool
+    requires { ⌜ taken ≤ 1073741824 ⌝ }
+    ensures { λ r. ⌜ r ≡ lengthsBad taken piece out places ⌝ }
+{
+    if base::MOST_PIECE < piece {
+        return true;
+    }
+    if out < base::LEAST_OUTPUT {
+        return true;
+    }
+    if places < base::LEAST_PLACES {
+        return true;
+    }
+    (base::MOST_TAKEN as usize) < (taken as usize) + piece
+}
+
+// The number by which a call is refused, or 0.
+fn refusal(session: Session, map: &[u64], piece: usize, out: usize, places: usize) -> u32
+    ensures { λ r. ⌜ r ≡ refusalOf session (now (map .entry)) piece out places ⌝ }
+{
+    if foreign::foreign(session) {
+        return 17;
+    }
+    if session.ended {
+        return 18;
+    }
+    if segmap::map_bad(map) {
+        return 15;
+    }
+    if lengths_bad(session.taken, piece, out, places) {
+        return 16;
+    }
+    0
+}
+
+// Where a call begins.
+fn begin(session: Session) -> Going
+    ensures { λ r. ⌜ r ≡ beginAt session ⌝ }
+{
+    let start = foreign::block_end(base::front(&session.held, session.held_len));
+    let counts = session.counts;
+    let columns = session.columns;
+    Going {
+        number: 0,
+        lines: session.lines,
+        counts,
+        columns,
+        start,
+        held: session.held_len,
+        written: 0,
+        warned: 0,
+    }
+}
+
+// Outside Events, columns unknown.
+fn no_columns() -> Columns
+    ensures { λ r. ⌜ r ≡ noColumns ⌝ }
+{
+    Columns {
+        events: false,
+        columns: 0,
+        start: 0,
+        end: 0,
+    }
+}
+
+// An ended session holds nothing.
+fn end_session(config: Config, outcome: u32, taken: u32, counts: Counts) -> Session
+    ensures { λ r. ⌜ r ≡ endedSession config outcome taken counts ⌝ }
+{
+    let columns = no_columns();
+    Session {
+        config,
+        ended: true,
+        outcome,
+        taken,
+        lines: 0,
+        counts,
+        columns,
+        held_len: 0,
+        held: [0; 8192],
+    }
+}
+
+// 15 for T or the map, then 16 for the kind, else 0.
+fn open_refusal(kind: u32, timescale: u32, map: &[u64]) -> u32
+    ensures { λ r. ⌜ r ≡ openOf kind timescale (now (map .entry)) .number ⌝ }
+{
+    if time::timescale_bad(timescale) {
+        return 15;
+    }
+    if segmap::map_bad(map) {
+        return 15;
+    }
+    if time::kind_bad(kind) {
+        return 16;
+    }
+    0
+}
+
+// A session for a text of the kind (0 ASS, 1 SRT), of T ticks a second, through the map.
+pub fn open(kind: u32, timescale: u32, map: &[u64]) -> Opened
+    ensures { λ r. ⌜ OpenAnswered kind timescale (now (map .entry)) r ⌝ }
+{
+    let none = Counts {
+        shifted: 0,
+        clipped: 0,
+        dropped: 0,
+        passed: 0,
+    };
+    let number = open_refusal(kind, timescale, map);
+    if number != 0 {
+        let config = Config {
+            kind: 0,
+            timescale: 1,
+        };
+        let session = end_session(config, 0, 0, none);
+        return Opened { number, session };
+    }
+    let config = Config { kind, timescale };
+    let columns = no_columns();
+    let session = Session {
+        config,
+        ended: false,
+        outcome: 0,
+        taken: 0,
+        lines: 0,
+        counts: none,
+        columns,
+        held_len: 0,
+        held: [0; 8192],
+    };
+    Opened { number: 0, session }
+}
+
+// Zeros to the end.
+fn clear(rest: &mut [u8])
+    ensures { λ _. ⌜ now (rest .exit) ≡ replicate (length (now (rest .entry))) 0 ⌝ }
+{
+    let mut i = 0;
+    while i < rest.len() {
+        rest[i] = 0;
+        i += 1;
+    }
+}
+
+// A piece of the text.
+pub fn feed(
+    session: Session,
+    map: &[u64],
+    piece: &[u8],
+    out: &mut [u8],
+    warnings: &mut [u64],
+) -> Fed
+    ensures { λ r. ⌜ Answered session (feedCall (now (map .entry)) (now (piece .entry)) (length (now (out .entry))) (length (now (warnings .entry)))) r (now (out .entry)) (now (out .exit)) (now (warnings .entry)) (now (warnings .exit)) ⌝ }
+{
+    let refused = refusal(session, map, piece.len(), out.len(), warnings.len());
+    if refused != 0 {
+        return Fed {
+            number: refused,
+            written: 0,
+            warned: 0,
+            session,
+        };
+    }
+    if piece.len() == 0 {
+        return Fed {
+            number: 0,
+            written: 0,
+            warned: 0,
+            session,
+        };
+    }
+    let mut held = session.held;
+    let config = session.config;
+    let start = begin(session);
+    let end = run_piece(config, map, start, piece, &mut held, out, warnings);
+    let taken = session.taken + (piece.len() as u32);
+    let counts = end.counts;
+    if end.number != 0 {
+        let over = end_session(config, end.number, taken, counts);
+        return Fed {
+            number: end.number,
+            written: end.written,
+            warned: end.warned,
+            session: over,
+        };
+    }
+    let n = end.held;
+    clear(&mut held[n..]);
+    let columns = end.columns;
+    let next = Session {
+        config,
+        ended: false,
+        outcome: session.outcome,
+        taken,
+        lines: end.lines,
+        counts,
+        columns,
+        held_len: n,
+        held,
+    };
+    Fed {
+        number: 0,
+        written: end.written,
+        warned: end.warned,
+        session: next,
+    }
+}
+
+// What is held as a last line; the session ends.
+pub fn finish(session: Session, map: &[u64], out: &mut [u8], warnings: &mut [u64]) -> Fed
+    ensures { λ r. ⌜ Answered session (finishCall (now (map .entry)) (length (now (out .entry))) (length (now (warnings .entry)))) r (now (out .entry)) (now (out .exit)) (now (warnings .entry)) (now (warnings .exit)) ⌝ }
+{
+    let refused = refusal(session, map, 0, out.len(), warnings.len());
+    if refused != 0 {
+        return Fed {
+            number: refused,
+            written: 0,
+            warned: 0,
+            session,
+        };
+    }
+    let mut held = session.held;
+    let config = session.config;
+    let start = begin(session);
+    let end = finish_run(config, map, start, &mut held, out, warnings);
+    let counts = end.counts;
+    let over = end_session(config, end.number, session.taken, counts);
+    Fed {
+        number: end.number,
+        written: end.written,
+        warned: end.warned,
+        session: over,
+    }
+}

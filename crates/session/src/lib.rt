@@ -1,0 +1,11 @@
+// The session: takes a caption text in pieces and writes it back retimed.
+mod calling;
+mod ending;
+mod running;
+mod taking;
+
+pub use calling::Fed;
+pub use calling::Opened;
+pub use calling::feed;
+pub use calling::finish;
+pub use calling::open;

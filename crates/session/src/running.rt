@@ -1,0 +1,188 @@
+// A piece taken byte by byte.
+use crate::taking::Taken;
+use crate::taking::take_line;
+use assline::Columns;
+use event::Config;
+use machine::Counts;
+ghost use mathlib.Core.Path.{_≡_};
+ghost use mathlib.Core.List.{List, _++_};
+ghost use Prim.Native.Nat.{ℕ, _≤_, _<_, _+_, _-_, _^_};
+ghost use lib.Dec.{eqb};
+ghost use lib.ListN.{length, take, drop};
+ghost use Rattle.event.specs.Says.{Part};
+ghost use Rattle.machine.specs.declared.counting.Counts.{Counts};
+ghost use Rattle.machine.specs.Machine.{Run, going, lineEnd, takeLine, byteStep, run};
+ghost use Rattle.kinds.specs.Takes.{State, machineOf};
+ghost use Rattle.session.specs.Taken.{Ready, Parsed};
+ghost use Rattle.session.specs.Stand.{Shows, Room, ByteRoom, Opening, ParsedIn, resumeAt, stoppedAt, holdingTo, linedTo};
+
+// What the loop carries: the open block's bytes end at `start`, those of the unfinished line at `held`.
+pub struct Going {
+    pub number: u32,
+    pub lines: u32,
+    pub counts: Counts,
+    pub columns: Columns,
+    pub start: usize,
+    pub held: usize,
+    pub written: usize,
+    pub warned: usize,
+}
+
+// Stopped by a fault.
+pub fn stop(at: Going, number: u32) -> Going
+    ensures { λ r. ⌜ r ≡ stoppedAt at number ⌝ }
+{
+    let counts = at.counts;
+    let columns = at.columns;
+    Going {
+        number,
+        lines: at.lines,
+        counts,
+        columns,
+        start: at.start,
+        held: at.held,
+        written: at.written,
+        warned: at.warned,
+    }
+}
+
+// With m bytes held.
+fn holding(at: Going, m: usize) -> Going
+    ensures { λ r. ⌜ r ≡ holdingTo at m ⌝ }
+{
+    let counts = at.counts;
+    let columns = at.columns;
+    Going {
+        number: at.number,
+        lines: at.lines,
+        counts,
+        columns,
+        start: at.start,
+        held: m,
+        written: at.written,
+        warned: at.warned,
+    }
+}
+
+// After a line, with an open block of e bytes.
+fn lined(at: Going, told: Taken, e: usize) -> Going
+    requires { ⌜ (at .lines ≤ 2 ^ 31) × (at .written + told .written < 2 ^ 64) × (at .warned + told .warned < 2 ^ 64) ⌝ }
+    ensures { λ r. ⌜ r ≡ linedTo at told e ⌝ }
+{
+    let counts = told.counts;
+    let columns = told.columns;
+    Going {
+        number: 0,
+        lines: at.lines + 1,
+        counts,
+        columns,
+        start: e,
+        held: e,
+        written: at.written + told.written,
+        warned: at.warned + told.warned,
+    }
+}
+
+// The held bytes from s + k to s + k + n go down to s.
+fn move_down(held: &mut [u8], s: usize, k: usize, n: usize)
+    requires { ⌜ (s + k) + n ≤ length (now held) ⌝ }
+    ensures { λ _. ⌜ take (s + n) (now (held .exit)) ≡ take s (now (held .entry)) ++ take n (drop (s + k) (now (held .entry))) ⌝ }
+{
+    let mut i = 0;
+    while i < n {
+        held[s + i] = held[s + k + i];
+        i += 1;
+    }
+}
+
+// A complete line: it ends where the held bytes end.
+pub fn end_line(
+    config: Config,
+    map: &[u64],
+    at: Going,
+    held: &mut [u8],
+    out: &mut [u8],
+    warnings: &mut [u64],
+) -> Going
+    requires { ⌜ Ready config (now map) × Room at (length (now held)) (length (now out)) (length (now warnings)) ⌝ }
+    ensures { λ r. ⌜ ((c : Counts) (s : State) (n : ℕ) (l : List ℕ) (ps : List Part) (o w : List ℕ) → Parsed (eqb (config .kind) 0) (s .block) → Shows config (now (map .entry)) c (going s n l ps) o w at (now (held .entry)) (now (out .entry)) (now (warnings .entry)) → Shows config (now (map .entry)) c (lineEnd (machineOf (config .kind)) n ps (takeLine (machineOf (config .kind)) s n l)) o w r (now (held .exit)) (now (out .exit)) (now (warnings .exit))) ⌝ }
+{
+    let s = at.start;
+    let m = at.held;
+    let o = at.written;
+    let w = at.warned;
+    let counts = at.counts;
+    let columns = at.columns;
+    let told = take_line(
+        config,
+        map,
+        at.lines,
+        counts,
+        columns,
+        &held[..m],
+        s,
+        &mut out[o..],
+        &mut warnings[w..],
+    );
+    if told.number != 0 {
+        return stop(at, told.number);
+    }
+    if !told.added {
+        return lined(at, told, 0);
+    }
+    let k = told.skip;
+    if k != 0 {
+        move_down(held, s, k, m - s - k);
+    }
+    lined(at, told, m - k)
+}
+
+// One byte.
+fn step(
+    config: Config,
+    map: &[u64],
+    at: Going,
+    b: u8,
+    held: &mut [u8],
+    out: &mut [u8],
+    warnings: &mut [u64],
+) -> Going
+    requires { ⌜ Ready config (now map) × (at .number ≡ 0 → ByteRoom at (length (now held)) (length (now out)) (length (now warnings))) ⌝ }
+    ensures { λ r. ⌜ ((c : Counts) (q : Run State) (o w : List ℕ) → ParsedIn (eqb (config .kind) 0) q → Shows config (now (map .entry)) c q o w at (now (held .entry)) (now (out .entry)) (now (warnings .entry)) → Shows config (now (map .entry)) c (byteStep (machineOf (config .kind)) q b) o w r (now (held .exit)) (now (out .exit)) (now (warnings .exit))) ⌝ }
+{
+    if at.number != 0 {
+        return at;
+    }
+    let n = at.held;
+    if base::MOST_LINE <= n - at.start {
+        return stop(at, 19);
+    }
+    held[n] = b;
+    let more = holding(at, n + 1);
+    if b != 10 {
+        return more;
+    }
+    end_line(config, map, more, held, out, warnings)
+}
+
+// All bytes of a piece.
+pub fn run_piece(
+    config: Config,
+    map: &[u64],
+    start: Going,
+    piece: &[u8],
+    held: &mut [u8],
+    out: &mut [u8],
+    warnings: &mut [u64],
+) -> Going
+    requires { ⌜ Ready config (now map) × Opening config start (now held) (length (now out)) (length (now warnings)) × (length (now piece) ≤ 1024) ⌝ }
+    ensures { λ r. ⌜ Shows config (now (map .entry)) (start .counts) (run (machineOf (config .kind)) (resumeAt start (now (held .entry))) (now (piece .entry))) (now (out .entry)) (now (warnings .entry)) r (now (held .exit)) (now (out .exit)) (now (warnings .exit)) ⌝ }
+{
+    let mut at = start;
+    let mut i = 0;
+    while i < piece.len() {
+        at = step(config, map, at, piece[i], held, out, warnings);
+        i += 1;
+    }
+    at
+}
