@@ -7,19 +7,18 @@ use borrow.Author.Tests.{le-leb}
 use lib.ListN.{length, take}
 use Rattle.base.specs.Limits.{mostFrames, mostSegments}
 use Rattle.base.specs.Put.{put}
-use Rattle.base.specs.Refusal.{_orElse_, faultUnless}
 use Rattle.sheet.specs.Sheet.{framesOf}
 use Rattle.sheet.proofs.SheetLaws.{sound-head}
 use Rattle.plan.proofs.SnapMeaning.{Bounded}
 use Rattle.segmap.specs.declared.segment.Segment.{Segment}
 use Rattle.segmap.specs.declared.whole.Made.{Made}
-use Rattle.segmap.specs.Segment.{flatOf, segment, segmentsOf}
+use Rattle.segmap.specs.Segment.{flatOf, segmentsOf}
 use Rattle.segmap.specs.Build.{rangeTicks, segmentIn, segmentsIn}
 use Rattle.segmap.specs.Map.{snappedOf, mapNumber, Map, mapOf, made, madeOf}
 use Rattle.segmap.proofs.SegmentLaws.{flat-back}
 use Rattle.segmap.proofs.MapLaws.{short-made}
 use Rattle.segmap.proofs.Built.{map-count, map-front, told-number, told-count, map-refused, made-parts, made-segments, made-few, made-bounded}
-use Rattle.segments.specs.Records.{recorded, mapInto, narrow, narrowed}
+use Rattle.segments.specs.Records.{recorded, mapInto, narrowed}
 
 -- ---- the widths of a record hold the segments of a map
 narrow-same : (a : ℕ) → a ≤ mostFrames → a % 4294967296 ≡ a

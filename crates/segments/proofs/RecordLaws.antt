@@ -1,25 +1,22 @@
 -- Laws of maps of records, each for one place of the functions' proofs.
 use mathlib.Core.Path.{_≡_, refl, sym, ap, _∙_}
-use mathlib.Core.Bool.{Bool, true, false}
-use mathlib.Core.List.{List, [], _∷_, _++_, append-assoc, append-nil}
-use Prim.Native.Nat.{ℕ, zero, suc, _+_, _-_, _*_, _%_, _≤_, _<_}
+use mathlib.Core.Bool.{true, false}
+use mathlib.Core.List.{List, [], _∷_, _++_, append-assoc}
+use Prim.Native.Nat.{ℕ, zero, suc, _+_, _-_, _*_, _≤_, _<_}
 use native.Mathlib.Omega.{arith}
 use native.Mathlib.Numerals.{add-one}
 use borrow.Author.Tests.{le-leb, lt-leb}
-use lib.ListN.{length, take, drop, getD, set, length-append, length-drop, length-take, take-append-drop}
-use lib.Seq.{drop-cons, drop-length, take-suc, take-all, take-length, set-at, length-take-le}
-use Rattle.base.specs.Limits.{mostFrame, mostFrames, mostSegments}
+use lib.ListN.{length, take, drop, getD, set, length-append, length-take, take-append-drop}
+use lib.Seq.{drop-cons, drop-length, take-suc, take-all, set-at, length-take-le}
 use Rattle.base.specs.Put.{put, putAt, placed, placedAt}
 use Rattle.base.specs.Refusal.{faultUnless}
-use Rattle.base.proofs.PutLaws.{length-put, put-append, then-put, then-placed, placed-yes, placed-no}
+use Rattle.base.proofs.PutLaws.{put-append, then-put, then-placed, placed-yes, placed-no}
 use Rattle.segmap.specs.declared.segment.Segment.{Segment}
-use Rattle.segmap.specs.Segment.{sourceOf, numbersOf, flatOf, segment, segmentsOf}
-use Rattle.segmap.proofs.SegmentLaws.{flat-back, segments-cut}
+use Rattle.segmap.specs.Segment.{sourceOf, numbersOf, flatOf, segmentsOf}
 use Rattle.segmap.proofs.Built.{flat-length}
-use Rattle.event.specs.declared.meeting.Hit.{Hit}
-use Rattle.event.specs.declared.meeting.Hit.the-variants.{Miss, At}
+use Rattle.event.specs.declared.meeting.Hit.the-variants.{Miss}
 use Rattle.event.specs.Hit.{meets, findFrom, hitOf, nextSource, nextDuration}
-use Rattle.segments.specs.Records.{recorded, flatNumber, noSegment, narrow, narrowed, segmentAt, hitAt}
+use Rattle.segments.specs.Records.{recorded, flatNumber, noSegment, narrowed, segmentAt, hitAt}
 
 -- ---- the first record that is met
 next-source : (l : List Segment) (i : ℕ) → nextSource (drop i l) ≡ sourceOf (getD l i noSegment)

@@ -8,7 +8,6 @@ use lib.Dec.{leb}
 use lib.ListN.{length, take, drop}
 use lib.Seq.{take-append-seam}
 use Rattle.base.specs.Put.{put, placed}
-use Rattle.base.specs.Refusal.{faultUnless}
 use Rattle.base.proofs.PutLaws.{placed-yes, take-put}
 use Rattle.base.proofs.RefusalLaws.{held}
 use Rattle.segmap.specs.declared.segment.Segment.{Segment}

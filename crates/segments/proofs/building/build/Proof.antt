@@ -1,6 +1,6 @@
 -- `build` meets its contract: a walk of its MIR, by hand: a refusal, an array of its own that is lent to `make` and then to `fill` (`LocalArray.antt`), and the records that are lent on to `fill` (`Again.antt`).
 -- Assumes nothing.
-use mathlib.Core.Path.{_≡_, refl, sym, _∙_, ap, subst}
+use mathlib.Core.Path.{_≡_, refl, _∙_, ap, subst}
 use mathlib.Core.List.{List, [], _∷_}
 use Prim.Native.Nat.{ℕ, _*_, _<_, _≤_, _^_}
 use native.Mathlib.Omega.{arith}
@@ -51,7 +51,6 @@ use Rattle.segmap.specs.declared.whole.Made.{Made}
 use Rattle.segmap.specs.Segment.{flatOf, segmentsOf}
 use Rattle.segmap.specs.Map.{mapOf, made, madeOf}
 use Rattle.segmap.proofs.segment.Segment as T
-use Rattle.segmap.proofs.segment.Segment.Laws as T′
 use Rattle.segmap.proofs.whole.Made as M₀
 use Rattle.segmap.proofs.whole.Made.Laws as M′
 use Rattle.segmap.proofs.make as mk

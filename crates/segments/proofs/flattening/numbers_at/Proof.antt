@@ -2,9 +2,6 @@ use Rattle.segments.proofs.RecordLaws.{numbers-stored}
 use borrow.Author.Needs.{needs}
 use Rattle.segments.proofs.flattening.numbers_at.Statement.{statement}
 use Rattle.segments.proofs.flattening.numbers_at.Tie as tie
-use Rattle.segments.proofs.flattening.numbers_at.Reads as reads
-use Rattle.segments.proofs.flattening.numbers_at.Lts as lts
-use Rattle.base.proofs.pair_at.Reads as pair-at-reads
 
 cast-pair-at : tie.Need-cast-pair-at
 cast-pair-at c = search needs
