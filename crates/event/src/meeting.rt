@@ -19,7 +19,7 @@ pub enum Hit {
 }
 
 // Whether a segment meets the ticks a to b.
-fn meets(source: u64, duration: u64, a: u64, b: u64) -> bool
+pub fn meets(source: u64, duration: u64, a: u64, b: u64) -> bool
     ensures { λ r. ⌜ r ≡ meetsParts source duration a b ⌝ }
 {
     if duration == 0 {

@@ -1,0 +1,2 @@
+-- Maps as lists of records.
+pub mod Records

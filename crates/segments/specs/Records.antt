@@ -1,0 +1,45 @@
+-- A lent list of records: what is written to it, and how it stands to flat numbers.
+use mathlib.Core.List.{List, [], _∷_, _++_}
+use Prim.Native.Nat.{ℕ, _+_, _*_, _%_}
+use lib.Dec.{leb}
+use lib.ListN.{length, drop, getD}
+use Rattle.base.specs.Refusal.{faultUnless}
+use Rattle.segmap.specs.declared.segment.Segment.{Segment}
+use Rattle.segmap.specs.Segment.{sourceOf, outputOf, segment}
+use Rattle.segmap.specs.Map.{Map, mapOf}
+use Rattle.event.specs.declared.meeting.Hit.{Hit}
+use Rattle.event.specs.declared.meeting.Hit.the-variants.{At}
+
+-- v in the first records of l, and the rest of l as it was
+unfoldable pub recorded : List Segment → List Segment → List Segment
+recorded v l = v ++ drop (length v) l
+
+-- the map that a sheet and a list give, where the records m are lent for it: fewer than 1,024 are 16
+abbrev pub mapInto : (sheet list : List ℕ) (direction : ℕ) → List Segment → Map
+mapInto sheet list d m = mapOf sheet list d (6 * length m)
+
+-- the number of a map of records that is handed to `lent` places, six to a record: 16 where it does not fit
+unfoldable pub flatNumber : List Segment → (lent : ℕ) → ℕ
+flatNumber xs lent = faultUnless (leb (6 * length xs) lent) 16
+
+-- ---- parts of the functions
+-- what stands past the end of a list of records
+abbrev pub noSegment : Segment
+noSegment = segment 0 0 0 0 0 0
+
+-- a segment in the widths of a record: frames and their count of 32 bits
+abbrev pub narrow : Segment → Segment
+narrow x =
+    segment (x .«source_start_frame» % 4294967296) (x .«source_end_frame» % 4294967296) (sourceOf x) (x .«frame_count» % 4294967296) (outputOf x) (x .duration)
+
+unfoldable pub narrowed : List Segment → List Segment
+narrowed [] = []
+narrowed (x ∷ xs) = narrow x ∷ narrowed xs
+
+-- the segment whose six numbers stand in l from the place i on
+abbrev pub segmentAt : List ℕ → ℕ → Segment
+segmentAt l i = narrow (segment (getD l i 0) (getD l (i + 1) 0) (getD l (i + 2) 0) (getD l (i + 3) 0) (getD l (i + 4) 0) (getD l (i + 5) 0))
+
+-- the answer of a segment that is met, given the very next one, or zeros
+abbrev pub hitAt : (place : ℕ) (x next : Segment) → Hit
+hitAt i x next = At record { place = i; source = sourceOf x; output = outputOf x; duration = x .duration; later = sourceOf next; span = next .duration }
