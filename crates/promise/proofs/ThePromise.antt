@@ -10,8 +10,10 @@ use Rattle.sheet.proofs.SheetLaws.{sound-head}
 use Rattle.time.specs.Kind.{kindBad}
 use Rattle.time.specs.Convert.{timescaleBad}
 use Rattle.time.proofs.Limits.{timescale-good}
+use Rattle.segmap.specs.declared.segment.Segment.{Segment}
 use Rattle.segmap.specs.Segment.{flatOf, mapBad}
 use Rattle.segmap.specs.Map.{mapOf, mapNumber}
+use Rattle.segmap.proofs.SegmentLaws.{flat-back}
 use Rattle.segmap.proofs.Built.{map-number, made-parts, made-timescale, made-good}
 use Rattle.assline.specs.declared.layout.Columns.{Columns}
 use Rattle.machine.specs.Session.{Gate, refuse, admit, gate, openBy, openSession}
@@ -25,9 +27,9 @@ use Rattle.foreign.specs.View.{view, stored}
 use Rattle.foreign.proofs.ViewLaws.{view-stored, padded-length}
 use Rattle.session.specs.declared.calling.Opened.{Opened}
 use Rattle.session.specs.Answer.{OpenAnswered, openOf}
-use Rattle.promise.specs.Demand.{Demand}
+use Rattle.promise.specs.Demand.{AllRight, saidIn, Demand}
 use Rattle.promise.specs.Runs.{Made, callsOf, Ran, outcome}
-use Rattle.promise.specs.Promise.{configOf, Kept, PromiseOpened, Holds, Promise}
+use Rattle.promise.specs.Promise.{configOf, Kept, PromiseOpened, PromiseRecords, Holds, Promise}
 use Rattle.promise.proofs.DemandText.{demand-traced}
 use Rattle.promise.proofs.RunLaws.{Whole, returnedAll, ran-trace, ran-outcome}
 
@@ -66,6 +68,12 @@ promise-opened kind T m o a z cs p r =
     subst (Demand (configOf kind T) m (callsOf cs)) (sym (ran-outcome (o .session) cs))
     (demand-traced view (configOf kind T) m (sym (open-number kind T m o a) ∙ z) (o .session) (open-view kind T m o a) (callsOf cs) p (returnedAll cs)
     (ran-trace (o .session) (open-whole kind T m o a) cs r))
+
+-- and of a map of records
+pub promise-records : PromiseRecords
+promise-records kind T xs o a z cs p r =
+    let d = promise-opened kind T (flatOf xs) o a z cs p r in
+    (d, subst (λ (m : List Segment). AllRight (configOf kind T) m (saidIn (configOf kind T) (callsOf cs) .parts)) (flat-back xs) (d .fates))
 
 -- ---- the map that is built opens with 0
 module _ (sheet list : List ℕ) (d l : ℕ) (bytes : (j : ℕ) → getD sheet j 0 < 256) (e : mapOf sheet list d l .number ≡ 0) where

@@ -19,13 +19,14 @@ use Prim.Native.Nat.{ℕ, _<_}
 use lib.ListN.{getD}
 use Rattle.time.specs.Kind.{kindBad}
 use mathlib.Core.Bool.{false}
+use Rattle.segmap.specs.declared.segment.Segment.{Segment}
 use Rattle.segmap.specs.Segment.{flatOf}
 use Rattle.segmap.specs.Map.{mapOf}
 use Rattle.event.specs.declared.setting.Config.{Config}
 use Rattle.machine.specs.Calls.{Proper}
 use Rattle.session.specs.declared.calling.Opened.{Opened}
 use Rattle.session.specs.Answer.{OpenAnswered}
-use Rattle.promise.specs.Demand.{Demand}
+use Rattle.promise.specs.Demand.{AllRight, saidIn, Demand}
 use Rattle.promise.specs.Runs.{Made, callsOf, Ran, outcome}
 
 abbrev pub configOf : (kind timescale : ℕ) → Config
@@ -39,6 +40,13 @@ Kept kind T m o = (cs : List Made) → Proper m (callsOf cs) → Ran (o .session
 -- through every map that open accepts
 abbrev pub PromiseOpened : Type 0
 PromiseOpened = (kind T : ℕ) (m : List ℕ) (o : Opened) → OpenAnswered kind T m o → o .number ≡ 0 → Kept kind T m o
+
+-- and of a map of records: its flat numbers are lent, and every caption has its true fate over the records themselves
+abbrev pub PromiseRecords : Type 0
+PromiseRecords =
+    (kind T : ℕ) (xs : List Segment) (o : Opened) → OpenAnswered kind T (flatOf xs) o → o .number ≡ 0
+    → (cs : List Made) → Proper (flatOf xs) (callsOf cs) → Ran (o .session) cs
+    → Demand (configOf kind T) (flatOf xs) (callsOf cs) (outcome (o .session) cs) × AllRight (configOf kind T) xs (saidIn (configOf kind T) (callsOf cs) .parts)
 
 -- a sheet and a trim list that are accepted, the map built from them in either direction, and a fresh session of either kind opened with it and the
 -- sheet's T: open answers 0, and the promise is kept
