@@ -44,10 +44,6 @@ put-append w v l = simp (append-assoc, length-append, drop-drop)
 pub length-tail : (a : ℕ) (xs : List ℕ) → length (take (length xs - a) (drop a xs)) ≡ length xs - a
 length-tail a xs = simp (length-take, length-drop) (omega arith)
 
--- the rest from a on has room for n, where the whole has room for a and n more
-pub rest-room : (a n : ℕ) (xs : List ℕ) → a + n ≤ length xs → n ≤ length (take (length xs - a) (drop a xs))
-rest-room a n xs h = simp (length-take, length-drop) (omega arith)
-
 pub take-put : (w l : List ℕ) → take (length w) (put w l) ≡ w
 unfolding put
 take-put w l = take-append-seam w (drop (length w) l)

@@ -64,9 +64,6 @@ place-none s t i k inv h = sym (inv ∙ ap (λ (y : List (List ℕ)). placeIn y 
 pub line-fits : (t : List ℕ) (n : ℕ) → n ≡ lineLength t → n ≤ length t
 line-fits t n e = omega (arith, line-le t)
 
-pub line-pos : (t : List ℕ) (n : ℕ) → n ≡ lineLength t → 0 < length t → 0 < n
-line-pos t n e h = omega (arith, line-some t h)
-
 pub rest-less : (t u : List ℕ) (n : ℕ) → n ≡ lineLength t → 0 < length t → u ≡ drop n t → length u < length t
 rest-less t u n e h d = let a = line-some t h in subst (λ (x : List ℕ). length x < length t) (sym d) (simp length-drop (omega arith))
 

@@ -3,13 +3,11 @@ pub mod CutLaws
 pub mod OpenLines
 pub mod Bytes
 pub mod Resume
-pub mod ByLines
 pub mod Laws
 pub mod Native
 pub mod Lists
 pub mod Refine
 pub mod Numbers
 pub mod Empty
-pub mod Whole
 pub mod Room
 pub mod Keeps

@@ -130,10 +130,6 @@ up-past p s h =
     let b : length (take (first p s) s) ≡ first p s = length-take-le (first p s) s (omega arith) in
     omega arith
 
-pub up-le : (p s : List ℕ) → length (upTo p s) ≤ length s
-unfolding upTo
-up-le p s = simp length-take (omega arith)
-
 -- the lines of s are s
 joined-onto : (b : ℕ) (ls : List (List ℕ)) → concat (ontoFirst b ls) ≡ b ∷ concat ls
 joined-onto b [] = refl

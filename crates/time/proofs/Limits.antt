@@ -260,15 +260,6 @@ module _ (kind T value : ℕ) (k : kindBad kind ≡ false) (t : timescaleBad T �
   pub end-good : value ≤ coreTicks → endWithin kind T value ≡ endUnits T (unitsOf kind) value
   end-good h = end-within (good coreTicks h)
 
--- whatever is converted, the value is a word
-pub ticks-word : (kind T units : ℕ) → ticksWithin kind T units < 2 ^ 64
-unfolding ticksWithin ticksOf
-ticks-word kind T units = go (coreHolds kind T units coreUnits) refl
-  where
-    go : (b : Bool) → coreHolds kind T units coreUnits ≡ b → cond b (units * T / unitsOf kind) 0 < 2 ^ 64
-    go true e = omega (arith, units-fit kind T units (unitsOf kind) true refl refl (sym e) .1 .1 .1)
-    go false e = omega arith
-
 pub start-word : (kind T ticks : ℕ) → startWithin kind T ticks < 2 ^ 64
 unfolding startWithin startUnits
 start-word kind T ticks = go (coreHolds kind T ticks coreTicks) refl
