@@ -260,6 +260,7 @@ module _ (kind T value : ℕ) (k : kindBad kind ≡ false) (t : timescaleBad T �
   pub end-good : value ≤ coreTicks → endWithin kind T value ≡ endUnits T (unitsOf kind) value
   end-good h = end-within (good coreTicks h)
 
+-- whatever is converted, the value is a word
 pub start-word : (kind T ticks : ℕ) → startWithin kind T ticks < 2 ^ 64
 unfolding startWithin startUnits
 start-word kind T ticks = go (coreHolds kind T ticks coreTicks) refl
