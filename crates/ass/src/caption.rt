@@ -174,12 +174,12 @@ fn settle(
     }
 }
 
-// A caption with its fields: both times must read.
+// A caption with its fields, on line n: both times must read.
 fn timed(
     config: Config,
     map: &[u64],
     columns: Columns,
-    line: u64,
+    n: u64,
     text: &[u8],
     word: &[u8],
     rest: &[u8],
@@ -187,7 +187,7 @@ fn timed(
     warnings: &mut [u64],
 ) -> Told
     requires { ⌜ (3 * length (now text) ≤ length (now out)) × ((4 ≤ length (now warnings)) × ((1 ≤ length (now word)) × (length (now word) + length (now rest) + length (terminatorOf (now text)) ≤ length (now text)))) ⌝ }
-    ensures { λ t. ⌜ Tells (answerTo config (segmentsOf (now (map .entry))) (timesSay columns line (now (word .entry)) (fields (columns .columns) (now (rest .entry))) (terminatorOf (now (text .entry))) (timeIn 0 (fieldAt (columns .start) (fields (columns .columns) (now (rest .entry))))) (timeIn 0 (fieldAt (columns .«end») (fields (columns .columns) (now (rest .entry))))))) t (now (out .entry)) (now (out .exit)) (now (warnings .entry)) (now (warnings .exit)) ⌝ }
+    ensures { λ t. ⌜ Tells (answerTo config (segmentsOf (now (map .entry))) (timesSay columns n (now (word .entry)) (fields (columns .columns) (now (rest .entry))) (terminatorOf (now (text .entry))) (timeIn 0 (fieldAt (columns .start) (fields (columns .columns) (now (rest .entry))))) (timeIn 0 (fieldAt (columns .«end») (fields (columns .columns) (now (rest .entry))))))) t (now (out .entry)) (now (out .exit)) (now (warnings .entry)) (now (warnings .exit)) ⌝ }
 {
     let count = columns.columns;
     let Time::At(start, start_mark) = time::read_time(field(rest, count, columns.start), 0) else {
@@ -202,19 +202,8 @@ fn timed(
         stop,
         stop_mark,
     };
-    let ending = text::terminator_of(text);
-    settle(
-        config,
-        map,
-        columns,
-        old,
-        line,
-        word,
-        rest,
-        ending,
-        out,
-        warnings,
-    )
+    let end = text::terminator_of(text);
+    settle(config, map, columns, old, n, word, rest, end, out, warnings)
 }
 
 // A caption line that begins with `word`.
@@ -258,7 +247,7 @@ fn event_line(
     ensures told { λ r. ⌜ Tells (answerTo config (segmentsOf (now (map .entry))) (wordSays columns n (now (text .entry)) (textOf (now (text .entry))))) (r .told) (now (out .entry)) (now (out .exit)) (now (warnings .entry)) (now (warnings .exit)) ⌝ }
     ensures columns { λ r. ⌜ r .columns ≡ columnsAfter columns (wordSays columns n (now (text .entry)) (textOf (now (text .entry)))) ⌝ }
 {
-    let line = n as u64 + 1;
+    let at = n as u64 + 1;
     let t = text::text_of(text);
     if text::starts_with(t, b"Format:") {
         let told = stayed(text, out);
@@ -269,20 +258,11 @@ fn event_line(
         };
     }
     if text::starts_with(t, b"Dialogue:") {
-        let told = caption(
-            config,
-            map,
-            columns,
-            line,
-            text,
-            b"Dialogue:",
-            out,
-            warnings,
-        );
+        let told = caption(config, map, columns, at, text, b"Dialogue:", out, warnings);
         return LineTold { told, columns };
     }
     if text::starts_with(t, b"Comment:") {
-        let told = caption(config, map, columns, line, text, b"Comment:", out, warnings);
+        let told = caption(config, map, columns, at, text, b"Comment:", out, warnings);
         return LineTold { told, columns };
     }
     let told = stayed(text, out);

@@ -42,7 +42,7 @@ use Rattle.session.specs.declared.calling.Opened.{Opened}
 use Rattle.session.specs.declared.running.Going.{Going}
 use Rattle.session.specs.Taken.{Ready, Below}
 use Rattle.session.specs.Stand.{Holds, Shows, Opening, resumeAt}
-use Rattle.session.specs.Answer.{feedCall, finishCall, answerOf, gateOf, gateNumber, lengthsBad, refusalOf, nextBy, nextOf, Answered, endedSession, beginAt, OpenAnswered, openOf}
+use Rattle.session.specs.Answer.{feedCall, finishCall, answerOf, gateOf, gateNumber, lengthsBad, refusalOf, nextBy, nextOf, Answered, endedSession, unchangedFed, endedFed, heldFed, beginAt, OpenAnswered, openOf}
 
 -- ---- the gate
 pub gate-passed : (f e m a : Bool) → gateNumber (gate f e m a) ≡ 0 → (f ≡ false) × (e ≡ false) × (m ≡ false) × (a ≡ false)
@@ -173,23 +173,33 @@ no-warnings : 0 ≡ length (placesOf (warningsOf []))
 unfolding warningsOf placesOf
 no-warnings = refl
 
-pub answered-refused : (s : Session) (x : Call) (out places : List ℕ) (n : ℕ) → n ≡ gateNumber (gateOf s x) → (n ≡ 0 → ⊥)
-    → Answered s x (record { number = n; written = 0; warned = 0; session = s }) out out places places
-answered-refused s x out places n e z = go (gateOf s x) refl
+answered-refused : (s : Session) (x : Call) (out places : List ℕ) (n : ℕ) (r : Fed) → n ≡ gateNumber (gateOf s x) → (n ≡ 0 → ⊥) → r ≡ unchangedFed n s
+    → Answered s x r out out places places
+answered-refused s x out places n r e z f = subst (λ (y : Fed). Answered s x y out out places places) (sym f) (go (gateOf s x) refl)
   where
-    go : (g : Gate) → gateOf s x ≡ g → Answered s x (record { number = n; written = 0; warned = 0; session = s }) out out places places
+    go : (g : Gate) → gateOf s x ≡ g → Answered s x (unchangedFed n s) out out places places
     go (refuse k) q =
         by-gate s x _ out out places places (refuse k) q
         (record { number = e ∙ ap gateNumber q; written = no-output; warned = no-warnings; session = refl; text = nothing-written out; warnings = nothing-warned places })
     go admit q = absurd (z (e ∙ ap gateNumber q))
 
-pub feed-gate : (s : Session) (map piece : List ℕ) (o w : ℕ) → refusalOf s map (length piece) o w ≡ gateNumber (gateOf s (feedCall map piece o w))
+feed-gate : (s : Session) (map piece : List ℕ) (o w : ℕ) → refusalOf s map (length piece) o w ≡ gateNumber (gateOf s (feedCall map piece o w))
 unfolding refusalOf gateOf
 feed-gate s map piece o w = refl
 
-pub finish-gate : (s : Session) (map : List ℕ) (o w : ℕ) → refusalOf s map 0 o w ≡ gateNumber (gateOf s (finishCall map o w))
+finish-gate : (s : Session) (map : List ℕ) (o w : ℕ) → refusalOf s map 0 o w ≡ gateNumber (gateOf s (finishCall map o w))
 unfolding refusalOf gateOf
 finish-gate s map o w = refl
+
+pub feed-refused : (s : Session) (map piece out places : List ℕ) (n : ℕ) (r : Fed) → n ≡ refusalOf s map (length piece) (length out) (length places) → (n ≡ 0 → ⊥)
+    → r ≡ unchangedFed n s → Answered s (feedCall map piece (length out) (length places)) r out out places places
+feed-refused s map piece out places n r e z f =
+    answered-refused s (feedCall map piece (length out) (length places)) out places n r (e ∙ feed-gate s map piece (length out) (length places)) z f
+
+pub finish-refused : (s : Session) (map out places : List ℕ) (n : ℕ) (r : Fed) → n ≡ refusalOf s map 0 (length out) (length places) → (n ≡ 0 → ⊥)
+    → r ≡ unchangedFed n s → Answered s (finishCall map (length out) (length places)) r out out places places
+finish-refused s map out places n r e z f =
+    answered-refused s (finishCall map (length out) (length places)) out places n r (e ∙ finish-gate s map (length out) (length places)) z f
 
 feed-admits : (s : Session) (map piece : List ℕ) (o w : ℕ) → Passed s map (length piece) o w → gateOf s (feedCall map piece o w) ≡ admit
 unfolding gateOf
@@ -209,10 +219,11 @@ finish-admits s map o w p =
     let d = p .lengths in
     rw (a, b, c, d)
 
-pub answered-empty : (s : Session) (map piece out places : List ℕ) → Passed s map (length piece) (length out) (length places) → length piece ≡ 0
-    → Answered s (feedCall map piece (length out) (length places)) (record { number = 0; written = 0; warned = 0; session = s }) out out places places
-answered-empty s map [] out places p e =
-    by-gate s (feedCall map [] (length out) (length places)) _ out out places places admit (feed-admits s map [] (length out) (length places) p)
+pub answered-empty : (s : Session) (map piece out places : List ℕ) (r : Fed) → Passed s map (length piece) (length out) (length places) → length piece ≡ 0
+    → r ≡ unchangedFed 0 s → Answered s (feedCall map piece (length out) (length places)) r out out places places
+answered-empty s map [] out places r p e f =
+    subst (λ (y : Fed). Answered s (feedCall map [] (length out) (length places)) y out out places places) (sym f)
+    (by-gate s (feedCall map [] (length out) (length places)) (unchangedFed 0 s) out out places places admit (feed-admits s map [] (length out) (length places) p)
     (record {
       number = refl;
       written = rw emits-none no-output;
@@ -220,8 +231,8 @@ answered-empty s map [] out places p e =
       session = refl;
       text = rw emits-none (nothing-written out);
       warnings = rw emits-none (nothing-warned places);
-    })
-answered-empty s map (b ∷ piece) out places p e = absurd (not-suc-le-zero (le-of-eq e))
+    }))
+answered-empty s map (b ∷ piece) out places r p e f = absurd (not-suc-le-zero (le-of-eq e))
 
 -- ---- the session afterwards
 -- the run that the code makes is the model's
@@ -230,6 +241,10 @@ same-run s h =
     ap (λ (x : List ℕ). going (record { columns = s .columns; block = closedLines x }) (s .lines) (unfinished x) []) (sym (held-plain (s .«held_len») (s .held) h))
 
 -- after a fault or a finish
+pub ended-is : (c : Config) (t : ℕ) (r : Going) (z : Session) → z ≡ endedSession c (r .number) t (r .counts)
+    → _≡_ {A = Fed} (record { number = r .number; written = r .written; warned = r .warned; session = z }) (endedFed c t r)
+ended-is c t r z e = λ i. record { number = r .number; written = r .written; warned = r .warned; session = e i }
+
 dead-stored : (s : Session) (q k : ℕ) (map : List ℕ) (ps : List Part) (y : Counts) → y ≡ countAll (s .counts) (emitted (s .config) map ps)
     → endedSession (s .config) k q y ≡ stored (settle kit (view s) q map (stopped k ps) .session)
 unfolding stored padded
@@ -254,28 +269,13 @@ pad-back n h held zs l e b z =
     let m : length (take (mostHeld - n) (drop n held)) ≡ mostHeld - n = rw (length-take, k) (omega arith) in
     rw (b, z, m, drop-of-length-le (drop n held) (le-of-eq k), append-nil, e)
 
--- the session that a piece leaves
-abbrev pub nextFed : Session → (q : ℕ) → Going → (held : List ℕ) → Session
-nextFed s q r held =
-    record {
-      config = s .config;
-      ended = false;
-      outcome = s .outcome;
-      taken = q;
-      lines = r .lines;
-      counts = r .counts;
-      columns = r .columns;
-      «held_len» = r .held;
-      held = held;
-    }
-
 abbrev pub cleared : Going → (held zs : List ℕ) → List ℕ
 cleared r held zs = take (r .held) held ++ (zs ++ drop (mostHeld - r .held) (drop (r .held) held))
 
 live-stored : (s : Session) (q n : ℕ) (h map : List ℕ) (ps : List Part) (st : State) (r : Going) (held zs : List ℕ) → Holds st n h r held
     → r .counts ≡ countAll (s .counts) (emitted (s .config) map ps) → length held ≡ mostHeld
     → zs ≡ replicate (length (take (mostHeld - r .held) (drop (r .held) held))) 0
-    → nextFed s q r (cleared r held zs) ≡ stored (settle kit (view s) q map (going st n h ps) .session)
+    → heldFed (s .config) (s .outcome) q r (cleared r held zs) .session ≡ stored (settle kit (view s) q map (going st n h ps) .session)
 unfolding stored
 live-stored s q n h map ps st r held zs d e l z =
     let p = pad-back (r .held) (concat (st .block) ++ h) held zs l (d .count) (d .bytes) z in
@@ -299,24 +299,22 @@ module _ (s : Session) (map : List ℕ) (b : ℕ) (piece out places : List ℕ) 
   abbrev q : ℕ
   q = s .taken + length (b ∷ piece)
 
-  fed-dead : (y : Run State) → Shows (s .config) map (s .counts) y out places r held out′ places′ → (r .number ≡ 0 → ⊥) → (z : Session)
-      → z ≡ endedSession (s .config) (r .number) q (r .counts)
-      → By admit s x (settle kit (view s) q map y) (record { number = r .number; written = r .written; warned = r .warned; session = z }) out out′ places places′
-  fed-dead (going st n h ps) sh e z f = absurd (e (sh .number))
-  fed-dead (stopped k ps) sh e z f =
+  fed-dead : (y : Run State) → Shows (s .config) map (s .counts) y out places r held out′ places′ → (r .number ≡ 0 → ⊥)
+      → By admit s x (settle kit (view s) q map y) (endedFed (s .config) q r) out out′ places places′
+  fed-dead (going st n h ps) sh e = absurd (e (sh .number))
+  fed-dead (stopped k ps) sh e =
       record {
         number = sh .number;
         written = sh .wrote .written;
         warned = sh .wrote .warned;
-        session = f ∙ ap (λ (j : ℕ). endedSession (s .config) j q (r .counts)) (sh .number) ∙ dead-stored s q k map ps (r .counts) (sh .counts);
+        session = ap (λ (j : ℕ). endedSession (s .config) j q (r .counts)) (sh .number) ∙ dead-stored s q k map ps (r .counts) (sh .counts);
         text = sh .wrote .text;
         warnings = sh .wrote .warnings;
       }
 
   fed-live : (y : Run State) → ByFault y → Shows (s .config) map (s .counts) y out places r held out′ places′ → r .number ≡ 0 → (zs : List ℕ) → length held ≡ mostHeld
       → zs ≡ replicate (length (take (mostHeld - r .held) (drop (r .held) held))) 0
-      → By admit s x (settle kit (view s) q map y)
-      (record { number = 0; written = r .written; warned = r .warned; session = nextFed s q r (cleared r held zs) }) out out′ places places′
+      → By admit s x (settle kit (view s) q map y) (heldFed (s .config) (s .outcome) q r (cleared r held zs)) out out′ places places′
   fed-live (stopped k ps) f sh e zs l z = absurd (eqb-false k 0 f (sym (sh .number) ∙ e))
   fed-live (going st n h ps) f sh e zs l z =
       record {
@@ -339,25 +337,27 @@ module _ (s : Session) (map out places : List ℕ) (l : length (s .held) ≡ mos
 
   pub answered-dead : (piece : List ℕ) → Passed s map (length piece) (length out) (length places) → (length piece ≡ 0 → ⊥)
       → Shows (s .config) map (st .counts) (run (machineOf (s .config .kind)) (resumeAt st (s .held)) piece) out places r held out′ places′
-      → (r .number ≡ 0 → ⊥) → (z : Session) → z ≡ endedSession (s .config) (r .number) (s .taken + length piece) (r .counts)
-      → Answered s (feedCall map piece (length out) (length places)) (record { number = r .number; written = r .written; warned = r .warned; session = z }) out out′ places places′
+      → (r .number ≡ 0 → ⊥) → (z : Fed) → z ≡ endedFed (s .config) (s .taken + length piece) r
+      → Answered s (feedCall map piece (length out) (length places)) z out out′ places places′
   answered-dead [] p e sh n z f = absurd (e refl)
   answered-dead (b ∷ piece) p e sh n z f =
-      by-gate s (feedCall map (b ∷ piece) (length out) (length places)) _ out out′ places places′ admit (feed-admits s map (b ∷ piece) (length out) (length places) p)
+      subst (λ (y : Fed). Answered s (feedCall map (b ∷ piece) (length out) (length places)) y out out′ places places′) (sym f)
+      (by-gate s (feedCall map (b ∷ piece) (length out) (length places)) _ out out′ places places′ admit (feed-admits s map (b ∷ piece) (length out) (length places) p)
       (fed-dead s map b piece out places p r held out′ places′ (run (machineOf (s .config .kind)) (resume kit (view s)) (b ∷ piece))
-      (own-run (length (b ∷ piece)) (λ (q : Run State). run (machineOf (s .config .kind)) q (b ∷ piece)) p sh) n z f)
+      (own-run (length (b ∷ piece)) (λ (q : Run State). run (machineOf (s .config .kind)) q (b ∷ piece)) p sh) n))
 
   pub answered-live : (piece zs : List ℕ) → Passed s map (length piece) (length out) (length places) → (length piece ≡ 0 → ⊥)
       → Shows (s .config) map (st .counts) (run (machineOf (s .config .kind)) (resumeAt st (s .held)) piece) out places r held out′ places′
       → r .number ≡ 0 → length held ≡ mostHeld → zs ≡ replicate (length (take (mostHeld - r .held) (drop (r .held) held))) 0
-      → Answered s (feedCall map piece (length out) (length places))
-      (record { number = 0; written = r .written; warned = r .warned; session = nextFed s (s .taken + length piece) r (cleared r held zs) }) out out′ places places′
-  answered-live [] zs p e sh n h z = absurd (e refl)
-  answered-live (b ∷ piece) zs p e sh n h z =
-      by-gate s (feedCall map (b ∷ piece) (length out) (length places)) _ out out′ places places′ admit (feed-admits s map (b ∷ piece) (length out) (length places) p)
+      → (y : Fed) → y ≡ heldFed (s .config) (s .outcome) (s .taken + length piece) r (cleared r held zs)
+      → Answered s (feedCall map piece (length out) (length places)) y out out′ places places′
+  answered-live [] zs p e sh n h z y f = absurd (e refl)
+  answered-live (b ∷ piece) zs p e sh n h z y f =
+      subst (λ (y : Fed). Answered s (feedCall map (b ∷ piece) (length out) (length places)) y out out′ places places′) (sym f)
+      (by-gate s (feedCall map (b ∷ piece) (length out) (length places)) _ out out′ places places′ admit (feed-admits s map (b ∷ piece) (length out) (length places) p)
       (fed-live s map b piece out places p r held out′ places′ (run (machineOf (s .config .kind)) (resume kit (view s)) (b ∷ piece))
       (run-fault (machineOf (s .config .kind)) (resume kit (view s)) (b ∷ piece) tt)
-      (own-run (length (b ∷ piece)) (λ (q : Run State). run (machineOf (s .config .kind)) q (b ∷ piece)) p sh) n zs h z)
+      (own-run (length (b ∷ piece)) (λ (q : Run State). run (machineOf (s .config .kind)) q (b ∷ piece)) p sh) n zs h z))
 
 -- ---- at the end of a piece at most 8,192 bytes are held
 fit-small : (kind : ℕ) (e : kindBad kind ≡ false) (t : State) → lawful kind e .Fit t → length (concat (t .block)) ≤ mostBlock
@@ -466,30 +466,28 @@ opened-fresh kind T m n k e f g =
 
 -- ---- finish
 module _ (s : Session) (map out places : List ℕ) (p : Passed s map 0 (length out) (length places)) (r : Going) (held out′ places′ : List ℕ) where
-  finished-by : (y : Run State) → Stopped (machineOf (s .config .kind)) y → Shows (s .config) map (s .counts) y out places r held out′ places′ → (z : Session)
-      → z ≡ endedSession (s .config) (r .number) (s .taken) (r .counts)
-      → By admit s (finishCall map (length out) (length places)) (settle kit (view s) (s .taken) map y)
-      (record { number = r .number; written = r .written; warned = r .warned; session = z }) out out′ places places′
-  finished-by (going st n h ps) e sh z f = absurd e
-  finished-by (stopped k ps) e sh z f =
+  finished-by : (y : Run State) → Stopped (machineOf (s .config .kind)) y → Shows (s .config) map (s .counts) y out places r held out′ places′
+      → By admit s (finishCall map (length out) (length places)) (settle kit (view s) (s .taken) map y) (endedFed (s .config) (s .taken) r) out out′ places places′
+  finished-by (going st n h ps) e sh = absurd e
+  finished-by (stopped k ps) e sh =
       record {
         number = sh .number;
         written = sh .wrote .written;
         warned = sh .wrote .warned;
-        session = f ∙ ap (λ (j : ℕ). endedSession (s .config) j (s .taken) (r .counts)) (sh .number) ∙ dead-stored s (s .taken) k map ps (r .counts) (sh .counts);
+        session = ap (λ (j : ℕ). endedSession (s .config) j (s .taken) (r .counts)) (sh .number) ∙ dead-stored s (s .taken) k map ps (r .counts) (sh .counts);
         text = sh .wrote .text;
         warnings = sh .wrote .warnings;
       }
 
   pub answered-finished : length (s .held) ≡ mostHeld → (st : Going) → st ≡ beginAt s
       → Shows (s .config) map (st .counts) (finishRun (machineOf (s .config .kind)) (resumeAt st (s .held))) out places r held out′ places′
-      → (z : Session) → z ≡ endedSession (s .config) (r .number) (s .taken) (r .counts)
-      → Answered s (finishCall map (length out) (length places)) (record { number = r .number; written = r .written; warned = r .warned; session = z }) out out′ places places′
+      → (z : Fed) → z ≡ endedFed (s .config) (s .taken) r → Answered s (finishCall map (length out) (length places)) z out out′ places places′
   answered-finished l st e sh z f =
-      by-gate s (finishCall map (length out) (length places)) _ out out′ places places′ admit (finish-admits s map (length out) (length places) p)
+      subst (λ (y : Fed). Answered s (finishCall map (length out) (length places)) y out out′ places places′) (sym f)
+      (by-gate s (finishCall map (length out) (length places)) _ out out′ places places′ admit (finish-admits s map (length out) (length places) p)
       (finished-by (finishRun (machineOf (s .config .kind)) (resume kit (view s)))
       (finish-stops (machineOf (s .config .kind)) (restOf (s .lines) (kit .open-line (view s .held))) (kit .state (view s .known) (view s .held)) (s .lines) (kit .open-line (view s .held)) [])
-      (own-run s map out places l st e r held out′ places′ 0 (λ (q : Run State). finishRun (machineOf (s .config .kind)) q) p sh) z f)
+      (own-run s map out places l st e r held out′ places′ 0 (λ (q : Run State). finishRun (machineOf (s .config .kind)) q) p sh)))
 
 -- ---- where a call begins
 pub begin-is : (s : Session) (front : List ℕ) (e : ℕ) → front ≡ take (s .«held_len») (s .held) → e ≡ length (concat (closedLines front))

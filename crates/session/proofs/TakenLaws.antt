@@ -42,7 +42,7 @@ use Rattle.machine.proofs.Resume.{fault-number}
 use Rattle.kinds.specs.Takes.{State, blankState, ofLine, lineTakes, ofBlock, closes, blockTakes, takes}
 use Rattle.session.specs.declared.taking.Taken.{Taken}
 use Rattle.session.specs.declared.taking.Ended.{Ended}
-use Rattle.session.specs.Taken.{Ready, Parsed, countBy, quietLine, Wrote, Ends, Done}
+use Rattle.session.specs.Taken.{Ready, Parsed, countBy, quietLine, quietEnd, blankLine, Wrote, Ends, Done}
 
 -- ---- one more caption
 module _ (t : Counts) (k : Counted) where
@@ -98,11 +98,15 @@ tells-fits a r o o′ w w′ h p q =
 pub quiet-small : (r : Taken) (k : ℕ) (a : Bool) (t : Counts) (c : Columns) (x y : ℕ) → r ≡ quietLine k a t c → (r .skip ≡ 0) × (r .written ≤ x) × (r .warned ≤ y)
 quiet-small r k a t c x y e = rw e (refl, omega arith, omega arith)
 
+pub still-small : (r : Ended) (k : ℕ) (t : Counts) (x y : ℕ) → r ≡ quietEnd k t → (r .written ≤ x) × (r .warned ≤ y)
+still-small r k t x y e = rw e (omega arith, omega arith)
+
 -- a block's end, with a blank line behind it, fits
-pub blank-fits : (block l o o′ : List ℕ) (i j : ℕ) → length o′ ≡ length o → 3 * (length block + length l) ≤ length o → i ≤ 3 * length block → j ≡ placeAfter i l o′ → j ≤ length o
-blank-fits block l o o′ i j k h f e =
-    let r : i + length l ≤ length o′ = omega arith in
-    omega (arith, e ∙ after-yes i l o′ r)
+pub blank-fits : (block l o o′ : List ℕ) (y : ℕ) (c : Columns) (x : Ended) (j : ℕ) (r : Taken) → length o′ ≡ length o → 3 * (length block + length l) ≤ length o
+    → x .written ≤ 3 * length block → x .warned ≤ y → j ≡ placeAfter (x .written) l o′ → r ≡ blankLine c x j → (r .skip ≡ 0) × (r .written ≤ length o) × (r .warned ≤ y)
+blank-fits block l o o′ y c x j r k h f g e d =
+    let room : x .written + length l ≤ length o′ = omega arith in
+    rw d (refl, omega (arith, e ∙ after-yes (x .written) l o′ room), g)
 
 module _ (c : Config) (m : List ℕ) where
   counts-none : (t : Counts) → t ≡ countAll t (emitted c m [])
@@ -212,8 +216,8 @@ module _ (c : Config) (m : List ℕ) where
     abbrev pub BlockEnds : Ended → (o o′ w w′ : List ℕ) → Type 0
     BlockEnds r o o′ w w′ = Ends c m (closes srt blankState n (linesOf b) []) t r o o′ w w′
 
-    pub end-none : (o w : List ℕ) → length b ≡ 0 → BlockEnds (record { number = 0; counts = t; written = 0; warned = 0 }) o o w w
-    end-none o w h = rw (lines-end b (omega arith)) (record { number = refl; counts = counts-none t; wrote = wrote-none o w })
+    pub end-none : (r : Ended) (o w : List ℕ) → length b ≡ 0 → r ≡ quietEnd 0 t → BlockEnds r o o w w
+    end-none r o w h e = rw (lines-end b (omega arith), e) (record { number = refl; counts = counts-none t; wrote = wrote-none o w })
 
     -- a block that has a line is read
     closes-some : (s : State) (more : List Part) → 0 < length b
@@ -229,7 +233,7 @@ module _ (c : Config) (m : List ℕ) where
         ∙ ap (λ (j : ℕ). blockAnswer c (segmentsOf m) (blockSays srt j (linesOf b))) (f ∙ ap (λ (j : ℕ). suc n - j) e)) g
 
     block-fault : (y : BlockSays) (x : Told) (o o′ w w′ : List ℕ) → Tells (blockAnswer c (segmentsOf m) y) x o o′ w w′ → (x .number ≡ 0 → ⊥)
-        → Ends c m (ofBlock blankState [] y) t (record { number = x .number; counts = t; written = 0; warned = 0 }) o o′ w w′
+        → Ends c m (ofBlock blankState [] y) t (quietEnd (x .number) t) o o′ w w′
     block-fault (blockFaulty f) x o o′ w w′ g z = record { number = g .number; counts = counts-none t; wrote = refused-wrote (faultNumber f) x o o′ w w′ g }
     block-fault (blockSaid p) x o o′ w w′ g z = absurd (z (g .number))
 
@@ -244,9 +248,9 @@ module _ (c : Config) (m : List ℕ) where
       long : 0 < length b
       long = omega (arith, some)
 
-      pub end-fault : (x .number ≡ 0 → ⊥) → BlockEnds (record { number = x .number; counts = t; written = 0; warned = 0 }) o o′ w w′
-      end-fault z =
-          rw (closes-some blankState [] long)
+      pub end-fault : (r : Ended) → (x .number ≡ 0 → ⊥) → r ≡ quietEnd (x .number) t → BlockEnds r o o′ w w′
+      end-fault r z v =
+          rw (closes-some blankState [] long, v)
           (block-fault (blockSays srt (suc n - lineCount (linesOf b)) (linesOf b)) x o o′ w w′ (block-tells x k first o o′ w w′ d h i e f g) z)
 
       pub end-said : (q : Counts) → x .number ≡ 0 → q ≡ countBy (x .counted) t → BlockEnds (record { number = 0; counts = q; written = x .written; warned = x .warned }) o o′ w w′
@@ -325,12 +329,9 @@ module _ (c : Config) (m : List ℕ) where
     unfolding blockTakes
     srt-22 e r o o′ w w′ h i g z q s a b p = rw (h, i) (blank-fault s (s .block) e r o o′ w w′ a (block-ends s e o o′ w w′ b p g) z q)
 
-    abbrev pub blankLine : Ended → (j : ℕ) → Taken
-    blankLine e j = record { number = 0; skip = 0; added = false; counts = e .counts; columns = k; written = j; warned = e .warned }
-
     blank-said : (s : State) (ls : List (List ℕ)) (e : Ended) (j : ℕ) (o o′ y w w′ : List ℕ) → k ≡ s .columns → Ends c m (closes srt blankState n ls []) t e o o′ w w′
         → e .number ≡ 0 → e .written + length l ≤ length o → j ≡ placeAfter (e .written) l o′ → y ≡ placedAt (e .written) l o′
-        → Done c m s l (closes srt s n ls (stays l ∷ [])) t (blankLine e j) o y w w′
+        → Done c m s l (closes srt s n ls (stays l ∷ [])) t (blankLine k e j) o y w w′
     blank-said s [] e j o o′ y w w′ a g z r p q =
         record {
           number = refl;
@@ -341,7 +342,7 @@ module _ (c : Config) (m : List ℕ) where
         }
     blank-said s (x ∷ ls) e j o o′ y w w′ a g z r p q = go (blockSays srt (suc n - lineCount (x ∷ ls)) (x ∷ ls)) g
       where
-        go : (b : BlockSays) → Ends c m (ofBlock blankState [] b) t e o o′ w w′ → Done c m s l (ofBlock s (stays l ∷ []) b) t (blankLine e j) o y w w′
+        go : (b : BlockSays) → Ends c m (ofBlock blankState [] b) t e o o′ w w′ → Done c m s l (ofBlock s (stays l ∷ []) b) t (blankLine k e j) o y w w′
         go (blockFaulty f) g = absurd (fault-some f (sym (g .number) ∙ z))
         go (blockSaid v) g =
             record {
@@ -352,12 +353,12 @@ module _ (c : Config) (m : List ℕ) where
               block = λ _. refl;
             }
 
-    pub srt-blank : (e : Ended) (j : ℕ) (o o′ y w w′ : List ℕ) → utf8 l ≡ true → blankIn 1 l ≡ true → BlockEnds n t block e o o′ w w′ → e .number ≡ 0
+    pub srt-blank : (e : Ended) (j : ℕ) (r : Taken) (o o′ y w w′ : List ℕ) → utf8 l ≡ true → blankIn 1 l ≡ true → BlockEnds n t block e o o′ w w′ → e .number ≡ 0
         → 3 * (length block + length l) ≤ length o → e .written ≤ 3 * length block → j ≡ placeAfter (e .written) l o′ → y ≡ placedAt (e .written) l o′
-        → SrtDone (blankLine e j) o y w w′
+        → r ≡ blankLine k e j → SrtDone r o y w w′
     unfolding blockTakes
-    srt-blank e j o o′ y w w′ h i g z r f p q s a b v =
-        rw (h, i) (blank-said s (s .block) e j o o′ y w w′ a (block-ends s e o o′ w w′ b v g) z (omega arith) p q)
+    srt-blank e j r o o′ y w w′ h i g z room f p q d s a b v =
+        rw (h, i, d) (blank-said s (s .block) e j o o′ y w w′ a (block-ends s e o o′ w w′ b v g) z (omega arith) p q)
 
     pub srt-21 : (r : Taken) (o w : List ℕ) → utf8 l ≡ true → blankIn 1 l ≡ false → 4096 < length block + length l → r ≡ quietLine 21 false t k → SrtDone r o o w w
     unfolding blockTakes

@@ -1,6 +1,6 @@
 -- What open, feed and finish answer: number, lengths, the whole session, and what stands in the lent output and places afterwards.
 use mathlib.Core.Path.{_≡_}
-use mathlib.Core.Bool.{Bool, true, _||_}
+use mathlib.Core.Bool.{Bool, true, false, _||_}
 use mathlib.Core.List.{List, [], _∷_}
 use Prim.Native.Nat.{ℕ, _+_}
 use lib.Dec.{ltb}
@@ -95,6 +95,35 @@ endedSession c k t n =
       columns = noColumns;
       «held_len» = 0;
       held = replicate mostHeld 0;
+    }
+
+-- the session as it came, with a number
+abbrev pub unchangedFed : ℕ → Session → Fed
+unchangedFed k s = record { number = k; written = 0; warned = 0; session = s }
+
+-- the text ended, as the loop's numbers stand
+abbrev pub endedFed : Config → (taken : ℕ) → Going → Fed
+endedFed c t r = record { number = r .number; written = r .written; warned = r .warned; session = endedSession c (r .number) t (r .counts) }
+
+-- the text goes on, with what is held
+abbrev pub heldFed : Config → (outcome taken : ℕ) → Going → (held : List ℕ) → Fed
+heldFed c k t r held =
+    record {
+      number = 0;
+      written = r .written;
+      warned = r .warned;
+      session =
+          record {
+            config = c;
+            ended = false;
+            outcome = k;
+            taken = t;
+            lines = r .lines;
+            counts = r .counts;
+            columns = r .columns;
+            «held_len» = r .held;
+            held = held;
+          };
     }
 
 -- where a call begins

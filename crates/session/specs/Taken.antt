@@ -66,6 +66,14 @@ countBy Clipped c = record { shifted = c .shifted; clipped = suc (c .clipped); d
 abbrev pub quietLine : ℕ → (added : Bool) → Counts → Columns → Taken
 quietLine k a t c = record { number = k; skip = 0; added = a; counts = t; columns = c; written = 0; warned = 0 }
 
+-- the end of a block that wrote nothing
+abbrev pub quietEnd : ℕ → Counts → Ended
+quietEnd k t = record { number = k; counts = t; written = 0; warned = 0 }
+
+-- a blank line that ended a block, with j bytes of both
+abbrev pub blankLine : Columns → Ended → (j : ℕ) → Taken
+blankLine c e j = record { number = 0; skip = 0; added = false; counts = e .counts; columns = c; written = j; warned = e .warned }
+
 module _ (c : Config) (m : List ℕ) where
   -- the bytes and the warnings of parts through the map, written at the start of two buffers
   pub record Wrote (ps : List Part) (n k : ℕ) (out out′ places places′ : List ℕ) : Type 0 where

@@ -11,7 +11,7 @@ ghost use Prim.Native.Nat.{_≤_};
 ghost use lib.ListN.{length, replicate, drop};
 ghost use Rattle.base.specs.Put.{put};
 ghost use Rattle.kinds.specs.Takes.{noColumns};
-ghost use Rattle.session.specs.Answer.{Answered, OpenAnswered, feedCall, finishCall, openOf, lengthsBad, refusalOf, beginAt, endedSession};
+ghost use Rattle.session.specs.Answer.{Answered, OpenAnswered, feedCall, finishCall, openOf, lengthsBad, refusalOf, beginAt, endedSession, unchangedFed, endedFed, heldFed};
 
 // What feed and finish hand back: both lengths are those written to the lent output and places.
 pub struct Fed {
@@ -173,6 +173,57 @@ fn clear(rest: &mut [u8])
     }
 }
 
+// The session as it came.
+fn unchanged(number: u32, session: Session) -> Fed
+    ensures { λ r. ⌜ r ≡ unchangedFed number session ⌝ }
+{
+    Fed {
+        number,
+        written: 0,
+        warned: 0,
+        session,
+    }
+}
+
+// The text ended: by a fault, or by a finish.
+fn over(config: Config, taken: u32, end: Going) -> Fed
+    ensures { λ r. ⌜ r ≡ endedFed config taken end ⌝ }
+{
+    let counts = end.counts;
+    let session = end_session(config, end.number, taken, counts);
+    Fed {
+        number: end.number,
+        written: end.written,
+        warned: end.warned,
+        session,
+    }
+}
+
+// The text goes on: `held` are the bytes of what is unfinished, and zeros.
+fn going_on(config: Config, outcome: u32, taken: u32, end: Going, held: [u8; 8192]) -> Fed
+    ensures { λ r. ⌜ r ≡ heldFed config outcome taken end held ⌝ }
+{
+    let counts = end.counts;
+    let columns = end.columns;
+    let session = Session {
+        config,
+        ended: false,
+        outcome,
+        taken,
+        lines: end.lines,
+        counts,
+        columns,
+        held_len: end.held,
+        held,
+    };
+    Fed {
+        number: 0,
+        written: end.written,
+        warned: end.warned,
+        session,
+    }
+}
+
 // A piece of the text.
 pub fn feed(
     session: Session,
@@ -185,56 +236,22 @@ pub fn feed(
 {
     let refused = refusal(session, map, piece.len(), out.len(), warnings.len());
     if refused != 0 {
-        return Fed {
-            number: refused,
-            written: 0,
-            warned: 0,
-            session,
-        };
+        return unchanged(refused, session);
     }
     if piece.len() == 0 {
-        return Fed {
-            number: 0,
-            written: 0,
-            warned: 0,
-            session,
-        };
+        return unchanged(0, session);
     }
     let mut held = session.held;
     let config = session.config;
     let start = begin(session);
     let end = run_piece(config, map, start, piece, &mut held, out, warnings);
     let taken = session.taken + (piece.len() as u32);
-    let counts = end.counts;
     if end.number != 0 {
-        let over = end_session(config, end.number, taken, counts);
-        return Fed {
-            number: end.number,
-            written: end.written,
-            warned: end.warned,
-            session: over,
-        };
+        return over(config, taken, end);
     }
     let n = end.held;
     clear(&mut held[n..]);
-    let columns = end.columns;
-    let next = Session {
-        config,
-        ended: false,
-        outcome: session.outcome,
-        taken,
-        lines: end.lines,
-        counts,
-        columns,
-        held_len: n,
-        held,
-    };
-    Fed {
-        number: 0,
-        written: end.written,
-        warned: end.warned,
-        session: next,
-    }
+    going_on(config, session.outcome, taken, end, held)
 }
 
 // What is held as a last line; the session ends.
@@ -243,23 +260,11 @@ pub fn finish(session: Session, map: &[u64], out: &mut [u8], warnings: &mut [u64
 {
     let refused = refusal(session, map, 0, out.len(), warnings.len());
     if refused != 0 {
-        return Fed {
-            number: refused,
-            written: 0,
-            warned: 0,
-            session,
-        };
+        return unchanged(refused, session);
     }
     let mut held = session.held;
     let config = session.config;
     let start = begin(session);
     let end = finish_run(config, map, start, &mut held, out, warnings);
-    let counts = end.counts;
-    let over = end_session(config, end.number, session.taken, counts);
-    Fed {
-        number: end.number,
-        written: end.written,
-        warned: end.warned,
-        session: over,
-    }
+    over(config, session.taken, end)
 }

@@ -88,6 +88,9 @@ fn move_down(held: &mut [u8], s: usize, k: usize, n: usize)
     requires { ⌜ (s + k) + n ≤ length (now held) ⌝ }
     ensures { λ _. ⌜ take (s + n) (now (held .exit)) ≡ take s (now (held .entry)) ++ take n (drop (s + k) (now (held .entry))) ⌝ }
 {
+    if k == 0 {
+        return;
+    }
     let mut i = 0;
     while i < n {
         held[s + i] = held[s + k + i];
@@ -131,9 +134,7 @@ pub fn end_line(
         return lined(at, told, 0);
     }
     let k = told.skip;
-    if k != 0 {
-        move_down(held, s, k, m - s - k);
-    }
+    move_down(held, s, k, m - s - k);
     lined(at, told, m - k)
 }
 

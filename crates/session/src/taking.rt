@@ -14,7 +14,7 @@ ghost use Rattle.text.specs.Line.{concat, linesOf, lineCount};
 ghost use Rattle.block.specs.Style.{srt};
 ghost use Rattle.machine.specs.Machine.{bom, hasBom, takeLine};
 ghost use Rattle.kinds.specs.Takes.{State, blankState, lineTakes, blockTakes, takes, closes, machineOf};
-ghost use Rattle.session.specs.Taken.{Ready, Below, Parsed, countBy, quietLine, Ends, Done};
+ghost use Rattle.session.specs.Taken.{Ready, Below, Parsed, countBy, quietLine, quietEnd, blankLine, Ends, Done};
 ghost use Rattle.session.specs.Stand.{bomSize};
 
 // What a line told. `skip`: the bytes of a BOM before it; `added`: it joins the open block.
@@ -48,6 +48,34 @@ fn quiet(number: u32, added: bool, counts: Counts, columns: Columns) -> Taken
         columns,
         written: 0,
         warned: 0,
+    }
+}
+
+// The end of a block that wrote nothing.
+fn still(number: u32, counts: Counts) -> Ended
+    ensures { λ r. ⌜ r ≡ quietEnd number counts ⌝ }
+{
+    Ended {
+        number,
+        counts,
+        written: 0,
+        warned: 0,
+    }
+}
+
+// A blank line that ended a block, with `written` bytes of both.
+fn blank(end: Ended, columns: Columns, written: usize) -> Taken
+    ensures { λ r. ⌜ r ≡ blankLine columns end written ⌝ }
+{
+    let counts = end.counts;
+    Taken {
+        number: 0,
+        skip: 0,
+        added: false,
+        counts,
+        columns,
+        written,
+        warned: end.warned,
     }
 }
 
@@ -160,22 +188,12 @@ pub fn end_block(
     ensures { λ r. ⌜ (r .written ≤ 3 * length (now (block .entry))) × (r .warned ≤ length (now (warnings .entry))) ⌝ }
 {
     if block.len() == 0 {
-        return Ended {
-            number: 0,
-            counts,
-            written: 0,
-            warned: 0,
-        };
+        return still(0, counts);
     }
     let first = first_line(n, lines_in(block));
     let told = block::block(config, map, first, block, out, warnings);
     if told.number != 0 {
-        return Ended {
-            number: told.number,
-            counts,
-            written: 0,
-            warned: 0,
-        };
+        return still(told.number, counts);
     }
     let counted = told.counted;
     let more = count(counts, counted);
@@ -212,16 +230,7 @@ fn srt_line(
             return quiet(end.number, false, counts, columns);
         }
         let written = base::bytes_at(out, end.written, line);
-        let counted = end.counts;
-        return Taken {
-            number: 0,
-            skip: 0,
-            added: false,
-            counts: counted,
-            columns,
-            written,
-            warned: end.warned,
-        };
+        return blank(end, columns, written);
     }
     if base::MOST_BLOCK < block.len() + line.len() {
         return quiet(21, false, counts, columns);

@@ -15,8 +15,8 @@ use Rattle.base.proofs.rest.Reads as rest-reads
 use Rattle.text.proofs.text_of.Reads as text-of-reads
 use Rattle.text.proofs.starts_with.Reads as starts-with-reads
 
-add-line : tie.Need-add-line
-add-line c = search needs
+add-at : tie.Need-add-at
+add-at c = search needs
 
 text-of-requires : tie.Need-text-of-requires
 text-of-requires c κs = search needs
@@ -97,7 +97,7 @@ pub event-line-spec : {M : Type 1} → statement M
 event-line-spec =
     tie.close
     (tie.spec
-    add-line
+    add-at
     text-of-requires
     slice-aggregate-starts-with
     starts-with-requires

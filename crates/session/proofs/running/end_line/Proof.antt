@@ -1,13 +1,11 @@
-use mathlib.Core.Path.{_≡_, sym, ap, _∙_}
-use mathlib.Core.Logic.{⊎-elim}
-use mathlib.Core.List.{_++_}
+use mathlib.Core.Path.{sym}
 use Prim.Native.Nat.{_≤_, _<_, _+_, _-_, _^_}
 use native.Mathlib.Omega.{arith}
-use lib.ListN.{length, take, drop, length-take, length-drop}
+use lib.ListN.{length-take, length-drop}
 use lib.Seq.{length-take-le}
 use borrow.Author.Tests.{not-true, not-false}
 use Rattle.kinds.specs.Takes.{machineOf}
-use Rattle.session.proofs.StandLaws.{held-block, moved-none, end-stop, end-empty, end-added}
+use Rattle.session.proofs.StandLaws.{held-block, end-stop, end-empty, end-added}
 use borrow.Author.Needs.{needs}
 use Rattle.session.proofs.running.end_line.Statement.{statement}
 use Rattle.session.proofs.running.end_line.Tie as tie
@@ -123,28 +121,25 @@ returns-2 c =
 
 sub-move-down : tie.Need-sub-move-down
 sub-move-down c =
-    let R = c .before .before .before .before .before .before .before .before .before .before .before .before .before .before .before .before .before .before .before .before .pre .1 in
+    let R = c .before .before .before .before .before .before .before .before .before .before .before .before .before .before .before .before .before .before .before .pre .1 in
     omega (arith, R .order)
 
 sub-move-down-2 : tie.Need-sub-move-down-2
-sub-move-down-2 c = omega (arith, skip-small (c .before .before .before .before))
+sub-move-down-2 c = omega (arith, skip-small (c .before .before .before))
 
 move-down-requires : tie.Need-move-down-requires
 move-down-requires c κs =
-    let R = c .before .before .before .before .before .before .before .before .before .before .before .before .before .before .before .before .before .before .before .before .pre .1 in
-    omega (arith, R, skip-small (c .before .before .before .before))
+    let R = c .before .before .before .before .before .before .before .before .before .before .before .before .before .before .before .before .before .before .before .pre .1 in
+    omega (arith, R, skip-small (c .before .before .before))
 
 sub-lined : tie.Need-sub-lined
-sub-lined c = omega (arith, skip-small (c .before .before .before))
+sub-lined c = omega (arith, skip-small (c .before .before .before .before .before .before))
 
 lined-requires-2 : tie.Need-lined-requires-2
-lined-requires-2 c κs = lined-fits (c .before .before .before)
+lined-requires-2 c κs = lined-fits (c .before .before .before .before .before .before)
 
 same-length-7 : tie.Need-same-length-7
-same-length-7 c =
-    let r = c .before .if3 in
-    let e : length (r .held) ≡ length (c .before .before .before .before .before .before .before .before .before .before .before .before .before .before .before .before .before .before .before .before .args .held .now) = ⊎-elim (λ w. ap length (w .5) ∙ w .2 .kept .0) (λ w. ap length (w .1)) (r .came) in
-    e
+same-length-7 c = search needs
 
 same-length-8 : tie.Need-same-length-8
 same-length-8 c = search needs
@@ -154,19 +149,13 @@ same-length-9 c = search needs
 
 returns-3 : tie.Need-returns-3
 returns-3 c =
-    let S = c .before .before .before .before .before .before .before .before .before .before .before .before .before .before .before .before .before .before .before .before in
+    let S = c .before .before .before .before .before .before .before .before .before .before .before .before .before .before .before .before .before .before .before .before .before .before .before in
     let A = S .args in
-    let d = c .before .before .before .before .before .before .before .before .before .before .take-line in
+    let d = c .before .before .before .before .before .before .before .before .before .before .before .before .before .take-line in
     let R = S .pre .1 in
-    let r = c .before .if3 in
-    let k = d .result .skip in
-    let n = A .at .held - A .at .start - d .result .skip in
-    let g : take (A .at .start + n) (r .held) ≡ take (A .at .start) (A .held .now) ++ take n (drop (A .at .start + k) (A .held .now)) =
-    ⊎-elim (λ w. ap (take (A .at .start + n)) (w .5) ∙ w .2 .ensures)
-    (λ w. ap (take (A .at .start + n)) (w .1) ∙ moved-none (A .held .now) (A .at .start) k n (w .0 .left)) (r .came) in
     λ t s n l ps o w p sh. end-added (A .config) (A .map .now) (machineOf (A .config .kind)) t s n l ps o w (A .at) (A .held .now) (A .out .now) (A .warnings .now) sh
     (d .result) (d .last .1 .1 .1 .1 .1 .1 .1 .0) (d .last .1 .1 .1 .1 .1 .1 .1 .1 .0) _ _
-    (d .ensures .0 s (sh .holds .columns) (held-block s n l (A .at) (A .held .now) (sh .holds)) p) (c .before .before .before .before .if1 .left) (not-false _ (c .before .before .if2 .left)) (d .ensures .1 .0 (c .before .before .before .before .if1 .left)) (R .order) (omega (arith, R)) g (c .lined2 .ensures)
+    (d .ensures .0 s (sh .holds .columns) (held-block s n l (A .at) (A .held .now) (sh .holds)) p) (c .before .before .before .before .before .before .before .if1 .left) (not-false _ (c .before .before .before .before .before .if2 .left)) (d .ensures .1 .0 (c .before .before .before .before .before .before .before .if1 .left)) (R .order) (omega (arith, R)) (c .before .before .before .move-down .ensures) (c .lined2 .ensures)
 
 pub end-line-spec : {M : Type 1} → statement M
 end-line-spec =

@@ -2,7 +2,7 @@ use mathlib.Core.Path.{_≡_, refl, sym}
 use Prim.Native.Nat.{_≤_, _+_, _-_}
 use native.Mathlib.Omega.{arith}
 use lib.ListN.{length, take, drop, length-set}
-use Rattle.session.proofs.StandLaws.{moved-more, moved-rest}
+use Rattle.session.proofs.StandLaws.{moved-none, moved-more, moved-rest}
 use mathlib.Core.List.{_++_, append-nil}
 use native.Mathlib.Nat.{add-zero}
 use borrow.Author.Needs.{needs}
@@ -16,6 +16,11 @@ Inv-loop held₀ s k n i₀ held i = (i ≤ n) × (take (s + i) held ≡ take s 
 
 abbrev μ-loop : tie.MeasureT-loop
 μ-loop held₀ s k n i₀ held i = n - i
+
+returns : tie.Need-returns Inv-loop μ-loop
+returns c =
+    let A = c .before .args in
+    moved-none (A .held .now) (A .s) (A .k) (A .n) (c .if1 .taken)
 
 loop-holds : tie.Need-loop-holds Inv-loop μ-loop
 loop-holds c = (omega arith, rw (add-zero) (sym (append-nil _)), refl, refl)
@@ -43,7 +48,7 @@ loop-less c = omega arith
 
 loop-again : tie.Need-loop-again Inv-loop μ-loop
 loop-again c =
-    let A = c .before .before .before .args in
+    let A = c .before .before .before .before .args in
     let v = c .before .before .loop .inv in
     let i = c .before .before .loop .i in
     (omega arith, moved-more (A .held .now) (c .before .before .loop .held) (A .s) (A .k) (A .n) i (omega arith) (omega arith) (v .3) (v .1) (v .2), moved-rest (A .held .now) (c .before .before .loop .held) (A .s) (A .k) i _ (v .2), rw length-set (v .3))
@@ -51,9 +56,9 @@ loop-again c =
 same-length : tie.Need-same-length Inv-loop μ-loop
 same-length c = search needs
 
-returns : tie.Need-returns Inv-loop μ-loop
-returns c =
-    let A = c .before .before .args in
+returns-2 : tie.Need-returns-2 Inv-loop μ-loop
+returns-2 c =
+    let A = c .before .before .before .args in
     let e : c .before .loop .i ≡ A .n = omega arith in
     rw e at (c .before .loop .inv .1)
 
@@ -63,6 +68,7 @@ move-down-spec =
     (tie.spec
     Inv-loop
     μ-loop
+    returns
     loop-holds
     add-held
     add-held-2
@@ -73,4 +79,4 @@ move-down-spec =
     loop-less
     loop-again
     same-length
-    returns)
+    returns-2)

@@ -1,5 +1,5 @@
+use Rattle.session.proofs.TakenLaws.{end-none, end-fault, end-said, end-fits, still-small}
 use native.Mathlib.Omega.{arith}
-use Rattle.session.proofs.TakenLaws.{end-none, end-fault, end-said, end-fits}
 use borrow.Author.Needs.{needs}
 use Rattle.session.proofs.taking.end_block.Statement.{statement}
 use Rattle.session.proofs.taking.end_block.Tie as tie
@@ -9,11 +9,15 @@ use Rattle.block.proofs.block.Reads as block-reads
 use Rattle.session.proofs.taking.count.Reads as count-reads
 use Rattle.session.proofs.taking.first_line.Reads as first-line-reads
 use Rattle.session.proofs.taking.lines_in.Reads as lines-in-reads
+use Rattle.session.proofs.taking.still.Reads as still-reads
+
+still-requires : tie.Need-still-requires
+still-requires c κs = search needs
 
 returns : tie.Need-returns
 returns c =
-    let a = c .before .before .before .before .before .args in
-    (end-none (a .config) (a .map .now) (a .n) (a .counts) (a .block .now) (a .out .now) (a .warnings .now) (c .if1 .taken), (omega arith, omega arith))
+    let a = c .before .before .before .before .before .before .args in
+    (end-none (a .config) (a .map .now) (a .n) (a .counts) (a .block .now) _ (a .out .now) (a .warnings .now) (c .before .if1 .taken) (c .still .ensures), still-small _ _ _ _ _ (c .still .ensures))
 
 lines-in-requires : tie.Need-lines-in-requires
 lines-in-requires c κs = search needs
@@ -24,6 +28,9 @@ first-line-requires c κs = search needs
 block-requires : tie.Need-block-requires
 block-requires c κs = search needs
 
+still-requires-2 : tie.Need-still-requires-2
+still-requires-2 c κs = search needs
+
 same-length : tie.Need-same-length
 same-length c = search needs
 
@@ -32,9 +39,9 @@ same-length-2 c = search needs
 
 returns-2 : tie.Need-returns-2
 returns-2 c =
-    let a = c .before .before .before .before .before .before .before .before .before .before .before .before .before .before .before .before .args in
-    let r = c .before .before .before .before .before .before .before .before .before .before .before .before .before .before .before .before .pre in
-    (end-fault (a .config) (a .map .now) (a .n) (a .counts) (a .block .now) _ _ _ (a .out .now) _ (a .warnings .now) _ (r .0) (r .3) (r .4) (c .before .before .before .before .before .before .before .before .before .before .before .if1 .left) (c .before .before .before .before .before .before .before .before .before .before .lines-in .ensures) (c .before .before .before .before .before .before .before .before .before .first-line .ensures) (c .before .before .before .before .before .before .block .ensures) (c .if2 .taken), (omega arith, omega arith))
+    let a = c .before .before .before .before .before .before .before .before .before .before .before .before .before .before .before .before .before .args in
+    let r = c .before .before .before .before .before .before .before .before .before .before .before .before .before .before .before .before .before .pre in
+    (end-fault (a .config) (a .map .now) (a .n) (a .counts) (a .block .now) _ _ _ (a .out .now) _ (a .warnings .now) _ (r .0) (r .3) (r .4) (c .before .before .before .before .before .before .before .before .before .before .before .before .if1 .left) (c .before .before .before .before .before .before .before .before .before .before .before .lines-in .ensures) (c .before .before .before .before .before .before .before .before .before .before .first-line .ensures) (c .before .before .before .before .before .before .before .block .ensures) _ (c .before .if2 .taken) (c .still2 .ensures), still-small _ _ _ _ _ (c .still2 .ensures))
 
 count-requires : tie.Need-count-requires
 count-requires c κs = search needs
@@ -56,10 +63,12 @@ pub end-block-spec : {M : Type 1} → statement M
 end-block-spec =
     tie.close
     (tie.spec
+    still-requires
     returns
     lines-in-requires
     first-line-requires
     block-requires
+    still-requires-2
     same-length
     same-length-2
     returns-2

@@ -1,4 +1,4 @@
-use mathlib.Core.Path.{_≡_, refl, sym, _∙_}
+use mathlib.Core.Path.{_≡_, sym, _∙_}
 use mathlib.Core.Bool.{true, false}
 use borrow.Author.Tests.{not-true, not-false}
 use Rattle.text.specs.Utf8.{utf8}
@@ -11,6 +11,7 @@ use Rattle.session.proofs.taking.srt_line.Reads as reads
 use Rattle.session.proofs.taking.srt_line.Lts as lts
 use Rattle.base.proofs.bytes_at.Reads as bytes-at-reads
 use Rattle.block.proofs.is_blank_in.Reads as is-blank-in-reads
+use Rattle.session.proofs.taking.blank.Reads as blank-reads
 use Rattle.session.proofs.taking.end_block.Reads as end-block-reads
 use Rattle.session.proofs.taking.quiet.Reads as quiet-reads
 use Rattle.text.proofs.is_utf8.Reads as is-utf8-reads
@@ -45,13 +46,15 @@ same-length-2 c = search needs
 returns-2 : tie.Need-returns-2
 returns-2 c =
     let a = c .before .before .before .before .before .before .before .before .before .before .before .before .before .before .before .before .before .before .before .args in
-    let r = c .before .before .before .before .before .before .before .before .before .before .before .before .before .before .before .before .before .before .before .pre in
     let u : utf8 (a .line .now) ≡ true = sym (c .before .before .before .before .before .before .before .before .before .before .before .before .before .is-utf8 .ensures) ∙ not-false _ (c .before .before .before .before .before .before .before .before .before .before .before .before .if1 .left) in
     let i : blankIn 1 (a .line .now) ≡ true = sym (c .before .before .before .before .before .before .before .before .before .before .before .is-blank-in .ensures) ∙ c .before .before .before .before .before .before .before .before .before .before .if2 .taken in
     (λ s p b q. srt-22 (a .config) (a .map .now) (a .n) (a .counts) (a .columns) (a .block .now) (a .line .now) _ _ _ _ _ _ u i (c .before .before .before .before .before .before .before .end-block .ensures .0) (c .before .if3 .taken) (c .quiet2 .ensures) s p b q, quiet-small _ _ _ _ _ _ _ (c .quiet2 .ensures))
 
 bytes-at-requires : tie.Need-bytes-at-requires
 bytes-at-requires c κs = search needs
+
+blank-requires : tie.Need-blank-requires
+blank-requires c κs = search needs
 
 same-length-3 : tie.Need-same-length-3
 same-length-3 c = search needs
@@ -67,7 +70,7 @@ returns-3 c =
     let i : blankIn 1 (a .line .now) ≡ true = sym (c .before .before .before .before .before .before .before .before .before .before .before .before .before .before .before .is-blank-in .ensures) ∙ c .before .before .before .before .before .before .before .before .before .before .before .before .before .before .if2 .taken in
     let e = c .before .before .before .before .before .before .before .before .before .before .before .end-block in
     let y = c .before .before .before .bytes-at in
-    (λ s p b q. srt-blank (a .config) (a .map .now) (a .n) (a .counts) (a .columns) (a .block .now) (a .line .now) _ _ _ _ _ _ _ u i (e .ensures .0) (c .before .before .before .before .before .if3 .left) (r .5) (e .ensures .1 .0) (y .ensures .0) (y .ensures .1) s p b q, (refl, blank-fits (a .block .now) (a .line .now) (a .out .now) _ _ _ (e .kept .1 .1 .1 .1 .1 .0) (r .5) (e .ensures .1 .0) (y .ensures .0), e .ensures .1 .1))
+    (λ s p b q. srt-blank (a .config) (a .map .now) (a .n) (a .counts) (a .columns) (a .block .now) (a .line .now) (e .result) _ _ _ _ _ _ _ u i (e .ensures .0) (c .before .before .before .before .before .if3 .left) (r .5) (e .ensures .1 .0) (y .ensures .0) (y .ensures .1) (c .blank .ensures) s p b q, blank-fits (a .block .now) (a .line .now) (a .out .now) _ _ (a .columns) (e .result) _ _ (e .kept .1 .1 .1 .1 .1 .0) (r .5) (e .ensures .1 .0) (e .ensures .1 .1) (y .ensures .0) (c .blank .ensures))
 
 add-if4 : tie.Need-add-if4
 add-if4 c = search needs
@@ -106,6 +109,7 @@ srt-line-spec =
     same-length-2
     returns-2
     bytes-at-requires
+    blank-requires
     same-length-3
     same-length-4
     returns-3
