@@ -34,7 +34,7 @@ pub record Fits (es : List Emit) : Type 0 where
   pub out : length (outputOf es) ≤ leastOutput
   pub places : length (placesOf (warningsOf es)) ≤ leastPlaces
 
-places-two : (ws : List Warning) → length (placesOf ws) ≡ 2 * length ws
+pub places-two : (ws : List Warning) → length (placesOf ws) ≡ 2 * length ws
 unfolding placesOf
 places-two [] = refl
 places-two (w ∷ ws) = omega (arith, places-two ws)
@@ -61,7 +61,7 @@ module _ (s : Session Columns) (N : Native s) (g : List ℕ) (good : mapBad g �
   abbrev line : List ℕ
   line = kit .open-line (s .held)
 
-  room-of : Roomy kit kind L (s .config) (segmentsOf g) 3
+  pub room-of : Roomy kit kind L (s .config) (segmentsOf g) 3
   room-of = roomy kind (N .kind-known) (s .config) (record { kind-known = N .kind-known; timescale-good = N .timescale-good }) g good
 
   held-size : L .size state + length line ≡ length (s .held)

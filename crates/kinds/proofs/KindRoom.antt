@@ -111,7 +111,7 @@ last-blank : (t : Bool) (s : State) (n : ℕ) (l : List ℕ) → Finished (s .bl
 last-blank true s n l f b e = last-closes s n (s .block) (stays l ∷ [])
 last-blank false s n l f b e = last-adds (leb (length (concat (s .block)) + length l) mostBlock) s l f b e
 
-srt-last : (s : State) (n : ℕ) (l : List ℕ) → Finished (s .block) → hasLf l ≡ false → Leaves Parsed (blockTakes srt s n l)
+pub srt-last : (s : State) (n : ℕ) (l : List ℕ) → Finished (s .block) → hasLf l ≡ false → Leaves Parsed (blockTakes srt s n l)
 unfolding blockTakes
 srt-last s n l f e = checked-last (utf8 l) _ (last-blank (blankIn 1 l) s n l f refl e)
   where

@@ -1,3 +1,7 @@
+-- The laws of the crate that belong to no one function.
 pub mod TakenLaws
 pub mod BomLaws
+pub mod StandLaws
+pub mod RunLaws
+pub mod EndLaws
 pub mod CallLaws

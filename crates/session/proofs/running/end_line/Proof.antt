@@ -1,0 +1,211 @@
+use mathlib.Core.Path.{_≡_, sym, ap, _∙_}
+use mathlib.Core.Logic.{⊎-elim}
+use mathlib.Core.List.{_++_}
+use Prim.Native.Nat.{_+_, _-_, _≤_}
+use native.Mathlib.Omega.{arith}
+use lib.ListN.{length, take, drop, length-take, length-drop}
+use lib.Seq.{length-take-le}
+use borrow.Author.Tests.{not-true, not-false}
+use Rattle.kinds.specs.Takes.{machineOf}
+use Rattle.session.proofs.StandLaws.{held-block, moved-none, end-stop, end-empty, end-added}
+use borrow.Author.Needs.{needs}
+use Rattle.session.proofs.running.end_line.Statement.{statement}
+use Rattle.session.proofs.running.end_line.Tie as tie
+use Rattle.session.proofs.running.end_line.Reads as reads
+use Rattle.session.proofs.running.end_line.Lts as lts
+use Rattle.session.proofs.running.lined.Reads as lined-reads
+use Rattle.session.proofs.running.move_down.Reads as move-down-reads
+use Rattle.session.proofs.running.stop.Reads as stop-reads
+use Rattle.session.proofs.taking.take_line.Reads as take-line-reads
+
+slice-reshare-prefix-take-line : tie.Need-slice-reshare-prefix-take-line
+slice-reshare-prefix-take-line c = search needs
+
+slice-aggregate-take-line : tie.Need-slice-aggregate-take-line
+slice-aggregate-take-line c = 
+    let S = c .before .before .before .before .before .before .before in
+    let A = S .args in
+    let R = S .pre .1 in
+    sym (length-take-le _ _ (omega (arith, R .line, R .block, R .size)))
+
+sub-take-line : tie.Need-sub-take-line
+sub-take-line c = search needs
+
+part-take-line-start : tie.Need-part-take-line-start
+part-take-line-start c = search needs
+
+part-take-line-end : tie.Need-part-take-line-end
+part-take-line-end c = search needs
+
+mul-take-line : tie.Need-mul-take-line
+mul-take-line c = search needs
+
+sub-take-line-2 : tie.Need-sub-take-line-2
+sub-take-line-2 c = search needs
+
+part-take-line-start-2 : tie.Need-part-take-line-start-2
+part-take-line-start-2 c = search needs
+
+part-take-line-end-2 : tie.Need-part-take-line-end-2
+part-take-line-end-2 c = search needs
+
+take-line-requires : tie.Need-take-line-requires
+take-line-requires c κs = 
+    let S = c .before .before .before .before .before .before .before .before .before in
+    let A = S .args in
+    let R = S .pre .1 in
+    (S .pre .0, R .lines, R .counts, R .block, simp length-take (omega (arith, R)), simp length-take (omega (arith, R)),
+    simp (length-take, length-drop) (omega (arith, R)), simp (length-take, length-drop) (omega (arith, R)))
+
+stop-requires : tie.Need-stop-requires
+stop-requires c κs = search needs
+
+same-length : tie.Need-same-length
+same-length c = search needs
+
+same-length-2 : tie.Need-same-length-2
+same-length-2 c = search needs
+
+same-length-3 : tie.Need-same-length-3
+same-length-3 c = search needs
+
+returns : tie.Need-returns
+returns c = 
+    let S = c .before .before .before .before .before .before .before .before .before .before .before .before .before .before .before .before .before in
+    let A = S .args in
+    let R = S .pre .1 in
+    let d = c .before .before .before .before .before .before .before .take-line in
+    λ t s n l ps o w p sh. end-stop (A .config) (A .map .now) (machineOf (A .config .kind)) t s n l ps o w (A .at) (A .held .now) (A .out .now) (A .warnings .now) sh (d .result) (d .last .1 .1 .1 .1 .1 .1 .1 .0) (d .last .1 .1 .1 .1 .1 .1 .1 .1 .0) _
+    (d .ensures .0 s (sh .holds .columns) (held-block s n l (A .at) (A .held .now) (sh .holds)) p) (c .before .if1 .taken) (c .stop .ensures)
+
+lined-requires : tie.Need-lined-requires
+lined-requires c κs = 
+    let S = c .before .before .before .before .before .before .before .before .before .before .before .before .before .before .before .before .before .before in
+    let A = S .args in
+    let R = S .pre .1 in
+    let d = c .before .before .before .before .before .before .before .before .take-line in
+    let x = rw (length-take, length-drop) at (d .ensures .1 .1) in
+    let y = rw (length-take, length-drop) at (d .ensures .1 .2) in
+    (R .lines, omega (arith, x, R, S), omega (arith, y, R, S))
+
+same-length-4 : tie.Need-same-length-4
+same-length-4 c = search needs
+
+same-length-5 : tie.Need-same-length-5
+same-length-5 c = search needs
+
+same-length-6 : tie.Need-same-length-6
+same-length-6 c = search needs
+
+returns-2 : tie.Need-returns-2
+returns-2 c = 
+    let S = c .before .before .before .before .before .before .before .before .before .before .before .before .before .before .before .before .before .before .before in
+    let A = S .args in
+    let R = S .pre .1 in
+    let d = c .before .before .before .before .before .before .before .before .before .take-line in
+    λ t s n l ps o w p sh. end-empty (A .config) (A .map .now) (machineOf (A .config .kind)) t s n l ps o w (A .at) (A .held .now) (A .out .now) (A .warnings .now) sh (d .result) (d .last .1 .1 .1 .1 .1 .1 .1 .0) (d .last .1 .1 .1 .1 .1 .1 .1 .1 .0) _
+    (d .ensures .0 s (sh .holds .columns) (held-block s n l (A .at) (A .held .now) (sh .holds)) p) (c .before .before .before .if1 .left) (not-true _ (c .before .if2 .taken)) (c .lined .ensures)
+
+sub-move-down : tie.Need-sub-move-down
+sub-move-down c = 
+    let S = c .before .before .before .before .before .before .before .before .before .before .before .before .before .before .before .before .before .before .before .before in
+    let A = S .args in
+    let R = S .pre .1 in
+    omega (arith, R)
+
+sub-move-down-2 : tie.Need-sub-move-down-2
+sub-move-down-2 c = 
+    let S = c .before .before .before .before .before .before .before .before .before .before .before .before .before .before .before .before .before .before .before .before in
+    let A = S .args in
+    let R = S .pre .1 in
+    let d = c .before .before .before .before .before .before .before .before .before .before .take-line in
+    let k = rw length-take at (d .ensures .1 .0 (c .before .before .before .before .if1 .left)) in
+    omega (arith, R, k)
+
+move-down-requires : tie.Need-move-down-requires
+move-down-requires c κs = 
+    let S = c .before .before .before .before .before .before .before .before .before .before .before .before .before .before .before .before .before .before .before .before in
+    let A = S .args in
+    let R = S .pre .1 in
+    let d = c .before .before .before .before .before .before .before .before .before .before .take-line in
+    let k = rw length-take at (d .ensures .1 .0 (c .before .before .before .before .if1 .left)) in
+    omega (arith, R, k)
+
+sub-lined : tie.Need-sub-lined
+sub-lined c = 
+    let S = c .before .before .before .before .before .before .before .before .before .before .before .before .before .before .before .before .before .before .before in
+    let A = S .args in
+    let R = S .pre .1 in
+    let d = c .before .before .before .before .before .before .before .before .before .take-line in
+    let k = rw length-take at (d .ensures .1 .0 (c .before .before .before .if1 .left)) in
+    omega (arith, R, k)
+
+lined-requires-2 : tie.Need-lined-requires-2
+lined-requires-2 c κs = 
+    let S = c .before .before .before .before .before .before .before .before .before .before .before .before .before .before .before .before .before .before .before in
+    let A = S .args in
+    let R = S .pre .1 in
+    let d = c .before .before .before .before .before .before .before .before .before .take-line in
+    let x = rw (length-take, length-drop) at (d .ensures .1 .1) in
+    let y = rw (length-take, length-drop) at (d .ensures .1 .2) in
+    (R .lines, omega (arith, x, R, S), omega (arith, y, R, S))
+
+same-length-7 : tie.Need-same-length-7
+same-length-7 c = 
+    let r = c .before .if3 in
+    let e : length (r .held) ≡ length (c .before .before .before .before .before .before .before .before .before .before .before .before .before .before .before .before .before .before .before .before .args .held .now) = ⊎-elim (λ w. ap length (w .5) ∙ w .2 .kept .0) (λ w. ap length (w .1)) (r .came) in
+    e
+
+same-length-8 : tie.Need-same-length-8
+same-length-8 c = search needs
+
+same-length-9 : tie.Need-same-length-9
+same-length-9 c = search needs
+
+returns-3 : tie.Need-returns-3
+returns-3 c = 
+    let S = c .before .before .before .before .before .before .before .before .before .before .before .before .before .before .before .before .before .before .before .before in
+    let A = S .args in
+    let R = S .pre .1 in
+    let d = c .before .before .before .before .before .before .before .before .before .before .take-line in
+    let r = c .before .if3 in
+    let g : take (A .at .start + (A .at .held - A .at .start - d .result .skip)) (r .held)
+        ≡ take (A .at .start) (A .held .now) ++ take (A .at .held - A .at .start - d .result .skip) (drop (A .at .start + d .result .skip) (A .held .now)) =
+        ⊎-elim (λ w. ap (take (A .at .start + (A .at .held - A .at .start - d .result .skip))) (w .5) ∙ w .2 .ensures)
+        (λ w. ap (take (A .at .start + (A .at .held - A .at .start - d .result .skip))) (w .1) ∙ moved-none (A .held .now) (A .at .start) (d .result .skip) (A .at .held - A .at .start - d .result .skip) (w .0 .left)) (r .came) in
+    λ t s n l ps o w p sh. end-added (A .config) (A .map .now) (machineOf (A .config .kind)) t s n l ps o w (A .at) (A .held .now) (A .out .now) (A .warnings .now) sh (d .result) (d .last .1 .1 .1 .1 .1 .1 .1 .0) (d .last .1 .1 .1 .1 .1 .1 .1 .1 .0) _ _
+    (d .ensures .0 s (sh .holds .columns) (held-block s n l (A .at) (A .held .now) (sh .holds)) p) (c .before .before .before .before .if1 .left) (not-false _ (c .before .before .if2 .left)) (d .ensures .1 .0 (c .before .before .before .before .if1 .left)) (R .order) (omega (arith, R)) g (c .lined2 .ensures)
+
+pub end-line-spec : {M : Type 1} → statement M
+end-line-spec =
+    tie.close
+    (tie.spec
+    slice-reshare-prefix-take-line
+    slice-aggregate-take-line
+    sub-take-line
+    part-take-line-start
+    part-take-line-end
+    mul-take-line
+    sub-take-line-2
+    part-take-line-start-2
+    part-take-line-end-2
+    take-line-requires
+    stop-requires
+    same-length
+    same-length-2
+    same-length-3
+    returns
+    lined-requires
+    same-length-4
+    same-length-5
+    same-length-6
+    returns-2
+    sub-move-down
+    sub-move-down-2
+    move-down-requires
+    sub-lined
+    lined-requires-2
+    same-length-7
+    same-length-8
+    same-length-9
+    returns-3)
