@@ -1,16 +1,8 @@
 pub mod ColumnBounds
 pub mod KindLaws
-pub mod Bare
-pub mod PlainAss
-pub mod PlainSrt
-pub mod PlainText
-pub mod PartLaws
-pub mod DemandText
 pub mod Reachable
-pub mod BlockShape
 pub mod EmptyPiece
 pub mod Refused
 pub mod Native
 pub mod KindRoom
 pub mod Fits
-pub mod Examples

@@ -1,5 +1,3 @@
--- Both kinds of captions: what a line says in each, their sessions, the plain reader, and demand 3.
+-- Both kinds of captions: what a line says in each, and how a session keeps what is known between two lines.
 pub mod Takes
 pub mod Kit
-pub mod Plain
-pub mod Demand

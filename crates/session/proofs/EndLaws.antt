@@ -2,7 +2,7 @@
 use mathlib.Core.Path.{_≡_, refl, sym, ap, subst, _∙_}
 use mathlib.Core.Bool.{Bool, true, false, _&&_, cond, true≢false}
 use mathlib.Core.List.{List, [], _∷_, _++_, append-nil}
-use Prim.Native.Nat.{ℕ, zero, suc, _+_, _-_, _*_, _≤_, _<_}
+use Prim.Native.Nat.{ℕ, zero, suc, _+_, _-_, _≤_, _<_}
 use native.Mathlib.Omega.{arith}
 use lib.Dec.{eqb}
 use lib.ListN.{length, take, drop, length-append}
@@ -44,7 +44,7 @@ use Rattle.session.specs.declared.taking.Ended.{Ended}
 use Rattle.session.specs.declared.running.Going.{Going}
 use Rattle.session.specs.Taken.{Wrote, Ends, Ready, Parsed}
 use Rattle.session.specs.Stand.{Shows, Room, CloseRoom, Opening, resumeAt, stoppedAt, closingTo, bomTo, bomAloneOf}
-use Rattle.session.proofs.StandLaws.{drop-take, wrote-more, counts-more, held-block, held-line}
+use Rattle.session.proofs.StandLaws.{drop-take, lent, back, wrote-more, counts-more, held-block, held-line}
 use Rattle.session.proofs.RunLaws.{counts-grown, fit-parsed, places-none, s₀, begun, begin-sizes, begin-native, begin-shows, L}
 
 -- ---- what a finish says in each kind
@@ -84,19 +84,7 @@ module _ (c : Config) (m : List ℕ) (M : Machine State) (t : Counts) (s : State
       (record { number = sh .number; counts = sh .counts; wrote = sh .wrote; holds = tt }))
 
   module _ (y z : List ℕ) (e : Ended) (r : Going) (f : r ≡ closingTo at e) where
-    abbrev outTail : List ℕ
-    outTail = take (length out - at .written) (drop (at .written) out)
-
-    abbrev placeTail : List ℕ
-    placeTail = take (length places - at .warned) (drop (at .warned) places)
-
-    abbrev outBack : List ℕ
-    outBack = take (at .written) out ++ (y ++ drop (length out - at .written) (drop (at .written) out))
-
-    abbrev placesBack : List ℕ
-    placesBack = take (at .warned) places ++ (z ++ drop (length places - at .warned) (drop (at .warned) places))
-
-    closed-by : (x : Says State) → Ends c m x (at .counts) e outTail y placeTail z → Shows c m t (closed M ps x) o w r held outBack placesBack
+    closed-by : (x : Says State) → Ends c m x (at .counts) e (lent (at .written) out) y (lent (at .warned) places) z → Shows c m t (closed M ps x) o w r held (back (at .written) out y) (back (at .warned) places z)
     closed-by (faulty g) b =
         rw f
         (record {
@@ -105,7 +93,7 @@ module _ (c : Config) (m : List ℕ) (M : Machine State) (t : Counts) (s : State
               counts-more c m t ps [] (at .counts) (e .counts) (sh .counts) (b .counts)
               ∙ ap (λ (qs : List Part). countAll t (emitted c m qs)) (append-nil ps);
           wrote =
-              subst (λ (qs : List Part). Wrote c m qs (at .written + e .written) (at .warned + e .warned) o outBack w placesBack) (append-nil ps)
+              subst (λ (qs : List Part). Wrote c m qs (at .written + e .written) (at .warned + e .warned) o (back (at .written) out y) w (back (at .warned) places z)) (append-nil ps)
               (wrote-more c m ps [] (at .written) (at .warned) (e .written) (e .warned) o w out places y z (sh .wrote) (b .wrote));
           holds = tt;
         })
@@ -119,14 +107,14 @@ module _ (c : Config) (m : List ℕ) (M : Machine State) (t : Counts) (s : State
         })
 
     pub close-block : (kind : ℕ) → (kind ≡ 0 → ⊥) → Parsed (eqb kind 0) (s .block)
-        → Ends c m (closes srt blankState (at .lines) (linesOf (take (at .start) held)) []) (at .counts) e outTail y placeTail z
-        → Shows c m t (closed M ps (ends kind s n)) o w r held outBack placesBack
+        → Ends c m (closes srt blankState (at .lines) (linesOf (take (at .start) held)) []) (at .counts) e (lent (at .written) out) y (lent (at .warned) places) z
+        → Shows c m t (closed M ps (ends kind s n)) o w r held (back (at .written) out y) (back (at .warned) places z)
     close-block kind k p b =
         let a : at .start ≡ at .held = sh .holds .start ∙ sym (sh .holds .count ∙ ap length (append-nil (concat (s .block)))) in
         let q : take (at .start) held ≡ concat (s .block) = ap (λ (j : ℕ). take j held) a ∙ sh .holds .bytes ∙ append-nil (concat (s .block)) in
         closed-by (ends kind s n)
-        (subst (λ (j : ℕ). Ends c m (ends kind s j) (at .counts) e outTail y placeTail z) (sh .holds .lines)
-        (block-ends c m (at .counts) e outTail y placeTail z kind s (at .lines) (take (at .start) held) k p q b))
+        (subst (λ (j : ℕ). Ends c m (ends kind s j) (at .counts) e (lent (at .written) out) y (lent (at .warned) places) z) (sh .holds .lines)
+        (block-ends c m (at .counts) e (lent (at .written) out) y (lent (at .warned) places) z kind s (at .lines) (take (at .start) held) k p q b))
 
 -- ---- a BOM alone
 front : (w l : List ℕ) → put w l ≡ w ++ drop (length w) l
@@ -180,19 +168,13 @@ module _ (c : Config) (m : List ℕ) (M : Machine State) (at : Going) (held out 
       }))
 
   module _ (y z : List ℕ) (e : Ended) where
-    abbrev behind : List ℕ
-    behind = take (length out - 3) (drop 3 out)
-
-    abbrev back : List ℕ
-    back = take 3 out ++ (y ++ drop (length out - 3) (drop 3 out))
-
     -- the block is at fault
-    bom-fault : (x : Says State) (r : Going) → Ends c m x (at .counts) e behind y places z → (e .number ≡ 0 → ⊥) → r ≡ stoppedAt at (e .number)
-        → Shows c m (at .counts) (closed M [] (withBom x)) out places r held back z
+    bom-fault : (x : Says State) (r : Going) → Ends c m x (at .counts) e (lent 3 out) y places z → (e .number ≡ 0 → ⊥) → r ≡ stoppedAt at (e .number)
+        → Shows c m (at .counts) (closed M [] (withBom x)) out places r held (back 3 out y) z
     bom-fault (says u new) r b k f = absurd (k (b .number))
     bom-fault (faulty g) r b k f =
         let none = emits-none c (segmentsOf m) in
-        let v : y ≡ put [] behind = b .wrote .text ∙ ap (λ (l : List ℕ). put l behind) (ap outputOf none ∙ output-none) in
+        let v : y ≡ put [] (lent 3 out) = b .wrote .text ∙ ap (λ (l : List ℕ). put l (lent 3 out)) (ap outputOf none ∙ output-none) in
         rw f
         (record {
           number = b .number;
@@ -208,8 +190,8 @@ module _ (c : Config) (m : List ℕ) (M : Machine State) (at : Going) (held out 
         })
 
     -- the block passed
-    bom-passed : (x : Says State) (next r : Going) (o : List ℕ) → Ends c m x (at .counts) e behind y places z → e .number ≡ 0 → next ≡ bomTo at → r ≡ closingTo next e
-        → o ≡ put bom back → Shows c m (at .counts) (closed M [] (withBom x)) out places r held o z
+    bom-passed : (x : Says State) (next r : Going) (o : List ℕ) → Ends c m x (at .counts) e (lent 3 out) y places z → e .number ≡ 0 → next ≡ bomTo at → r ≡ closingTo next e
+        → o ≡ put bom (back 3 out y) → Shows c m (at .counts) (closed M [] (withBom x)) out places r held o z
     bom-passed (faulty g) next r o b k n f h = absurd (eqb-false (faultNumber g) 0 (fault-number g) (sym (b .number) ∙ k))
     bom-passed (says u new) next r o b k n f h =
         let w : 3 ≤ length out = omega (arith, p .out-long) in
@@ -231,15 +213,15 @@ module _ (c : Config) (m : List ℕ) (M : Machine State) (at : Going) (held out 
         })
 
     module _ (kind : ℕ) (s : State) (k : kind ≡ 0 → ⊥) (q : take (at .start) held ≡ concat (s .block)) (g : Parsed (eqb kind 0) (s .block))
-        (b : Ends c m (closes srt blankState (at .lines) (linesOf (take (at .start) held)) []) (at .counts) e behind y places z) where
+        (b : Ends c m (closes srt blankState (at .lines) (linesOf (take (at .start) held)) []) (at .counts) e (lent 3 out) y places z) where
       pub bom-stops : (r : Going) → (e .number ≡ 0 → ⊥) → r ≡ stoppedAt at (e .number)
-          → Shows c m (at .counts) (closed M [] (withBom (ends kind s (at .lines)))) out places r held back z
-      bom-stops r h f = bom-fault (ends kind s (at .lines)) r (block-ends c m (at .counts) e behind y places z kind s (at .lines) (take (at .start) held) k g q b) h f
+          → Shows c m (at .counts) (closed M [] (withBom (ends kind s (at .lines)))) out places r held (back 3 out y) z
+      bom-stops r h f = bom-fault (ends kind s (at .lines)) r (block-ends c m (at .counts) e (lent 3 out) y places z kind s (at .lines) (take (at .start) held) k g q b) h f
 
-      pub bom-closes : (next r : Going) (o : List ℕ) → e .number ≡ 0 → next ≡ bomTo at → r ≡ closingTo next e → o ≡ put bom back
+      pub bom-closes : (next r : Going) (o : List ℕ) → e .number ≡ 0 → next ≡ bomTo at → r ≡ closingTo next e → o ≡ put bom (back 3 out y)
           → Shows c m (at .counts) (closed M [] (withBom (ends kind s (at .lines)))) out places r held o z
       bom-closes next r o h n f w =
-          bom-passed (ends kind s (at .lines)) next r o (block-ends c m (at .counts) e behind y places z kind s (at .lines) (take (at .start) held) k g q b) h n f w
+          bom-passed (ends kind s (at .lines)) next r o (block-ends c m (at .counts) e (lent 3 out) y places z kind s (at .lines) (take (at .start) held) k g q b) h n f w
 
 -- ---- whether the text is a BOM with no line
 pub alone-no : (n : ℕ) (l : List ℕ) → (n ≡ 0 → ⊥) → false ≡ bomAloneOf n l

@@ -1,4 +1,3 @@
--- The laws of the crate that belong to no one function.
 pub mod TakenLaws
 pub mod BomLaws
 pub mod StandLaws

@@ -2,30 +2,28 @@
 use mathlib.Core.Path.{_≡_, refl, sym, ap, subst, _∙_}
 use mathlib.Core.Bool.{Bool, true, false}
 use mathlib.Core.List.{List, [], _∷_, _++_}
-use Prim.Native.Nat.{ℕ, zero, suc, _+_, _*_, _≤_, _<_, _^_}
+use Prim.Native.Nat.{ℕ, zero, suc, _+_, _≤_, _<_}
 use native.Mathlib.Omega.{arith}
 use native.Mathlib.Numerals.{add-one}
 use lib.Dec.{eqb, leb}
-use lib.ListN.{length, take, getD, length-append}
+use lib.ListN.{length, take, getD}
 use lib.Seq.{length-take-le}
 use borrow.Author.Tests.{leb-true, eqb-false}
-use Rattle.base.specs.Limits.{mostLine, mostHeld, mostTaken, mostPiece, leastOutput, leastPlaces}
-use Rattle.base.specs.Put.{put}
+use Rattle.base.specs.Limits.{mostLine, mostTaken, mostPiece}
 use Rattle.base.proofs.PutLaws.{put-nil}
-use Rattle.text.specs.Line.{concat, hasLf}
 use Rattle.time.specs.Kind.{kindBad}
 use Rattle.segmap.specs.Segment.{segmentsOf}
 use Rattle.event.specs.declared.setting.Config.{Config}
 use Rattle.event.specs.Fates.{passed, dropped, shifted, clipped}
 use Rattle.event.specs.Says.{Part, captionsIn}
-use Rattle.event.specs.Emit.{Emit, Warning, Caption, none, decided, outputOf, warningsOf, placesOf}
+use Rattle.event.specs.Emit.{Emit, Caption, none, decided, outputOf, warningsOf, placesOf}
 use Rattle.block.proofs.FineBlock.{lines-held}
 use Rattle.assline.specs.declared.layout.Columns.{Columns}
 use Rattle.machine.specs.declared.counting.Counts.{Counts}
 use Rattle.machine.specs.Counts.{noCounts, count, countAll, one, captions}
 use Rattle.machine.specs.Cut.{closedLines, unfinished}
 use Rattle.machine.specs.Machine.{Machine, Says, faulty, says, Run, going, stopped, lineEnd, takeLine, byte, byteStep, run}
-use Rattle.machine.specs.Session.{Session, Kit, emitted}
+use Rattle.machine.specs.Session.{Session, emitted}
 use Rattle.machine.proofs.Emits.{parts-append, parts-none, captions-emitted, count-none, emits-none, output-none}
 use Rattle.machine.proofs.CutLaws.{cut-joined, cut-length}
 use Rattle.machine.proofs.Resume.{ByFault, run-take, run-fault}
@@ -39,8 +37,8 @@ use Rattle.kinds.proofs.KindLaws.{Fit, known-two, lawful, lawful-size, lawful-p
 use Rattle.kinds.proofs.Native.{Native, is-native}
 use Rattle.kinds.proofs.Fits.{places-two, resume-ok, feed-room}
 use Rattle.session.specs.declared.running.Going.{Going}
-use Rattle.session.specs.Taken.{Wrote, Ready, Below, Parsed}
-use Rattle.session.specs.Stand.{Holds, Shows, ByteRoom, ParsedIn, Opening, resumeAt}
+use Rattle.session.specs.Taken.{Wrote, Ready, Parsed}
+use Rattle.session.specs.Stand.{Shows, ByteRoom, ParsedIn, Opening, resumeAt}
 use Rattle.session.proofs.StandLaws.{held-sizes}
 
 -- ---- captions are at most the lines ended, and one

@@ -2,11 +2,10 @@
 use mathlib.Core.Path.{_≡_, refl, sym, ap, ap₂, subst, _∙_}
 use mathlib.Core.Bool.{Bool, true, false, cond}
 use mathlib.Core.List.{List, [], _∷_, _++_, append-nil, append-assoc}
-use Prim.Native.Nat.{ℕ, zero, suc, _+_, _-_, _*_, _≤_, _<_}
+use Prim.Native.Nat.{ℕ, zero, suc, _+_, _-_, _≤_, _<_}
 use native.Mathlib.Omega.{arith}
 use native.Mathlib.Nat.{add-zero, suc-sub-suc, zero-sub, sub-zero}
 use native.Mathlib.Numerals.{add-one}
-use lib.Dec.{eqb, leb}
 use lib.ListN.{length, take, drop, set, getD, length-append, length-drop}
 use lib.Seq.{take-nil, take-append-seam, drop-append-seam, drop-append-add, take-suc, take-suc-set, take-take, take-add, drop-drop, drop-set-lt, getD-drop, length-take-le}
 use borrow.Author.Tests.{le-leb, lt-leb, eq-eqb, ne-eqb, eqb-false}
@@ -20,7 +19,7 @@ use Rattle.event.specs.Says.{Part, faultNumber}
 use Rattle.event.specs.Emit.{Emit, outputOf, warningsOf, placesOf}
 use Rattle.machine.specs.declared.counting.Counts.{Counts}
 use Rattle.machine.specs.Counts.{countAll}
-use Rattle.machine.specs.Machine.{Machine, Says, faulty, says, Run, going, stopped, lineEnd, takeLine, byte, byteStep}
+use Rattle.machine.specs.Machine.{Machine, Says, faulty, says, Run, going, stopped, lineEnd, takeLine, byteStep}
 use Rattle.machine.specs.Session.{emitted}
 use Rattle.machine.proofs.Emits.{emits-append, output-append, warnings-append, places-append, count-append}
 use Rattle.machine.proofs.Resume.{fault-number}
@@ -28,7 +27,7 @@ use Rattle.kinds.specs.Takes.{State}
 use Rattle.kinds.proofs.KindLaws.{concat-snoc}
 use Rattle.session.specs.declared.taking.Taken.{Taken}
 use Rattle.session.specs.declared.running.Going.{Going}
-use Rattle.session.specs.Taken.{numberOf, partsOf, after, Wrote, Done, Parsed}
+use Rattle.session.specs.Taken.{after, Wrote, Done, Parsed}
 use Rattle.session.specs.Stand.{Holds, Shows, Room, ByteRoom, ParsedIn, stoppedAt, holdingTo, linedTo}
 
 -- ---- parts of the held bytes
@@ -46,8 +45,8 @@ moved-more held₀ held s k n i h l e p q =
     let a : s + (i + 1) ≡ suc (s + i) = omega arith in
     let b : i + 1 ≡ suc i = omega arith in
     let g : getD held (s + k + i) 0 ≡ getD (drop (s + k) held₀) i 0 =
-        ap (λ (j : ℕ). getD held j 0) (sym (add-zero (s + k + i))) ∙ sym (getD-drop (s + k + i) held 0 0) ∙ ap (λ (x : List ℕ). getD x 0 0) q
-        ∙ getD-drop (s + k + i) held₀ 0 0 ∙ ap (λ (j : ℕ). getD held₀ j 0) (add-zero (s + k + i)) ∙ sym (getD-drop (s + k) held₀ i 0) in
+    ap (λ (j : ℕ). getD held j 0) (sym (add-zero (s + k + i))) ∙ sym (getD-drop (s + k + i) held 0 0) ∙ ap (λ (x : List ℕ). getD x 0 0) q
+    ∙ getD-drop (s + k + i) held₀ 0 0 ∙ ap (λ (j : ℕ). getD held₀ j 0) (add-zero (s + k + i)) ∙ sym (getD-drop (s + k) held₀ i 0) in
     let d : i < length (drop (s + k) held₀) = rw length-drop (omega arith) in
     ap (λ (j : ℕ). take j (set held (s + i) (getD held (s + k + i) 0))) a
     ∙ take-suc-set held (s + i) (getD held (s + k + i) 0) (omega arith)
@@ -69,6 +68,13 @@ moved-none held s k n e =
     let z : s ≡ s + k = omega arith in
     take-add s n held ∙ ap (λ (j : ℕ). take s held ++ take n (drop j held)) z
 
+-- ---- what is lent of a buffer from a on, and the buffer when that came back as y
+abbrev pub lent : ℕ → List ℕ → List ℕ
+lent a l = take (length l - a) (drop a l)
+
+abbrev pub back : ℕ → List ℕ → (y : List ℕ) → List ℕ
+back a l y = take a l ++ (y ++ drop (length l - a) (drop a l))
+
 module _ (c : Config) (m : List ℕ) where
   -- ---- parts after parts
   pub emitted-append : (ps new : List Part) → emitted c m (ps ++ new) ≡ emitted c m ps ++ emitted c m new
@@ -86,9 +92,7 @@ module _ (c : Config) (m : List ℕ) where
 
   -- new output and warnings behind what was written
   pub wrote-more : (ps new : List Part) (a b n k : ℕ) (o w out places y z : List ℕ) → Wrote c m ps a b o out w places
-      → Wrote c m new n k (take (length out - a) (drop a out)) y (take (length places - b) (drop b places)) z
-      → Wrote c m (ps ++ new) (a + n) (b + k) o (take a out ++ (y ++ drop (length out - a) (drop a out))) w
-      (take b places ++ (z ++ drop (length places - b) (drop b places)))
+      → Wrote c m new n k (lent a out) y (lent b places) z → Wrote c m (ps ++ new) (a + n) (b + k) o (back a out y) w (back b places z)
   wrote-more ps new a b n k o w out places y z p q =
       record {
         written =
@@ -123,23 +127,11 @@ module _ (s : State) (n : ℕ) (l : List ℕ) (r : Going) (held : List ℕ) (h :
 -- ---- a line's end
 module _ (c : Config) (m : List ℕ) (M : Machine State) (t : Counts) (s : State) (n : ℕ) (l : List ℕ) (ps : List Part) (o w : List ℕ) (at : Going)
     (held out places : List ℕ) (sh : Shows c m t (going s n l ps) o w at held out places) (told : Taken) (y z : List ℕ) where
-  abbrev outTail : List ℕ
-  outTail = take (length out - at .written) (drop (at .written) out)
-
-  abbrev placeTail : List ℕ
-  placeTail = take (length places - at .warned) (drop (at .warned) places)
-
-  abbrev outBack : List ℕ
-  outBack = take (at .written) out ++ (y ++ drop (length out - at .written) (drop (at .written) out))
-
-  abbrev placesBack : List ℕ
-  placesBack = take (at .warned) places ++ (z ++ drop (length places - at .warned) (drop (at .warned) places))
-
   abbrev LineDone : List ℕ → Says State → Type 0
-  LineDone k x = Done c m s k x (at .counts) told outTail y placeTail z
+  LineDone k x = Done c m s k x (at .counts) told (lent (at .written) out) y (lent (at .warned) places) z
 
   stop-by : (x : Says State) (k : List ℕ) (r : Going) (held′ : List ℕ) → LineDone k x → (told .number ≡ 0 → ⊥) → r ≡ stoppedAt at (told .number)
-      → Shows c m t (lineEnd M n ps x) o w r held′ outBack placesBack
+      → Shows c m t (lineEnd M n ps x) o w r held′ (back (at .written) out y) (back (at .warned) places z)
   stop-by (says u new) k r held′ d e f = absurd (e (d .number))
   stop-by (faulty g) k r held′ d e f =
       let v = wrote-more c m ps [] (at .written) (at .warned) (told .written) (told .warned) o w out places y z (sh .wrote) (d .wrote) in
@@ -160,7 +152,7 @@ module _ (c : Config) (m : List ℕ) (M : Machine State) (t : Counts) (s : State
   -- the line passed, and held′ holds the block after it
   pass-by : (x : Says State) (k : List ℕ) (r : Going) (held′ : List ℕ) (e : ℕ) → LineDone k x → told .number ≡ 0
       → r ≡ linedTo at told e → e ≡ length (concat (after s x .block)) → take e held′ ≡ concat (after s x .block)
-      → Shows c m t (lineEnd M n ps x) o w r held′ outBack placesBack
+      → Shows c m t (lineEnd M n ps x) o w r held′ (back (at .written) out y) (back (at .warned) places z)
   pass-by (faulty g) k r held′ e d f p a b = absurd (eqb-false (faultNumber g) 0 (fault-number g) (sym (d .number) ∙ f))
   pass-by (says u new) k r held′ e d f p a b =
       rw p
@@ -187,11 +179,11 @@ module _ (c : Config) (m : List ℕ) (M : Machine State) (t : Counts) (s : State
       (subst (λ (u : List ℕ). LineDone u (takeLine M s (at .lines) u)) (held-line s n l at held (sh .holds)) d)
 
   pub end-stop : (r : Going) → LineTaken → (told .number ≡ 0 → ⊥) → r ≡ stoppedAt at (told .number)
-      → Shows c m t (lineEnd M n ps (takeLine M s n l)) o w r held outBack placesBack
+      → Shows c m t (lineEnd M n ps (takeLine M s n l)) o w r held (back (at .written) out y) (back (at .warned) places z)
   end-stop r d e f = stop-by (takeLine M s n l) l r held (line-taken d) e f
 
   pub end-empty : (r : Going) → LineTaken → told .number ≡ 0 → told .added ≡ false → r ≡ linedTo at told 0
-      → Shows c m t (lineEnd M n ps (takeLine M s n l)) o w r held outBack placesBack
+      → Shows c m t (lineEnd M n ps (takeLine M s n l)) o w r held (back (at .written) out y) (back (at .warned) places z)
   end-empty r d e a f =
       let b : after s (takeLine M s n l) .block ≡ [] = line-taken d .block e ∙ ap (λ (v : Bool). cond v (s .block ++ (drop (told .skip) l ∷ [])) []) a in
       pass-by (takeLine M s n l) l r held 0 (line-taken d) e f (ap (λ (v : List (List ℕ)). length (concat v)) (sym b)) (ap concat (sym b))
@@ -200,23 +192,23 @@ module _ (c : Config) (m : List ℕ) (M : Machine State) (t : Counts) (s : State
       → at .start ≤ at .held → at .held ≤ length held
       → take (at .start + (at .held - at .start - told .skip)) held′ ≡ take (at .start) held ++ take (at .held - at .start - told .skip) (drop (at .start + told .skip) held)
       → r ≡ linedTo at told (at .held - told .skip)
-      → Shows c m t (lineEnd M n ps (takeLine M s n l)) o w r held′ outBack placesBack
+      → Shows c m t (lineEnd M n ps (takeLine M s n l)) o w r held′ (back (at .written) out y) (back (at .warned) places z)
   end-added r held′ d e a small order room g f =
       let b : after s (takeLine M s n l) .block ≡ s .block ++ (drop (told .skip) l ∷ []) =
-          line-taken d .block e ∙ ap (λ (v : Bool). cond v (s .block ++ (drop (told .skip) l ∷ [])) []) a in
+      line-taken d .block e ∙ ap (λ (v : Bool). cond v (s .block ++ (drop (told .skip) l ∷ [])) []) a in
       let b′ : concat (after s (takeLine M s n l) .block) ≡ concat (s .block) ++ drop (told .skip) l = ap concat b ∙ concat-snoc (s .block) (drop (told .skip) l) in
       let size : length (take (at .held) held) ≡ at .held = length-take-le (at .held) held room in
       let a1 : at .held - told .skip ≡ at .start + (at .held - at .start - told .skip) = omega arith in
       let x1 : take (at .start) held ≡ concat (s .block) = sym (take-take (at .start) (at .held) held order) ∙ held-block s n l at held (sh .holds) in
       let a2 : at .held - at .start - told .skip ≡ at .held - (at .start + told .skip) = omega arith in
       let x2 : take (at .held - at .start - told .skip) (drop (at .start + told .skip) held) ≡ drop (told .skip) l =
-          ap (λ (j : ℕ). take j (drop (at .start + told .skip) held)) a2 ∙ sym (drop-take (at .start + told .skip) (at .held) held)
-          ∙ rw (sh .holds .bytes, sh .holds .start) (drop-append-add (concat (s .block)) l (told .skip)) in
+      ap (λ (j : ℕ). take j (drop (at .start + told .skip) held)) a2 ∙ sym (drop-take (at .start + told .skip) (at .held) held)
+      ∙ rw (sh .holds .bytes, sh .holds .start) (drop-append-add (concat (s .block)) l (told .skip)) in
       let v : take (at .held - told .skip) held′ ≡ concat (s .block) ++ drop (told .skip) l =
-          ap (λ (j : ℕ). take j held′) a1 ∙ g ∙ ap₂ (λ (u v : List ℕ). u ++ v) x1 x2 in
+      ap (λ (j : ℕ). take j held′) a1 ∙ g ∙ ap₂ (λ (u v : List ℕ). u ++ v) x1 x2 in
       let len : at .held - told .skip ≡ length (concat (s .block) ++ drop (told .skip) l) =
-          rw (length-append (concat (s .block)) (drop (told .skip) l), length-drop (told .skip) l)
-          (omega (arith, held-sizes s n l at held (sh .holds), sh .holds .start, small, size)) in
+      rw (length-append (concat (s .block)) (drop (told .skip) l), length-drop (told .skip) l)
+      (omega (arith, held-sizes s n l at held (sh .holds), sh .holds .start, small, size)) in
       pass-by (takeLine M s n l) l r held′ (at .held - told .skip) (line-taken d) e f (len ∙ ap length (sym b′)) (v ∙ sym b′)
 
 -- ---- a byte

@@ -57,7 +57,15 @@ fn close(
     let o = at.written;
     let w = at.warned;
     let counts = at.counts;
-    let end = end_block(config, map, at.lines, counts, &held[..s], &mut out[o..], &mut warnings[w..]);
+    let end = end_block(
+        config,
+        map,
+        at.lines,
+        counts,
+        &held[..s],
+        &mut out[o..],
+        &mut warnings[w..],
+    );
     closing(at, end)
 }
 
@@ -108,7 +116,15 @@ fn close_bom(
     }
     let s = at.start;
     let counts = at.counts;
-    let end = end_block(config, map, at.lines, counts, &held[..s], &mut out[3..], warnings);
+    let end = end_block(
+        config,
+        map,
+        at.lines,
+        counts,
+        &held[..s],
+        &mut out[3..],
+        warnings,
+    );
     if end.number != 0 {
         return stop(at, end.number);
     }

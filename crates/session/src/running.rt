@@ -1,7 +1,7 @@
 // A piece taken byte by byte.
-use assline::Columns;
 use crate::taking::Taken;
 use crate::taking::take_line;
+use assline::Columns;
 use event::Config;
 use machine::Counts;
 ghost use mathlib.Core.Path.{_≡_};
@@ -113,7 +113,17 @@ pub fn end_line(
     let w = at.warned;
     let counts = at.counts;
     let columns = at.columns;
-    let told = take_line(config, map, at.lines, counts, columns, &held[..m], s, &mut out[o..], &mut warnings[w..]);
+    let told = take_line(
+        config,
+        map,
+        at.lines,
+        counts,
+        columns,
+        &held[..m],
+        s,
+        &mut out[o..],
+        &mut warnings[w..],
+    );
     if told.number != 0 {
         return stop(at, told.number);
     }

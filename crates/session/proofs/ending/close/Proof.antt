@@ -1,6 +1,6 @@
 use mathlib.Core.Path.{sym}
 use native.Mathlib.Omega.{arith}
-use lib.ListN.{length, length-take, length-drop}
+use lib.ListN.{length-take, length-drop}
 use lib.Seq.{length-take-le}
 use Rattle.kinds.specs.Takes.{machineOf, ends}
 use Rattle.session.proofs.EndLaws.{ends-ass, close-none, close-block}
@@ -13,16 +13,14 @@ use Rattle.session.proofs.ending.closing.Reads as closing-reads
 use Rattle.session.proofs.taking.end_block.Reads as end-block-reads
 
 returns : tie.Need-returns
-returns c = 
+returns c =
     let S = c .before .before .before .before .before .before in
     let A = S .args in
-    let R = S .pre .1 in
     λ t s n ps o w p sh. close-none (A .config) (A .map .now) (machineOf (A .config .kind)) t s n ps o w (A .at) (A .held .now) (A .out .now) (A .warnings .now) sh (ends (A .config .kind) s n) (ends-ass (A .config .kind) s n (c .if1 .taken))
 
 slice-aggregate-end-block : tie.Need-slice-aggregate-end-block
-slice-aggregate-end-block c = 
+slice-aggregate-end-block c =
     let S = c .before .before .before .before .before .before .before .before in
-    let A = S .args in
     let R = S .pre .1 in
     sym (length-take-le _ _ (R .block))
 
@@ -48,14 +46,14 @@ part-end-block-end-2 : tie.Need-part-end-block-end-2
 part-end-block-end-2 c = search needs
 
 end-block-requires : tie.Need-end-block-requires
-end-block-requires c κs = 
+end-block-requires c κs =
     let S = c .before .before .before .before .before .before .before .before .before .before in
     let A = S .args in
     let R = S .pre .1 in
     (S .pre .0, R .lines, R .counts, simp (length-take, length-drop) (omega (arith, R)), simp (length-take, length-drop) (omega (arith, R)))
 
 closing-requires : tie.Need-closing-requires
-closing-requires c κs = 
+closing-requires c κs =
     let S = c .before .before .before .before .before .before .before .before .before .before .before .before .before .before .before in
     let A = S .args in
     let R = S .pre .1 in
@@ -71,10 +69,9 @@ same-length-2 : tie.Need-same-length-2
 same-length-2 c = search needs
 
 returns-2 : tie.Need-returns-2
-returns-2 c = 
+returns-2 c =
     let S = c .before .before .before .before .before .before .before .before .before .before .before .before .before .before .before .before in
     let A = S .args in
-    let R = S .pre .1 in
     let e = c .before .before .before .before .before .end-block in
     λ t s n ps o w p sh. close-block (A .config) (A .map .now) (machineOf (A .config .kind)) t s n ps o w (A .at) (A .held .now) (A .out .now) (A .warnings .now) sh
     (e .last .1 .1 .1 .1 .1 .0) (e .last .1 .1 .1 .1 .1 .1 .0) (e .result) _ (c .closing .ensures) (A .config .kind) (c .before .before .before .before .before .before .before .before .before .before .if1 .left) p (e .ensures .0)

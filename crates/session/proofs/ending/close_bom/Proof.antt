@@ -1,5 +1,4 @@
 use mathlib.Core.Path.{sym, ap}
-use Prim.Native.Nat.{ℕ}
 use native.Mathlib.Omega.{arith}
 use lib.ListN.{length, length-take, length-drop}
 use lib.Seq.{length-take-le}
@@ -28,7 +27,7 @@ same-length : tie.Need-same-length
 same-length c = search needs
 
 returns : tie.Need-returns
-returns c = 
+returns c =
     let S = c .before .before .before .before .before .before .before .before .before .before .before in
     let A = S .args in
     let p = S .pre .1 in
@@ -36,7 +35,7 @@ returns c =
     (ends-ass (A .config .kind) s (A .at .lines) (c .before .before .before .before .if1 .taken)) (c .before .before .before .before .before .before .after-bom .ensures) (c .before .before .put-bom .ensures)
 
 slice-aggregate-end-block : tie.Need-slice-aggregate-end-block
-slice-aggregate-end-block c = 
+slice-aggregate-end-block c =
     let S = c .before .before .before .before .before .before .before .before .before in
     let A = S .args in
     let p = S .pre .1 in
@@ -53,7 +52,7 @@ part-end-block-end : tie.Need-part-end-block-end
 part-end-block-end c = search needs
 
 end-block-requires : tie.Need-end-block-requires
-end-block-requires c κs = 
+end-block-requires c κs =
     let S = c .before .before .before .before .before .before .before .before .before .before .before in
     let A = S .args in
     let p = S .pre .1 in
@@ -70,7 +69,7 @@ same-length-3 : tie.Need-same-length-3
 same-length-3 c = search needs
 
 returns-2 : tie.Need-returns-2
-returns-2 c = 
+returns-2 c =
     let S = c .before .before .before .before .before .before .before .before .before .before .before .before .before .before .before .before .before .before .before in
     let A = S .args in
     let p = S .pre .1 in
@@ -79,14 +78,14 @@ returns-2 c =
     (A .config .kind) s (c .before .before .before .before .before .before .before .before .before .before .before .before .if1 .left) q g (e .ensures .0) _ (c .before .if2 .taken) (c .stop .ensures)
 
 put-bom-requires-2 : tie.Need-put-bom-requires-2
-put-bom-requires-2 c κs = 
+put-bom-requires-2 c κs =
     let S = c .before .before .before .before .before .before .before .before .before .before .before .before .before .before .before .before .before .before .before in
     let A = S .args in
     let p = S .pre .1 in
     front-long 3 (A .out .now) _ (omega (arith, p .out-long))
 
 closing-requires : tie.Need-closing-requires
-closing-requires c κs = 
+closing-requires c κs =
     let S = c .before .before .before .before .before .before .before .before .before .before .before .before .before .before .before .before .before .before .before .before .before .before in
     let A = S .args in
     let p = S .pre .1 in
@@ -105,7 +104,7 @@ same-length-5 : tie.Need-same-length-5
 same-length-5 c = search needs
 
 returns-3 : tie.Need-returns-3
-returns-3 c = 
+returns-3 c =
     let S = c .before .before .before .before .before .before .before .before .before .before .before .before .before .before .before .before .before .before .before .before .before .before .before in
     let A = S .args in
     let p = S .pre .1 in

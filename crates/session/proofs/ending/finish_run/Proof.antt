@@ -1,6 +1,5 @@
-use mathlib.Core.Path.{_≡_, refl}
+use mathlib.Core.Path.{refl}
 use native.Mathlib.Omega.{arith}
-use lib.ListN.{length}
 use Rattle.session.proofs.EndLaws.{start-shows, start-parsed, start-held, close-start, end-room, finish-none, finish-bom, finish-fault, finish-last, close-last}
 use borrow.Author.Needs.{needs}
 use Rattle.session.proofs.ending.finish_run.Statement.{statement}
@@ -13,7 +12,7 @@ use Rattle.session.proofs.ending.close_bom.Reads as close-bom-reads
 use Rattle.session.proofs.running.end_line.Reads as end-line-reads
 
 close-requires : tie.Need-close-requires
-close-requires c κs = 
+close-requires c κs =
     let S = c .before .before .before .before .before .before .before .before in
     let A = S .args in
     (S .pre .0, close-start (A .config) (A .map .now) (A .at) (A .held .now) (A .out .now) (A .warnings .now) (S .pre .0) (S .pre .1))
@@ -28,7 +27,7 @@ same-length-3 : tie.Need-same-length-3
 same-length-3 c = search needs
 
 returns : tie.Need-returns
-returns c = 
+returns c =
     let S = c .before .before .before .before .before .before .before .before .before .before .before .before .before in
     let A = S .args in
     let k = c .before .before .before .before .close in
@@ -36,13 +35,13 @@ returns c =
     (λ sh. k .ensures _ _ _ _ _ _ (start-parsed (A .config) (A .map .now) (A .at) (A .held .now) (A .out .now) (A .warnings .now) (S .pre .0) (S .pre .1)) sh)
 
 sub-bom-alone : tie.Need-sub-bom-alone
-sub-bom-alone c = 
+sub-bom-alone c =
     let S = c .before .before .before .before .before in
     let A = S .args in
     omega (arith, end-room (A .config) (A .map .now) (A .at) (A .held .now) (A .out .now) (A .warnings .now) (S .pre .0) (S .pre .1) .order)
 
 part-bom-alone-start : tie.Need-part-bom-alone-start
-part-bom-alone-start c = 
+part-bom-alone-start c =
     let S = c .before .before .before .before .before .before in
     let A = S .args in
     omega (arith, end-room (A .config) (A .map .now) (A .at) (A .held .now) (A .out .now) (A .warnings .now) (S .pre .0) (S .pre .1) .order)
@@ -54,9 +53,8 @@ bom-alone-requires : tie.Need-bom-alone-requires
 bom-alone-requires c κs = search needs
 
 close-bom-requires : tie.Need-close-bom-requires
-close-bom-requires c κs = 
+close-bom-requires c κs =
     let S = c .before .before .before .before .before .before .before .before .before .before .before .before in
-    let A = S .args in
     (S .pre .0, S .pre .1)
 
 same-length-4 : tie.Need-same-length-4
@@ -69,7 +67,7 @@ same-length-6 : tie.Need-same-length-6
 same-length-6 c = search needs
 
 returns-2 : tie.Need-returns-2
-returns-2 c = 
+returns-2 c =
     let S = c .before .before .before .before .before .before .before .before .before .before .before .before .before .before .before .before .before in
     let A = S .args in
     let k = c .before .before .before .before .close-bom in
@@ -77,7 +75,7 @@ returns-2 c =
     (k .result) _ _ _ (k .ensures _ refl (start-held (A .config) (A .map .now) (A .at) (A .held .now) (A .out .now) (A .warnings .now) (S .pre .0) (S .pre .1)) (start-parsed (A .config) (A .map .now) (A .at) (A .held .now) (A .out .now) (A .warnings .now) (S .pre .0) (S .pre .1)))
 
 end-line-requires : tie.Need-end-line-requires
-end-line-requires c κs = 
+end-line-requires c κs =
     let S = c .before .before .before .before .before .before .before .before .before .before .before .before in
     let A = S .args in
     (S .pre .0, end-room (A .config) (A .map .now) (A .at) (A .held .now) (A .out .now) (A .warnings .now) (S .pre .0) (S .pre .1))
@@ -92,7 +90,7 @@ same-length-9 : tie.Need-same-length-9
 same-length-9 c = search needs
 
 returns-3 : tie.Need-returns-3
-returns-3 c = 
+returns-3 c =
     let S = c .before .before .before .before .before .before .before .before .before .before .before .before .before .before .before .before .before .before .before .before .before in
     let A = S .args in
     let e = c .before .before .before .before .before .before .before .before .end-line in
@@ -100,7 +98,7 @@ returns-3 c =
     finish-fault (A .config) (A .map .now) (A .at) (A .held .now) (A .out .now) (A .warnings .now) (S .pre .0) (S .pre .1) (c .before .before .before .before .before .before .before .before .before .before .before .before .before .bom-alone .result) (c .before .before .before .before .before .before .before .before .before .before .before .before .before .before .before .before .if1 .left) (c .before .before .before .before .before .before .before .before .before .before .before .before .before .bom-alone .ensures) (c .before .before .before .before .before .before .before .before .before .before .before .before .if2 .left) (e .result) _ _ _ sh (c .if3 .taken)
 
 close-requires-2 : tie.Need-close-requires-2
-close-requires-2 c κs = 
+close-requires-2 c κs =
     let S = c .before .before .before .before .before .before .before .before .before .before .before .before .before .before .before .before .before .before .before .before .before .before .before .before in
     let A = S .args in
     let e = c .before .before .before .before .before .before .before .before .before .before .before .end-line in
@@ -117,7 +115,7 @@ same-length-12 : tie.Need-same-length-12
 same-length-12 c = search needs
 
 returns-4 : tie.Need-returns-4
-returns-4 c = 
+returns-4 c =
     let S = c .before .before .before .before .before .before .before .before .before .before .before .before .before .before .before .before .before .before .before .before .before .before .before .before .before .before .before .before .before in
     let A = S .args in
     let e = c .before .before .before .before .before .before .before .before .before .before .before .before .before .before .before .before .end-line in

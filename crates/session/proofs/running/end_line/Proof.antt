@@ -1,7 +1,7 @@
 use mathlib.Core.Path.{_≡_, sym, ap, _∙_}
 use mathlib.Core.Logic.{⊎-elim}
 use mathlib.Core.List.{_++_}
-use Prim.Native.Nat.{_+_, _-_, _≤_}
+use Prim.Native.Nat.{_≤_, _<_, _+_, _-_, _^_}
 use native.Mathlib.Omega.{arith}
 use lib.ListN.{length, take, drop, length-take, length-drop}
 use lib.Seq.{length-take-le}
@@ -22,10 +22,8 @@ slice-reshare-prefix-take-line : tie.Need-slice-reshare-prefix-take-line
 slice-reshare-prefix-take-line c = search needs
 
 slice-aggregate-take-line : tie.Need-slice-aggregate-take-line
-slice-aggregate-take-line c = 
-    let S = c .before .before .before .before .before .before .before in
-    let A = S .args in
-    let R = S .pre .1 in
+slice-aggregate-take-line c =
+    let R = c .before .before .before .before .before .before .before .pre .1 in
     sym (length-take-le _ _ (omega (arith, R .line, R .block, R .size)))
 
 sub-take-line : tie.Need-sub-take-line
@@ -50,12 +48,18 @@ part-take-line-end-2 : tie.Need-part-take-line-end-2
 part-take-line-end-2 c = search needs
 
 take-line-requires : tie.Need-take-line-requires
-take-line-requires c κs = 
+take-line-requires c κs =
     let S = c .before .before .before .before .before .before .before .before .before in
-    let A = S .args in
-    let R = S .pre .1 in
-    (S .pre .0, R .lines, R .counts, R .block, simp length-take (omega (arith, R)), simp length-take (omega (arith, R)),
-    simp (length-take, length-drop) (omega (arith, R)), simp (length-take, length-drop) (omega (arith, R)))
+    let R = S .pre .1 in (
+      S .pre .0,
+      R .lines,
+      R .counts,
+      R .block,
+      simp length-take (omega (arith, R)),
+      simp length-take (omega (arith, R)),
+      simp (length-take, length-drop) (omega (arith, R)),
+      simp (length-take, length-drop) (omega (arith, R)),
+    )
 
 stop-requires : tie.Need-stop-requires
 stop-requires c κs = search needs
@@ -70,23 +74,34 @@ same-length-3 : tie.Need-same-length-3
 same-length-3 c = search needs
 
 returns : tie.Need-returns
-returns c = 
+returns c =
     let S = c .before .before .before .before .before .before .before .before .before .before .before .before .before .before .before .before .before in
     let A = S .args in
-    let R = S .pre .1 in
     let d = c .before .before .before .before .before .before .before .take-line in
-    λ t s n l ps o w p sh. end-stop (A .config) (A .map .now) (machineOf (A .config .kind)) t s n l ps o w (A .at) (A .held .now) (A .out .now) (A .warnings .now) sh (d .result) (d .last .1 .1 .1 .1 .1 .1 .1 .0) (d .last .1 .1 .1 .1 .1 .1 .1 .1 .0) _
+    λ t s n l ps o w p sh. end-stop (A .config) (A .map .now) (machineOf (A .config .kind)) t s n l ps o w (A .at) (A .held .now) (A .out .now) (A .warnings .now) sh
+    (d .result) (d .last .1 .1 .1 .1 .1 .1 .1 .0) (d .last .1 .1 .1 .1 .1 .1 .1 .1 .0) _
     (d .ensures .0 s (sh .holds .columns) (held-block s n l (A .at) (A .held .now) (sh .holds)) p) (c .before .if1 .taken) (c .stop .ensures)
 
-lined-requires : tie.Need-lined-requires
-lined-requires c κs = 
-    let S = c .before .before .before .before .before .before .before .before .before .before .before .before .before .before .before .before .before .before in
-    let A = S .args in
+-- the bytes of a BOM before a line that passed are some of its bytes
+skip-small : (c : tie.Else1) → c .before .before .before .before .before .before .take-line .result .skip ≤ c .before .before .before .before .before .before .before .before .before .before .before .before .before .before .before .before .args .at .held - c .before .before .before .before .before .before .before .before .before .before .before .before .before .before .before .before .args .at .start
+skip-small c =
+    let R = c .before .before .before .before .before .before .before .before .before .before .before .before .before .before .before .before .pre .1 in
+    let k = rw length-take at (c .before .before .before .before .before .before .take-line .ensures .1 .0 (c .if1 .left)) in
+    omega (arith, R, k)
+
+-- what a line writes is within the buffers
+lined-fits : (c : tie.Else1)
+    → (c .before .before .before .before .before .before .before .before .before .before .before .before .before .before .before .before .args .at .lines ≤ 2 ^ 31) × (c .before .before .before .before .before .before .before .before .before .before .before .before .before .before .before .before .args .at .written + c .before .before .before .before .before .before .take-line .result .written < 2 ^ 64) × (c .before .before .before .before .before .before .before .before .before .before .before .before .before .before .before .before .args .at .warned + c .before .before .before .before .before .before .take-line .result .warned < 2 ^ 64)
+lined-fits c =
+    let S = c .before .before .before .before .before .before .before .before .before .before .before .before .before .before .before .before in
     let R = S .pre .1 in
-    let d = c .before .before .before .before .before .before .before .before .take-line in
+    let d = c .before .before .before .before .before .before .take-line in
     let x = rw (length-take, length-drop) at (d .ensures .1 .1) in
     let y = rw (length-take, length-drop) at (d .ensures .1 .2) in
     (R .lines, omega (arith, x, R, S), omega (arith, y, R, S))
+
+lined-requires : tie.Need-lined-requires
+lined-requires c κs = lined-fits (c .before .before)
 
 same-length-4 : tie.Need-same-length-4
 same-length-4 c = search needs
@@ -98,60 +113,35 @@ same-length-6 : tie.Need-same-length-6
 same-length-6 c = search needs
 
 returns-2 : tie.Need-returns-2
-returns-2 c = 
+returns-2 c =
     let S = c .before .before .before .before .before .before .before .before .before .before .before .before .before .before .before .before .before .before .before in
     let A = S .args in
-    let R = S .pre .1 in
     let d = c .before .before .before .before .before .before .before .before .before .take-line in
-    λ t s n l ps o w p sh. end-empty (A .config) (A .map .now) (machineOf (A .config .kind)) t s n l ps o w (A .at) (A .held .now) (A .out .now) (A .warnings .now) sh (d .result) (d .last .1 .1 .1 .1 .1 .1 .1 .0) (d .last .1 .1 .1 .1 .1 .1 .1 .1 .0) _
+    λ t s n l ps o w p sh. end-empty (A .config) (A .map .now) (machineOf (A .config .kind)) t s n l ps o w (A .at) (A .held .now) (A .out .now) (A .warnings .now) sh
+    (d .result) (d .last .1 .1 .1 .1 .1 .1 .1 .0) (d .last .1 .1 .1 .1 .1 .1 .1 .1 .0) _
     (d .ensures .0 s (sh .holds .columns) (held-block s n l (A .at) (A .held .now) (sh .holds)) p) (c .before .before .before .if1 .left) (not-true _ (c .before .if2 .taken)) (c .lined .ensures)
 
 sub-move-down : tie.Need-sub-move-down
-sub-move-down c = 
-    let S = c .before .before .before .before .before .before .before .before .before .before .before .before .before .before .before .before .before .before .before .before in
-    let A = S .args in
-    let R = S .pre .1 in
-    omega (arith, R)
+sub-move-down c =
+    let R = c .before .before .before .before .before .before .before .before .before .before .before .before .before .before .before .before .before .before .before .before .pre .1 in
+    omega (arith, R .order)
 
 sub-move-down-2 : tie.Need-sub-move-down-2
-sub-move-down-2 c = 
-    let S = c .before .before .before .before .before .before .before .before .before .before .before .before .before .before .before .before .before .before .before .before in
-    let A = S .args in
-    let R = S .pre .1 in
-    let d = c .before .before .before .before .before .before .before .before .before .before .take-line in
-    let k = rw length-take at (d .ensures .1 .0 (c .before .before .before .before .if1 .left)) in
-    omega (arith, R, k)
+sub-move-down-2 c = omega (arith, skip-small (c .before .before .before .before))
 
 move-down-requires : tie.Need-move-down-requires
-move-down-requires c κs = 
-    let S = c .before .before .before .before .before .before .before .before .before .before .before .before .before .before .before .before .before .before .before .before in
-    let A = S .args in
-    let R = S .pre .1 in
-    let d = c .before .before .before .before .before .before .before .before .before .before .take-line in
-    let k = rw length-take at (d .ensures .1 .0 (c .before .before .before .before .if1 .left)) in
-    omega (arith, R, k)
+move-down-requires c κs =
+    let R = c .before .before .before .before .before .before .before .before .before .before .before .before .before .before .before .before .before .before .before .before .pre .1 in
+    omega (arith, R, skip-small (c .before .before .before .before))
 
 sub-lined : tie.Need-sub-lined
-sub-lined c = 
-    let S = c .before .before .before .before .before .before .before .before .before .before .before .before .before .before .before .before .before .before .before in
-    let A = S .args in
-    let R = S .pre .1 in
-    let d = c .before .before .before .before .before .before .before .before .before .take-line in
-    let k = rw length-take at (d .ensures .1 .0 (c .before .before .before .if1 .left)) in
-    omega (arith, R, k)
+sub-lined c = omega (arith, skip-small (c .before .before .before))
 
 lined-requires-2 : tie.Need-lined-requires-2
-lined-requires-2 c κs = 
-    let S = c .before .before .before .before .before .before .before .before .before .before .before .before .before .before .before .before .before .before .before in
-    let A = S .args in
-    let R = S .pre .1 in
-    let d = c .before .before .before .before .before .before .before .before .before .take-line in
-    let x = rw (length-take, length-drop) at (d .ensures .1 .1) in
-    let y = rw (length-take, length-drop) at (d .ensures .1 .2) in
-    (R .lines, omega (arith, x, R, S), omega (arith, y, R, S))
+lined-requires-2 c κs = lined-fits (c .before .before .before)
 
 same-length-7 : tie.Need-same-length-7
-same-length-7 c = 
+same-length-7 c =
     let r = c .before .if3 in
     let e : length (r .held) ≡ length (c .before .before .before .before .before .before .before .before .before .before .before .before .before .before .before .before .before .before .before .before .args .held .now) = ⊎-elim (λ w. ap length (w .5) ∙ w .2 .kept .0) (λ w. ap length (w .1)) (r .came) in
     e
@@ -163,17 +153,19 @@ same-length-9 : tie.Need-same-length-9
 same-length-9 c = search needs
 
 returns-3 : tie.Need-returns-3
-returns-3 c = 
+returns-3 c =
     let S = c .before .before .before .before .before .before .before .before .before .before .before .before .before .before .before .before .before .before .before .before in
     let A = S .args in
-    let R = S .pre .1 in
     let d = c .before .before .before .before .before .before .before .before .before .before .take-line in
+    let R = S .pre .1 in
     let r = c .before .if3 in
-    let g : take (A .at .start + (A .at .held - A .at .start - d .result .skip)) (r .held)
-        ≡ take (A .at .start) (A .held .now) ++ take (A .at .held - A .at .start - d .result .skip) (drop (A .at .start + d .result .skip) (A .held .now)) =
-        ⊎-elim (λ w. ap (take (A .at .start + (A .at .held - A .at .start - d .result .skip))) (w .5) ∙ w .2 .ensures)
-        (λ w. ap (take (A .at .start + (A .at .held - A .at .start - d .result .skip))) (w .1) ∙ moved-none (A .held .now) (A .at .start) (d .result .skip) (A .at .held - A .at .start - d .result .skip) (w .0 .left)) (r .came) in
-    λ t s n l ps o w p sh. end-added (A .config) (A .map .now) (machineOf (A .config .kind)) t s n l ps o w (A .at) (A .held .now) (A .out .now) (A .warnings .now) sh (d .result) (d .last .1 .1 .1 .1 .1 .1 .1 .0) (d .last .1 .1 .1 .1 .1 .1 .1 .1 .0) _ _
+    let k = d .result .skip in
+    let n = A .at .held - A .at .start - d .result .skip in
+    let g : take (A .at .start + n) (r .held) ≡ take (A .at .start) (A .held .now) ++ take n (drop (A .at .start + k) (A .held .now)) =
+    ⊎-elim (λ w. ap (take (A .at .start + n)) (w .5) ∙ w .2 .ensures)
+    (λ w. ap (take (A .at .start + n)) (w .1) ∙ moved-none (A .held .now) (A .at .start) k n (w .0 .left)) (r .came) in
+    λ t s n l ps o w p sh. end-added (A .config) (A .map .now) (machineOf (A .config .kind)) t s n l ps o w (A .at) (A .held .now) (A .out .now) (A .warnings .now) sh
+    (d .result) (d .last .1 .1 .1 .1 .1 .1 .1 .0) (d .last .1 .1 .1 .1 .1 .1 .1 .1 .0) _ _
     (d .ensures .0 s (sh .holds .columns) (held-block s n l (A .at) (A .held .now) (sh .holds)) p) (c .before .before .before .before .if1 .left) (not-false _ (c .before .before .if2 .left)) (d .ensures .1 .0 (c .before .before .before .before .if1 .left)) (R .order) (omega (arith, R)) g (c .lined2 .ensures)
 
 pub end-line-spec : {M : Type 1} → statement M

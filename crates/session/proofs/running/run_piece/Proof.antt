@@ -20,7 +20,7 @@ abbrev μ-loop : tie.MeasureT-loop
 μ-loop config map piece held₀ out₀ warnings₀ at₀ i₀ held out warnings at i = length piece - i
 
 loop-holds : tie.Need-loop-holds Inv-loop μ-loop
-loop-holds c = 
+loop-holds c =
     let S = c .before .before .before .before .before in
     let A = S .args in
     record { within = omega arith; shows = begin-shows (A .config) (A .map .now) (A .start) (A .held .now) (length (A .out .now)) (length (A .warnings .now)) (S .pre .0) (S .pre .1) (A .out .now) (A .warnings .now); held-long = refl; out-long = refl; places-long = refl }
@@ -29,7 +29,7 @@ shared-slice-read-step : tie.Need-shared-slice-read-step Inv-loop μ-loop
 shared-slice-read-step c = search needs
 
 step-requires : tie.Need-step-requires Inv-loop μ-loop
-step-requires c κs = 
+step-requires c κs =
     let S = c .before .before .before .before .before .before .before .before .before .before .before in
     let A = S .args in
     let l = c .before .before .before .before .before .loop in
@@ -42,7 +42,7 @@ loop-less : tie.Need-loop-less Inv-loop μ-loop
 loop-less c = omega arith
 
 loop-again : tie.Need-loop-again Inv-loop μ-loop
-loop-again c = 
+loop-again c =
     let S = c .before .before .before .before .before .before .before .before .before .before .before .before .before .before .before .before .before .before in
     let A = S .args in
     let l = c .before .before .before .before .before .before .before .before .before .before .before .before .loop in
@@ -69,7 +69,7 @@ same-length-3 : tie.Need-same-length-3 Inv-loop μ-loop
 same-length-3 c = search needs
 
 returns : tie.Need-returns Inv-loop μ-loop
-returns c = 
+returns c =
     let S = c .before .before .before .before .before .before .before in
     let A = S .args in
     let l = c .before .loop in

@@ -1,4 +1,4 @@
-use mathlib.Core.Path.{_≡_, _∙_}
+use mathlib.Core.Path.{_∙_}
 use native.Mathlib.Omega.{arith}
 use lib.Dec.{eqb}
 use lib.ListN.{length, length-set}
@@ -14,13 +14,13 @@ use Rattle.session.proofs.running.holding.Reads as holding-reads
 use Rattle.session.proofs.running.stop.Reads as stop-reads
 
 returns : tie.Need-returns
-returns c = 
+returns c =
     let S = c .before .before .before .before .before .before in
     let A = S .args in
     λ t q o w p sh. byte-idle (A .config) (A .map .now) (machineOf (A .config .kind)) (eqb (A .config .kind) 0) t o w (A .at) (A .held .now) (A .out .now) (A .warnings .now) (A .b) q sh (c .if1 .taken)
 
 sub-if2 : tie.Need-sub-if2
-sub-if2 c = 
+sub-if2 c =
     let S = c .before .before .before .before .before .before .before in
     let A = S .args in
     let R = S .pre .1 (c .before .if1 .left) in
@@ -30,20 +30,20 @@ stop-requires : tie.Need-stop-requires
 stop-requires c κs = search needs
 
 returns-2 : tie.Need-returns-2
-returns-2 c = 
+returns-2 c =
     let S = c .before .before .before .before .before .before .before .before .before in
     let A = S .args in
     λ t q o w p sh. byte-long (A .config) (A .map .now) (machineOf (A .config .kind)) (eqb (A .config .kind) 0) t o w (A .at) (A .held .now) (A .out .now) (A .warnings .now) (A .b) q _ p sh (c .before .before .before .if1 .left) (c .before .if2 .taken) (c .stop .ensures)
 
 slice-write-held : tie.Need-slice-write-held
-slice-write-held c = 
+slice-write-held c =
     let S = c .before .before .before .before .before .before .before .before in
     let A = S .args in
     let R = S .pre .1 (c .before .before .if1 .left) in
     omega (arith, R, c .if2 .left)
 
 add-holding : tie.Need-add-holding
-add-holding c = 
+add-holding c =
     let S = c .before .before .before .before .before .before .before .before in
     let A = S .args in
     let R = S .pre .1 (c .before .before .if1 .left) in
@@ -56,7 +56,7 @@ same-length : tie.Need-same-length
 same-length c = search needs
 
 returns-3 : tie.Need-returns-3
-returns-3 c = 
+returns-3 c =
     let S = c .before .before .before .before .before .before .before .before .before .before in
     let A = S .args in
     let R = S .pre .1 (c .before .before .before .before .if1 .left) in
@@ -64,14 +64,14 @@ returns-3 c =
     (c .before .before .before .before .if1 .left) (c .before .before .if2 .left) (omega (arith, R, c .before .before .if2 .left)) (c .before .holding .ensures) (c .if3 .taken)
 
 end-line-requires : tie.Need-end-line-requires
-end-line-requires c κs = 
+end-line-requires c κs =
     let S = c .before .before .before .before .before .before .before .before .before .before .before .before .before in
     let A = S .args in
     let R = S .pre .1 (c .before .before .before .before .before .before .before .if1 .left) in
     (S .pre .0, more-room (A .at) _ (length (A .held .now)) _ _ _ (c .before .before .before .before .holding .ensures) R (c .before .before .before .before .before .if2 .left) (length-set (A .held .now) (A .at .held) (A .b)))
 
 same-length-2 : tie.Need-same-length-2
-same-length-2 c = 
+same-length-2 c =
     let S = c .before .before .before .before .before .before .before .before .before .before .before .before .before .before .before .before .before .before .before .before in
     let A = S .args in
     c .before .before .before .before .before .before .end-line .kept .1 .1 .1 .0 ∙ length-set (A .held .now) (A .at .held) (A .b)
@@ -83,7 +83,7 @@ same-length-4 : tie.Need-same-length-4
 same-length-4 c = search needs
 
 returns-4 : tie.Need-returns-4
-returns-4 c = 
+returns-4 c =
     let S = c .before .before .before .before .before .before .before .before .before .before .before .before .before .before .before .before .before .before .before .before in
     let A = S .args in
     let R = S .pre .1 (c .before .before .before .before .before .before .before .before .before .before .before .before .before .before .if1 .left) in

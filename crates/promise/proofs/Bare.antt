@@ -16,7 +16,7 @@ use Rattle.machine.specs.Machine.{Machine, Says, faulty, says, bom, hasBom, wit
 use Rattle.machine.specs.Reader.{Reading, fails, _⊕_, readLine, readClose, readLast, readRest, readLines, readText}
 use Rattle.machine.proofs.CutLaws.{cut-joined, restLines, lines-of-cut}
 use Rattle.machine.proofs.OpenLines.{bom-behind}
-use Rattle.kinds.specs.Plain.{linesRead, markWritten}
+use Rattle.promise.specs.Plain.{linesRead, markWritten}
 
 -- the rest is a line after a finish
 abbrev pub endLines : Bool → List ℕ → List (List ℕ)

@@ -24,7 +24,7 @@ use Rattle.event.specs.Emit.{Warning, warnIf, decided, Emit, render, cueEmit, e
 use Rattle.event.proofs.FateLaws.{met, fate-right}
 use Rattle.machine.specs.declared.counting.Counts.{Counts}
 use Rattle.machine.specs.Counts.{noCounts, countFate, countAll, countsOf}
-use Rattle.kinds.specs.Demand.{lostNext, Warned, Leaves, CueRight, PartRight, AllRight, passings}
+use Rattle.promise.specs.Demand.{lostNext, Warned, Leaves, CueRight, PartRight, AllRight, passings}
 
 -- ---- the first segment that is met, and those behind it
 meets-true : (x : Segment) (a b : ℕ) → Meets x a b → meets x a b ≡ true

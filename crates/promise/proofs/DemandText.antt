@@ -17,12 +17,12 @@ use Rattle.machine.proofs.Emits.{total-parts}
 use Rattle.machine.proofs.Lists.{same-as-reader}
 use Rattle.machine.proofs.Numbers.{Opened, opened, opens-fresh, opened-config}
 use Rattle.machine.proofs.Refine.{Returned, Trace, traced, trace-plays}
 use Rattle.kinds.specs.Kit.{kit, said}
-use Rattle.kinds.specs.Plain.{plainRead}
-use Rattle.kinds.specs.Demand.{passings, saidIn, played, Demand}
+use Rattle.promise.specs.Plain.{plainRead}
+use Rattle.promise.specs.Demand.{passings, saidIn, played, Demand}
 use Rattle.kinds.proofs.KindLaws.{lawful}
-use Rattle.kinds.proofs.PlainText.{said-plain}
-use Rattle.kinds.proofs.PartLaws.{all-right, passed-warnings}
+use Rattle.promise.proofs.PlainText.{said-plain}
+use Rattle.promise.proofs.PartLaws.{all-right, passed-warnings}
 
 -- from a fresh session the plain reader's answers
 module _ (c : Config) (m : List ℕ) (o : Opened c m) where

@@ -13,13 +13,13 @@ use Rattle.time.proofs.Limits.{by-kind}
 use Rattle.machine.specs.Cut.{closedLines, unfinished}
 use Rattle.machine.specs.Machine.{bom, hasBom}
 use Rattle.machine.specs.Reader.{Reading, fails, _⊕_, readText}
 use Rattle.kinds.specs.Takes.{blankState, closes, takes, ends, machineOf}
 use Rattle.kinds.specs.Kit.{said}
-use Rattle.kinds.specs.Plain.{linesRead, linesSay, restFault, firstFault, opened, markWritten, readBehind, plainRead}
+use Rattle.promise.specs.Plain.{linesRead, linesSay, restFault, firstFault, opened, markWritten, readBehind, plainRead}
 use Rattle.kinds.proofs.KindLaws.{ends-ass, ends-srt}
-use Rattle.kinds.proofs.Bare.{passed, opens, readAll, unmarked-text, marked-text}
-use Rattle.kinds.proofs.PlainAss.{ending, ass-lines, ass-first}
-use Rattle.kinds.proofs.PlainSrt.{srt-lines, srt-first}
+use Rattle.promise.proofs.Bare.{passed, opens, readAll, unmarked-text, marked-text}
+use Rattle.promise.proofs.PlainAss.{ending, ass-lines, ass-first}
+use Rattle.promise.proofs.PlainSrt.{srt-lines, srt-first}
 
 -- ---- by kind: the lines, the first line, and a close at the start
 pub record Reads (kind : ℕ) : Type 0 where

@@ -25,7 +25,7 @@ use Rattle.block.specs.Style.{blankIn, srtEnd}
 use Rattle.block.specs.Block.{blockFrame, blockCue, timingOf, afterArrow, lineSays as blockLineSays, blockSays}
 use Rattle.machine.specs.Machine.{bom}
 use Rattle.machine.specs.Reader.{reading, fails}
-use Rattle.kinds.specs.Plain.{lineFault, bodyLineFault, assRead, blocksOf, bodyFault, srtRead, linesSay, plainRead}
+use Rattle.promise.specs.Plain.{lineFault, bodyLineFault, assRead, blocksOf, bodyFault, srtRead, linesSay, plainRead}
 
 -- the bytes of a text of ASCII characters
 abbrev ascii : String → List ℕ

@@ -16,11 +16,11 @@ use Rattle.block.specs.Style.{srt, blankIn}
 use Rattle.block.specs.Block.{BlockSays, blockSays, faulty as blockFaulty, says as blockSaid}
 use Rattle.machine.specs.Machine.{Machine, Says, faulty}
 use Rattle.machine.specs.Reader.{Reading, fails, _⊕_, readLine, readClose}
 use Rattle.kinds.specs.Takes.{State, blankState, withBlock, ofBlock, closes, adds, blockTakes, takes, machineOf}
-use Rattle.kinds.specs.Plain.{lineFault, bodyLineFault, unlessFault, Block, blockOf, ontoBlock, ontoBlanks, blankOnto, blocksOf, bodyFault, blockThen, bodyThen, blanksThen, blankMark, closesBlock, srtRead, restFault}
+use Rattle.promise.specs.Plain.{lineFault, bodyLineFault, unlessFault, Block, blockOf, ontoBlock, ontoBlanks, blankOnto, blocksOf, bodyFault, blockThen, bodyThen, blanksThen, blankMark, closesBlock, srtRead, restFault}
 use Rattle.kinds.proofs.KindLaws.{takes-srt, ends-srt}
-use Rattle.kinds.proofs.Bare.{passed, endOf, readAll}
-use Rattle.kinds.proofs.PlainAss.{rest-behind, ending}
+use Rattle.promise.proofs.Bare.{passed, endOf, readAll}
+use Rattle.promise.proofs.PlainAss.{rest-behind, ending}
 
 abbrev M : Machine State
 M = machineOf 1

@@ -18,8 +18,8 @@ use Rattle.machine.specs.Counts.{total}
 use Rattle.machine.specs.Reader.{Reading}
 use Rattle.machine.specs.Session.{Call, openSession}
 use Rattle.machine.specs.Calls.{Played, play, Heard, newReader, hear, readingOf, SameAsReader}
 use Rattle.kinds.specs.Kit.{kit}
-use Rattle.kinds.specs.Plain.{plainRead}
+use Rattle.promise.specs.Plain.{plainRead}
 
 -- ---- what is right for each part, in plain words
 module _ (c : Config) (m : List Segment) where

@@ -4,7 +4,7 @@ use mathlib.Core.Bool.{Bool, true, false, cond}
 use mathlib.Core.List.{List, [], _∷_, _++_}
 use Prim.Native.Nat.{ℕ}
 use Rattle.block.specs.Style.{blankIn}
-use Rattle.kinds.specs.Plain.{Block, ontoBlock, ontoBlanks, blankOnto, blocksOf}
+use Rattle.promise.specs.Plain.{Block, ontoBlock, ontoBlanks, blankOnto, blocksOf}
 
 -- the lines of blocks, in order
 abbrev pub blockLines : List Block → List (List ℕ)

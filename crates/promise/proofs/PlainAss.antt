@@ -17,10 +17,10 @@ use Rattle.ass.specs.Line.{LineSays, textSays, lineSays, faulty as lineFaulty, 
 use Rattle.assline.specs.Section.{bracketed}
 use Rattle.machine.specs.Machine.{Machine, Says, faulty}
 use Rattle.machine.specs.Reader.{Reading, fails, _⊕_, readLine, readClose}
 use Rattle.kinds.specs.Takes.{State, noColumns, blankState, ofLine, lineTakes, takes, machineOf}
-use Rattle.kinds.specs.Plain.{lineFault, unlessFault, lineThen, assRead, restFault}
+use Rattle.promise.specs.Plain.{lineFault, unlessFault, lineThen, assRead, restFault}
 use Rattle.kinds.proofs.KindLaws.{takes-ass, ends-ass}
-use Rattle.kinds.proofs.Bare.{passed, endOf, readAll}
+use Rattle.promise.proofs.Bare.{passed, endOf, readAll}
 
 -- a rest behind a line
 pub rest-behind : (f : Bool) (x : ℕ) (l : List ℕ) (ls : List (List ℕ)) (r : List ℕ) → restFault f 0 ls r ≡ restFault f x (l ∷ ls) r

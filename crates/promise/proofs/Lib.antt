@@ -1,0 +1,10 @@
+pub mod Bare
+pub mod PlainAss
+pub mod PlainSrt
+pub mod PlainText
+pub mod PartLaws
+pub mod DemandText
+pub mod BlockShape
+pub mod Examples
+pub mod RunLaws
+pub mod ThePromise

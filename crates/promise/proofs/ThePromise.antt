@@ -1,0 +1,93 @@
+-- DEMAND 3, proved: `promise` from the bytes of a sheet and a trim list, `promise-opened` for every map that open accepts.
+use mathlib.Core.Path.{_≡_, refl, sym, ap, subst, _∙_}
+use mathlib.Core.Bool.{Bool, true, false, _||_}
+use mathlib.Core.List.{List}
+use Prim.Native.Nat.{ℕ, _≤_, _<_}
+use native.Mathlib.Omega.{arith}
+use lib.ListN.{length, getD}
+use Rattle.base.specs.Limits.{mostHeld}
+use Rattle.sheet.proofs.SheetLaws.{sound-head}
+use Rattle.time.specs.Kind.{kindBad}
+use Rattle.time.specs.Convert.{timescaleBad}
+use Rattle.time.proofs.Limits.{timescale-good}
+use Rattle.segmap.specs.Segment.{flatOf, mapBad}
+use Rattle.segmap.specs.Map.{mapOf, mapNumber}
+use Rattle.segmap.proofs.Built.{map-number, made-parts, made-timescale, made-good}
+use Rattle.assline.specs.declared.layout.Columns.{Columns}
+use Rattle.machine.specs.Session.{Gate, refuse, admit, gate, openBy, openSession}
+use Rattle.machine.specs.Session as model
+use Rattle.machine.specs.Calls.{Played, Proper}
+use Rattle.machine.proofs.Refine.{traced}
+use Rattle.machine.proofs.Numbers.{opens-fresh}
+use Rattle.kinds.specs.Kit.{kit}
+use Rattle.foreign.specs.declared.holding.Session.{Session}
+use Rattle.foreign.specs.View.{view, stored}
+use Rattle.foreign.proofs.ViewLaws.{view-stored, padded-length}
+use Rattle.session.specs.declared.calling.Opened.{Opened}
+use Rattle.session.specs.Answer.{OpenAnswered, openOf}
+use Rattle.promise.specs.Demand.{Demand}
+use Rattle.promise.specs.Runs.{Made, callsOf, Ran, outcome}
+use Rattle.promise.specs.Promise.{configOf, Kept, PromiseOpened, Holds, Promise}
+use Rattle.promise.proofs.DemandText.{demand-traced}
+use Rattle.promise.proofs.RunLaws.{Whole, returnedAll, ran-trace, ran-outcome}
+
+-- ---- the session that open returned
+open-small : (kind T : ℕ) (g : Gate) → length (openBy kit g (configOf kind T) .session .held) ≤ mostHeld
+open-small kind T (refuse k) = omega arith
+open-small kind T admit = omega arith
+
+held-small : (kind T : ℕ) (m : List ℕ) → length (openSession kit (configOf kind T) m .session .held) ≤ mostHeld
+held-small kind T m = open-small kind T (gate false false (timescaleBad T || mapBad m) (kindBad kind))
+
+module _ (kind T : ℕ) (m : List ℕ) (o : Opened) (a : OpenAnswered kind T m o) where
+  open-is : openOf kind T m ≡ openSession kit (configOf kind T) m
+  unfolding openOf
+  open-is = refl
+
+  session-is : o .session ≡ stored (openSession kit (configOf kind T) m .session)
+  session-is = a .session ∙ ap (λ (x : model.Answer Columns). stored (x .session)) open-is
+
+  open-view : view (o .session) ≡ openSession kit (configOf kind T) m .session
+  open-view = ap view session-is ∙ view-stored (openSession kit (configOf kind T) m .session) (held-small kind T m)
+
+  stored-size : Whole (stored (openSession kit (configOf kind T) m .session))
+  unfolding stored
+  stored-size = padded-length (openSession kit (configOf kind T) m .session .held) (held-small kind T m)
+
+  open-whole : Whole (o .session)
+  open-whole = subst Whole (sym session-is) stored-size
+
+  open-number : o .number ≡ openSession kit (configOf kind T) m .number
+  open-number = a .number ∙ ap (λ (x : model.Answer Columns). x .number) open-is
+
+-- DEMAND 3 through every map that open accepts
+pub promise-opened : PromiseOpened
+promise-opened kind T m o a z cs p r =
+    subst (Demand (configOf kind T) m (callsOf cs)) (sym (ran-outcome (o .session) cs))
+    (demand-traced view (configOf kind T) m (sym (open-number kind T m o a) ∙ z) (o .session) (open-view kind T m o a) (callsOf cs) p (returnedAll cs)
+    (ran-trace (o .session) (open-whole kind T m o a) cs r))
+
+-- ---- the map that is built opens with 0
+module _ (sheet list : List ℕ) (d l : ℕ) (bytes : (j : ℕ) → getD sheet j 0 < 256) (e : mapOf sheet list d l .number ≡ 0) where
+  built-number : mapNumber sheet list d l ≡ 0
+  built-number = sym (map-number sheet list d l) ∙ e
+
+  pub built-timescale : timescaleBad (mapOf sheet list d l .timescale) ≡ false
+  built-timescale =
+      let h = sound-head sheet (made-parts sheet list d l built-number .sheet-sound) in
+      ap timescaleBad (made-timescale sheet list d l built-number) ∙ timescale-good _ (h .timescale-low) (h .timescale-high)
+
+  pub built-opens : (kind : ℕ) → kindBad kind ≡ false → openSession kit (configOf kind (mapOf sheet list d l .timescale)) (flatOf (mapOf sheet list d l .segments)) .number ≡ 0
+  built-opens kind k =
+      ap (λ (x : model.Answer Columns). x .number)
+      (opens-fresh kit (configOf kind (mapOf sheet list d l .timescale)) (flatOf (mapOf sheet list d l .segments))
+      (record { timescale-good = built-timescale; map-good = made-good sheet list d l built-number bytes; kind-known = k }))
+
+-- DEMAND 3 from the bytes of a sheet and a trim list
+pub promise : Promise
+promise sheet list d l kind bytes e k o a =
+    let z = open-number kind (mapOf sheet list d l .timescale) (flatOf (mapOf sheet list d l .segments)) o a ∙ built-opens sheet list d l bytes e kind k in
+    record {
+      opens = z;
+      kept = promise-opened kind (mapOf sheet list d l .timescale) (flatOf (mapOf sheet list d l .segments)) o a z;
+    }

@@ -1,0 +1,6 @@
+-- Demand 3. `Promise` has the claim from the bytes of a sheet and a trim list; it stands on `Runs` (lists of calls as a caller makes them),
+-- `Demand` (what is claimed of a list) and `Plain` (document 01's plain reader).
+pub mod Plain
+pub mod Demand
+pub mod Runs
+pub mod Promise
