@@ -1,6 +1,6 @@
 #!/usr/bin/env python3
 """Writes a stream of cases for the oracle and for `replay`: cases.py SEED COUNT OPS > stream
-OPS is a string of op numbers, as 124: each case draws one of them. The stream's form: a head of eight 32-bit words
+OPS is a string of op numbers, as 12345: each case draws one of them. The stream's form: a head of eight 32-bit words
 (op a b c d lenX lenY lenZ), then the bytes X, Y, Z. Cases are structured, near every boundary, and damaged."""
 import random
 import struct
@@ -173,6 +173,370 @@ def conversion(r):
     return case(4, t, u, way, x=struct.pack('<Q', v))
 
 
+# ---- caption texts
+TAGS = [r'{\move(1,2,3,4)}', r'{\t(0,5,\fs1)}', r'{\fad(1,2)}', r'{\fade(255,0,0,1,2,3,4)}', r'{\k20}', r'{\kf20}', r'{\K20}', r'{\mov(}', r'\fa',
+        r'\t', r'\\k', '\\', r'{\pos(1,2)}', r'\fade', r'\move (']
+WORDS = ['Hello', 'a', '本編', 'é', '字幕、テスト', '😀', ',', ', ', '-->', ' --> ', '0:00:01.00', '00:00:01,000', 'x' * 40, '\ufeff', '\r', '[Events]', '\u3000', '']
+TIMESCALES = [1, 2, 24, 100, 999, 1000, 1001, 24000, 30000, 30000, 30000, 60000, 90000, 1000000]
+MOST = {100: 9999 * 360000 + 359999, 1000: 9999 * 3600000 + 3599999}
+
+
+def white(r, most=2):
+    return ''.join(r.choice(WHITE[:9]) for _ in range(r.randint(0, most)))
+
+
+def words(r):
+    parts = [r.choice(WORDS) if r.random() < 0.7 else r.choice(TAGS) for _ in range(r.choice([0, 1, 1, 2, 3]))]
+    return ''.join(parts)
+
+
+def units(r, u, t, edges, span):
+    """A time in units: near an edge of the map, or anywhere in its span."""
+    if edges and r.random() < 0.7:
+        v = r.choice(edges) * u // t + r.choice([-1, 0, 0, 0, 1, 1, 2])
+    else:
+        v = r.randint(0, span * u // t + 2)
+    if r.random() < 0.01:
+        v = MOST[u] - r.randint(0, 3)
+    return max(0, min(v, MOST[u]))
+
+
+def time_text(r, u, v, plain=0.85):
+    h, m, s, f = v // (3600 * u), v // (60 * u) % 60, v // u % 60, v % u
+    mark, digits = ('.', 2) if u == 100 else (',', 3)
+    if r.random() < plain:
+        return '%0*d:%02d:%02d%s%0*d' % (1 if u == 100 else 2, h, m, s, mark, digits, f)
+    how = r.randrange(8)
+    if how == 0:
+        return '%d:%d:%d%s%d' % (h, m, s, mark, f)
+    if how == 1:
+        parts = [('+' if r.random() < 0.5 else '') + '0' * r.randint(0, 3) + str(x) for x in (h, m, s, f)]
+        return '%s:%s:%s%s%s' % (parts[0], parts[1], parts[2], mark, parts[3])
+    if how == 2:
+        return white(r) + '%d:%02d:%02d%s%0*d' % (h, m, s, mark, digits, f) + white(r)
+    if how == 3:
+        bad = [h, m, s, f]
+        bad[r.randrange(4)] = r.choice([59, 60, 61, 99, 100, 999, 1000, 9999, 10000, 10 ** 25])
+        return '%d:%02d:%02d%s%0*d' % (bad[0], bad[1], bad[2], mark, digits, bad[3])
+    text = '%0*d:%02d:%02d%s%0*d' % (1 if u == 100 else 2, h, m, s, mark, digits, f)
+    i = r.randrange(len(text))
+    if how == 4:
+        return text[:i] + text[i + 1:]
+    if how == 5:
+        return text[:i] + r.choice(['+', '-', ' ', ':', '.', ',', '1', '0', '９', '\u3000', 'x', '']) + text[i:]
+    if how == 6:
+        return text[:i] + r.choice(['+', '-', ' ', ':', '.', ',', '1', '٣', 'x']) + text[i + 1:]
+    return r.choice(['', '+', ':', '::', '0:0:0', '0:0' + mark + '0', '0:0:0' + mark, '1:2:3:4' + mark + '5', '0:00:00' + mark + '1 2'])
+
+
+def pair(r, u, t, edges, span):
+    a, b = units(r, u, t, edges, span), units(r, u, t, edges, span)
+    if r.random() < 0.4:
+        b = min(a + r.randint(0, r.choice([2, 20, 3 * u])), MOST[u])
+    if a > b and r.random() < 0.9:
+        a, b = b, a
+    return a, b
+
+
+def ass_text(r, t, edges, span, plain):
+    ends = r.choice([['\n'], ['\n'], ['\r\n'], ['\n', '\r\n'], ['\n', '\r\n', '\r\r\n']])
+    lines, columns = [], ['Start', 'End', 'Text']
+    if r.random() < 0.9:
+        lines += ['[Script Info]', 'Title: x', ''] if r.random() < 0.2 else []
+        columns = r.choice([['Layer', 'Start', 'End', 'Style', 'Text'], ['Start', 'End', 'Text'], ['Text', 'End', 'Start'], ['Marked', 'Start', 'End', 'Style', 'Name', 'MarginL', 'MarginR', 'MarginV', 'Effect', 'Text']])
+        lines += ['[Events]', 'Format: ' + ', '.join(columns)]
+    for _ in range(r.choice([0, 1, 2, 3, 5, 8, 12, r.randint(0, 40)])):
+        p = r.random()
+        if p < 0.04:
+            lines.append(r.choice(['[Events]', ' [Events]\t', '[events]', '[]', '[', ']', '[Events', '[Events ]', '[Events]x', '\u3000[Events]\u00a0', '[V4+ Styles]', '[[Events]]', 'Events', '[Ev,ents]']))
+        elif p < 0.10:
+            columns = r.choice([['Start', 'End', 'Text'], ['End', 'Start'], ['Start'], ['Layer', 'End', 'Text'], ['Start', 'Start', 'End', 'End', 'Text'], ['start', 'end', 'Text'], [''], ['', 'Start', '', 'End', ''],
+                                ['Text', 'Start', 'End'], ['A', 'Start', 'End', 'B', 'C', 'D', 'E', 'F', 'G', 'Text'], ['Start', 'End'], ['Start ing', 'End', 'Start']])
+            sep = r.choice([',', ', ', ' ,\t', ',\u3000'])
+            lines.append(r.choice(['Format:', 'Format: ', 'Format:', 'Format:\t', ' Format:', 'format:', 'Format :']) + sep.join(white(r, 1) + c if r.random() < 0.2 else c for c in columns) + r.choice(['', '', ' ']))
+        elif p < 0.18:
+            lines.append(r.choice(['', ' ', '; comment', 'Dialogue', 'dialogue: 0,1,2', ' Dialogue: 0,0:00:00.00,0:00:01.00,x', 'Picture: 0,0:00:00.00,0:00:01.00,x', 'Dialogue:', 'Comment:', words(r), words(r)]))
+        else:
+            a, b = pair(r, 100, t, edges, span)
+            fields = []
+            for c in columns:
+                if c.strip() == 'Start':
+                    fields.append(time_text(r, 100, a, plain))
+                elif c.strip() == 'End':
+                    fields.append(time_text(r, 100, b, plain))
+                else:
+                    fields.append(words(r).replace(',', ';'))
+            if r.random() < (0.01 if columns[-1].strip() in ('Start', 'End') else 0.5):
+                fields[-1] += words(r)
+            if r.random() < 0.03 and fields:
+                fields = fields[:r.randint(0, len(fields))]
+            lines.append(r.choice(['Dialogue:', 'Dialogue:', 'Dialogue:', 'Comment:']) + r.choice([' ', ' ', '', '  ']) + ','.join(fields))
+    out = ''.join(l + r.choice(ends) for l in lines)
+    return out
+
+
+def srt_text(r, t, edges, span, plain):
+    ends = r.choice([['\n'], ['\n'], ['\r\n'], ['\n', '\r\n'], ['\n', '\r\n', '\r\r\n']])
+    out = ''
+    blank = r.choice([[''], [''], ['', '', ' ', '\t', '\u3000', '\r', '\u00a0 ', '\u2003']])
+    if r.random() < 0.1:
+        out += r.choice(blank) + r.choice(ends)
+    for k in range(r.choice([0, 1, 2, 3, 5, 8, 12, r.randint(0, 40)])):
+        a, b = pair(r, 1000, t, edges, span)
+        lines = [str(k + 1)] if r.random() < 0.95 else []
+        arrow = r.choice([' --> '] * 5 + ['-->', ' -->', '--> ', '\t-->\u3000']) if r.random() < 0.99 + 0.01 * plain else r.choice([' ->', ' ---> ', '-- >', ' --> --> '])
+        after = r.choice([''] * 12 + [' X1:1 X2:2', ' ', '日', '6', '\u3000', ' 日本', '\u0301', ' --> 1'])
+        if r.random() < 0.97:
+            lines.append(time_text(r, 1000, a, plain) + arrow + time_text(r, 1000, b, plain) + after)
+        for _ in range(r.choice([0, 1, 1, 2, 3])):
+            w = words(r)
+            if w.strip() or r.random() < 0.1:
+                lines.append(w)
+        if r.random() < 0.01:
+            r.shuffle(lines)
+        out += ''.join(l + r.choice(ends) for l in lines)
+        for _ in range(r.choice([0, 2, 3]) if r.random() < 0.1 else 1):
+            out += r.choice(blank) + r.choice(ends)
+    return out
+
+
+def long_text(r, kind, text):
+    """A line, or a block of SRT, near 4,096 bytes."""
+    if kind == 0 or r.random() < 0.5:
+        lines = text.splitlines(keepends=True) or ['']
+        i = r.randrange(len(lines))
+        body = lines[i].rstrip('\r\n')
+        end = lines[i][len(body):]
+        size = r.choice([4095, 4096, 4097, 4098]) - len((body + end).encode())
+        pad = r.choice(['a', '日', ' ', '\\k']) if size > 0 else ''
+        n = size // len(pad.encode()) if pad else 0
+        lines[i] = body + pad * n + 'b' * (size - n * len(pad.encode()) if pad else 0) + end
+        return ''.join(lines)
+    size = r.choice([4094, 4095, 4096, 4097, 4098])
+    block = '1\n00:00:00,050 --> 00:00:09,060\n'
+    while len(block) < size:
+        n = min(size - len(block), r.choice([2, 50, 1000, 3000]))
+        block += 'c' * (n - 1) + '\n'
+    cut = r.choice([0, len(text)])
+    return text[:cut] + ('\n' if cut else '') + block + r.choice(['\n', '', '\r\n', ' \n']) + text[cut:]
+
+
+def damaged_text(r, b):
+    how = r.randrange(6)
+    b = bytearray(b)
+    i = r.randrange(len(b) + 1)
+    if how == 0 and b:
+        b[i % len(b)] = r.choice([0x80, 0xff, 0xc3, 0xe3, 0xed, 0xf4, 0xc0, 0])
+    elif how == 1:
+        b[i:i] = r.choice([b'\n', b'\r', b'\r\n', b'\n\n', b'-->', b',', b':', b'[Events]\n', b'Format: Start\n', b'\xef\xbb\xbf', b'\xe3\x80\x80', b'\xef\xbb', b'\xc2\x85'])
+    elif how == 2:
+        del b[i:i + r.choice([1, 1, 2, 5, 40])]
+    elif how == 3 and b:
+        b[i % len(b)] = r.choice(b'0123456789:.,->\n\r []')
+    elif how == 4:
+        del b[i:]
+    else:
+        j = r.randrange(len(b) + 1)
+        b[i:i] = b[min(i, j):max(i, j)][:200]
+    return bytes(b)
+
+
+def caption_text(r, kind, t, edges, span):
+    """A text of the kind, for a map with these edges, in ticks, and this span."""
+    plain = r.choice([1.0, 1.0, 1.0, 0.99, 0.97, 0.8])
+    text = (ass_text if kind == 0 else srt_text)(r, t, edges, span, plain)
+    if r.random() < 0.03:
+        text = long_text(r, kind, text)
+    if r.random() < 0.3 and text.endswith('\n'):
+        text = text[:-1] if r.random() < 0.7 else text.rstrip('\r\n')
+    b = text.encode()
+    if r.random() < 0.15:
+        b = b'\xef\xbb\xbf' + b
+    if r.random() < 0.02:
+        b = r.choice([b'', b'\xef\xbb\xbf', b'\xef\xbb', b'\xef', b'\n', b'\r', b'\r\n', b'\xef\xbb\xbf\n', b'\xef\xbb\xbf\xef\xbb\xbf'])
+    while r.random() < 0.1:
+        b = damaged_text(r, b)
+    return b
+
+
+def plan(r):
+    """How the text is cut: 0 pieces of 1,024, else pieces of 1 to 1 + plan % 1,024 bytes."""
+    return r.choice([0, 1024, 1025, 2, 5, 15, 63, 200, r.randint(1, 1023), r.getrandbits(32)])
+
+
+def given_map(r, t):
+    """Numbers of a map in ticks, its edges and its span."""
+    span = r.choice([1, 1, 10, 60, 3600, 9999 * 3600]) * t
+    n = r.choice([0, 1, 1, 2, 2, 3, 3, 5, 8, 30])
+    cuts = sorted(r.randint(0, span) for _ in range(2 * n))
+    if r.random() < 0.3:
+        for i in range(2, len(cuts), 2):  # touching
+            if r.random() < 0.4:
+                cuts[i] = cuts[i - 1]
+    rows, at, frame = [], 0, 0
+    for i in range(n):
+        a, b = cuts[2 * i], cuts[2 * i + 1]
+        if r.random() < 0.05:
+            b = a
+        if r.random() < 0.02:
+            a, b = r.randint(0, span), r.randint(0, span)
+            a, b = min(a, b), max(a, b)
+        k = r.randint(0, 1000)
+        rows.append([frame, frame + k, a, k, at, b - a])
+        frame += k + r.randint(0, 100)
+        at += b - a
+    if rows and r.random() < 0.05:
+        r.shuffle(rows)
+    if rows and r.random() < 0.05:
+        k = r.randrange(len(rows))
+        rows[k][r.choice([0, 1, 2, 3, 4, 5])] = r.choice([0, 1, 4294967295, 4294967296, (1 << 52) - 1, 1 << 52, (1 << 52) + 1, (1 << 64) - 1])
+    if rows and r.random() < 0.05:  # output far behind
+        o = (1 << 52) - at - r.choice([0, 0, 1, 5, 1000])
+        for row in rows:
+            row[4] = min(row[4] + o, (1 << 64) - 1)
+    edges = [x for row in rows for x in (row[2], row[2] + row[5])]
+    return [x for row in rows for x in row], edges, span
+
+
+def through_given(r):
+    kind = r.randrange(2)
+    t = r.choice(TIMESCALES + [r.randint(1, 1000000)])
+    numbers, edges, span = given_map(r, t)
+    x = struct.pack('<%dQ' % len(numbers), *numbers)
+    if r.random() < 0.005:
+        x = x[:r.randrange(len(x) + 1)]
+    a = t if r.random() < 0.998 else r.choice([0, 1000001, 0xFFFFFFFF])
+    return case(5, a, kind if r.random() < 0.998 else 2, 0, plan(r), x, b'', caption_text(r, kind, t, edges, span))
+
+
+def fitting_list(r, n, gap):
+    """A list whose ranges begin and end at sync frames, or near them, of a sheet with a sync frame each `gap` frames."""
+    marks = sorted(r.sample(range(0, n + gap, gap), min(2 * r.choice([1, 1, 2, 3, 5, 30]), n // gap + 1) // 2 * 2))
+    tokens = []
+    for a, e in zip(marks[::2], marks[1::2]):
+        if r.random() < 0.2:
+            a, e = a + r.randint(0, gap - 1), max(a + 1, e - r.randint(0, gap - 1))
+        tokens.append('Trim(%s,%s)' % (number(r, a), number(r, max(a, e - 1))))
+    return r.choice([' ++ ', '++', '\n++ ']).join(tokens).encode()
+
+
+def through_made(r):
+    kind = r.randrange(2)
+    if r.random() < 0.2:
+        w, gap = sheet_words(r), 0
+    else:
+        n, gap = r.randint(1, 150), r.choice([1, 1, 2, 3, 5])
+        w = sheet_words(r, n)
+        for i in range(n):
+            at = 128 * (1 + i // 63) + 1 + 2 * (i % 63)
+            w[at] = i | (1 << 31 if i % gap == 0 else 0)
+        for b in range(len(w) // 128):
+            seal(w, b)
+    n, t = w[2], w[1]
+    sums = [0]
+    for i in range(n):
+        sums.append(sums[-1] + w[128 * (1 + i // 63) + 2 + 2 * (i % 63)])
+    x = as_bytes(w) if r.random() < 0.98 else sheet(r, 1.0)
+    return case(3, r.randrange(2) if r.random() < 0.995 else 2, kind, 0, plan(r), x, fitting_list(r, n, gap) if gap else trim_list(r, n, 0.03),
+                caption_text(r, kind, t, sums, sums[-1]))
+
+
+# ---- the number of a text by document 01 alone, where the oracle says nothing
+SPACE = ''.join(chr(c) for c in (*range(9, 14), 32, 0x85, 0xa0, 0x1680, *range(0x2000, 0x200b), 0x2028, 0x2029, 0x202f, 0x205f, 0x3000))
+
+
+def time_bad(text, u):
+    parts, rest = [], text.strip(SPACE)
+    for mark in (':', ':', '.' if u == 100 else ','):
+        if mark not in rest:
+            return True
+        part, rest = rest.split(mark, 1)
+        parts.append(part)
+    for part, most in zip(parts + [rest], (9999, 59, 59, u - 1)):
+        digits = part[1:] if part.startswith('+') else part
+        if not digits or any(c not in '0123456789' for c in digits) or int(digits) > most:
+            return True
+    return False
+
+
+def bare(line):
+    return line[:-2] if line.endswith('\r\n') else line[:-1] if line.endswith('\n') else line
+
+
+def ass_bad(line, state):
+    """22 of an ASS line; state: whether in Events, and the columns."""
+    line = bare(line)
+    inner = line.strip(SPACE)
+    if len(inner.encode()) >= 2 and inner[0] == '[' and inner[-1] == ']':
+        state[0] = inner[1:-1] == 'Events'
+    elif state[0] and line.startswith('Format:'):
+        state[1] = [c.strip(SPACE) for c in line[7:].split(',')]
+    elif state[0] and line.startswith(('Dialogue:', 'Comment:')) and 'Start' in state[1] and 'End' in state[1]:
+        fields = line.split(':', 1)[1].split(',', len(state[1]) - 1)
+        if len(fields) == len(state[1]):
+            return any(time_bad(fields[state[1].index(c)], 100) for c in ('Start', 'End'))
+    return False
+
+
+def block_bad(block):
+    """22 of an SRT block."""
+    for line in map(bare, block):
+        if '-->' in line:
+            left, right = line.split('-->', 1)
+            right = right.lstrip(SPACE)
+            try:
+                end = right.encode()[:12].decode() if len(right.encode()) >= 12 else right
+            except UnicodeDecodeError:
+                end = right
+            return time_bad(left, 1000) or time_bad(end, 1000)
+    return False
+
+
+def text_number(kind, text):
+    """19 to 22 of a text, or 0, in document 01's order."""
+    lines = text.split(b'\n')
+    lines = [l + b'\n' for l in lines[:-1]] + ([lines[-1]] if lines[-1] else [])
+    state, block = [False, []], []
+    if text == b'\xef\xbb\xbf':
+        return 0
+    for k, line in enumerate(lines):
+        if len(line) > 4096:
+            return 19
+        if k == 0 and line.startswith(b'\xef\xbb\xbf'):
+            line = line[3:]
+        try:
+            line = line.decode()
+        except UnicodeDecodeError:
+            return 20
+        if kind == 0:
+            if ass_bad(line, state):
+                return 22
+        elif not line.strip(SPACE):
+            if block_bad(block):
+                return 22
+            block = []
+        else:
+            block.append(line)
+            if sum(len(l.encode()) for l in block) > 4096:
+                return 21
+    return 22 if block_bad(block) else 0
+
+
+def number_of(case):
+    """The number of a case of op 3 whose map is made, or of op 5."""
+    op, a, b, _, _, n, m, l = struct.unpack('<8I', case[:32])
+    if op == 5:
+        w = struct.unpack('<%dQ' % (n // 8), case[32:32 + n // 8 * 8])
+        rows = [w[i:i + 6] for i in range(0, len(w), 6)]
+        if not 1 <= a <= 1000000 or len(w) % 6 or len(rows) > 1024:
+            return 15
+        if any(max(x[0], x[1], x[3]) > 0xFFFFFFFF or x[2] + x[5] > 1 << 52 or x[4] + x[5] > 1 << 52 for x in rows):
+            return 15
+        if b > 1:
+            return 16
+    return text_number(b, case[32 + n + m:])
+
+
 def one(r, op):
     if op == 1:
         return case(1, x=trim_list(r))
@@ -183,8 +547,12 @@ def one(r, op):
         else:
             x, n = as_bytes(w), w[2]
         return case(2, 0 if r.random() < 0.5 else 1 if r.random() < 0.96 else r.choice([2, 0xFFFFFFFF]), x=x, y=trim_list(r, n, 0.15))
+    if op == 3:
+        return through_made(r)
     if op == 4:
         return conversion(r)
+    if op == 5:
+        return through_given(r)
     raise SystemExit('no cases for op %d' % op)
 
 

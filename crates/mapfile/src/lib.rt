@@ -1,8 +1,11 @@
-// What the programs `mapper` and `mapper_cases` share: a file's bytes, and the map of a sheet and a list printed.
+// What the programs over files share: a file's bytes, the map of a sheet and a list printed, the segments of a map.
 mod file;
 mod print;
+mod segments;
 
 pub use file::load;
+pub use file::open_below;
 pub use print::print_map;
 pub use print::print_map_of;
 pub use print::print_number;
+pub use segments::first_segments;

@@ -1,32 +1,52 @@
 // Answers a stream of cases on standard input: eight 32-bit words `op a b c d lenX lenY lenZ`, then the bytes X, Y and Z.
-// Ops: 1 a trim list, 2 a map, 4 a conversion. The answers have the form of the program that this one is compared with.
+// Ops: 1 a trim list, 2 a map, 3 a text retimed, 4 a conversion, 5 a text retimed through a given map. The answers have the form of the
+// program that this one is compared with. Word d of ops 3 and 5 says how the text is cut into pieces; the answer is the same for each.
 mod answer;
 mod input;
+mod mapping;
+mod retiming;
 
 use libc::STDOUT_FILENO;
 
-// One case, of which the head is read; answers whether its parts fitted.
-fn run_case(head: &[u8], k: u64) {
+// One case, of which the head is read; its parts go to the lent slices. `too large` where one does not fit.
+fn run_case(
+    head: &[u8],
+    k: u64,
+    x: &mut [u8],
+    y: &mut [u8],
+    z: &mut [u8],
+    all: &mut [u8],
+    notes: &mut [u8],
+) {
     io::write_all(STDOUT_FILENO, b"case ");
     io::print_decimal(STDOUT_FILENO, k);
     io::write_all(STDOUT_FILENO, b"\n");
-    let mut x = [0u8; 70000];
-    let mut y = [0u8; 70000];
-    let mut z = [0u8; 70000];
     let n = blocks::word(head, 5) as usize;
     let m = blocks::word(head, 6) as usize;
     let l = blocks::word(head, 7) as usize;
-    let first = input::take(&mut x, n);
-    let second = input::take(&mut y, m);
-    let third = input::take(&mut z, l);
+    let first = input::take(x, n);
+    let second = input::take(y, m);
+    let third = input::take(z, l);
     if first && second && third {
-        answer::answer(head, base::front(&x, n), base::front(&y, m));
+        answer::answer(
+            head,
+            base::front(x, n),
+            base::front(y, m),
+            base::front(z, l),
+            all,
+            notes,
+        );
         return;
     }
     io::write_all(STDOUT_FILENO, b"too large\n");
 }
 
 fn main() {
+    let mut x = [0u8; 70000];
+    let mut y = [0u8; 70000];
+    let mut z = [0u8; 262144];
+    let mut all = [0u8; 1048576];
+    let mut notes = [0u8; 524288];
     let mut k: u64 = 0;
     while k < 1099511627776 {
         let mut head = [0u8; 32];
@@ -34,7 +54,7 @@ fn main() {
         if n < 32 {
             return;
         }
-        run_case(&head, k);
+        run_case(&head, k, &mut x, &mut y, &mut z, &mut all, &mut notes);
         k += 1;
     }
 }

@@ -1,0 +1,92 @@
+// The map of a case that has a text.
+use crate::retiming::print_retimed;
+ghost use mathlib.Core.Path.{_≡_};
+ghost use lib.ListN.{take};
+
+// The first n numbers, or all where there are fewer.
+fn front_words(s: &[u64], n: usize) -> &[u64]
+    ensures { λ r. ⌜ now r ≡ take n (now (s .entry)) ⌝ }
+{
+    if n <= s.len() {
+        return &s[..n];
+    }
+    s
+}
+
+// The 64-bit number at place k.
+fn number_in(x: &[u8], k: usize) -> u64 {
+    if 1099511627776 < k {
+        return 0;
+    }
+    let low = blocks::word(x, 2 * k) as u64;
+    let high = blocks::word(x, 2 * k + 1) as u64;
+    low + 4294967296 * high
+}
+
+// The first n 64-bit numbers of x at the start of `map`, as many as fit.
+fn fill(x: &[u8], n: usize, map: &mut [u64]) {
+    let mut i: usize = 0;
+    while i < map.len() {
+        if n <= i {
+            return;
+        }
+        map[i] = number_in(x, i);
+        i += 1;
+    }
+}
+
+// A text through the map that x has, six numbers to a segment.
+pub fn through_given(
+    timescale: u32,
+    kind: u32,
+    plan: u32,
+    x: &[u8],
+    text: &[u8],
+    all: &mut [u8],
+    notes: &mut [u8],
+) {
+    let mut map = [0u64; 8750];
+    let n = x.len() / 8;
+    if map.len() < n {
+        mapfile::print_number(b"refused ", 15);
+        return;
+    }
+    fill(x, n, &mut map);
+    print_retimed(
+        kind,
+        timescale,
+        front_words(&map, n),
+        text,
+        plan,
+        all,
+        notes,
+    );
+}
+
+// A text through the map of a sheet and a list.
+pub fn through_made(
+    sheet: &[u8],
+    list: &[u8],
+    direction: u32,
+    kind: u32,
+    plan: u32,
+    text: &[u8],
+    all: &mut [u8],
+    notes: &mut [u8],
+) {
+    let mut map = [0u64; 6144];
+    let made = segmap::make(sheet, list, direction, &mut map);
+    if made.number != 0 {
+        mapfile::print_number(b"refused ", made.number);
+        return;
+    }
+    print_retimed(
+        kind,
+        made.timescale,
+        mapfile::first_segments(&map, made.count),
+        text,
+        plan,
+        all,
+        notes,
+    );
+}

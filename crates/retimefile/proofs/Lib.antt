@@ -1,0 +1,2 @@
+mod PassLaws
+mod WholeLaws

@@ -1,0 +1,97 @@
+-- From an open on, then from the bytes of a sheet and a list on.
+use mathlib.Core.Path.{_≡_, refl, sym, ap, subst, _∙_}
+use mathlib.Core.List.{List, []}
+use Prim.Native.Nat.{ℕ, _≤_, _<_, _*_}
+use lib.ListN.{length, take}
+use borrow.Author.Tests.{lt-ltb, le-ltb}
+use native.Mathlib.Omega.{arith}
+use Rattle.base.specs.Put.{put}
+use Rattle.base.proofs.Laws.{yes!, no! }
+use Rattle.base.proofs.RefusalLaws.{else-here, else-next}
+use Rattle.segmap.specs.declared.whole.Made.{Made}
+use Rattle.segmap.specs.Segment.{flatOf}
+use Rattle.segmap.specs.Map.{Map, mapOf, madeOf}
+use Rattle.segmap.proofs.Built.{map-front}
+use Rattle.foreign.specs.declared.holding.Session.{Session}
+use Rattle.session.specs.declared.calling.Opened.{Opened}
+use Rattle.session.specs.Answer.{OpenAnswered, openOf}
+use Rattle.retimefile.specs.Retimed.{passNumber, runNumber, throughMap, retimeNumber, Passes, Runs, Chooses, Retimes}
+
+-- ---- one file
+module _ (k t : ℕ) (m : List ℕ) (r : Opened) (a : OpenAnswered k t m r) where
+  pub runs-refused : (r .number ≡ 0 → ⊥) → Runs k t m (r .number)
+  unfolding runNumber
+  runs-refused h = record { pieces = []; sized = tt; number = else-here _ _ (r .number) (a .number) h }
+
+  pub runs-passed : (v : ℕ) → r .number ≡ 0 → Passes (r .session) m v → Runs k t m v
+  unfolding runNumber
+  runs-passed v z p =
+      record {
+        pieces = p .pieces;
+        sized = p .sized;
+        number = else-next _ _ (r .number) v (a .number) z (p .number ∙ ap (λ (s : Session). passNumber s m (p .pieces)) (a .session));
+      }
+
+pub chooses-ass : (t : ℕ) (m : List ℕ) (v : ℕ) → Runs 0 t m v → Chooses t m v
+chooses-ass t m v p = record { kind = 0; known = omega arith; runs = p }
+
+pub chooses-srt : (t : ℕ) (m : List ℕ) (v : ℕ) → Runs 1 t m v → Chooses t m v
+chooses-srt t m v p = record { kind = 1; known = omega arith; runs = p }
+
+-- ---- the whole
+module _ (s l : List ℕ) where
+  pub retimes-large : 65536 < length s → Retimes s l 11
+  unfolding retimeNumber
+  retimes-large h = record { kind = 0; known = omega arith; pieces = []; sized = tt; number = yes! _ (lt-ltb 65536 (length s) h) refl }
+
+  -- what was made, with the places that were lent
+  module _ (n : ℕ) (r : Made) (e : r ≡ madeOf (mapOf s l 0 n)) (q : n ≡ 6144) where
+    made-map : r ≡ madeOf (mapOf s l 0 6144)
+    made-map = e ∙ ap (λ (x : ℕ). madeOf (mapOf s l 0 x)) q
+
+    told-number : r .number ≡ mapOf s l 0 6144 .number
+    unfolding madeOf
+    told-number = ap (λ (x : Made). x .number) made-map
+
+    told-timescale : r .timescale ≡ mapOf s l 0 6144 .timescale
+    unfolding madeOf
+    told-timescale = ap (λ (x : Made). x .timescale) made-map
+
+    told-count : r .count ≡ mapOf s l 0 6144 .count
+    unfolding madeOf
+    told-count = ap (λ (x : Made). x .count) made-map
+
+    pub retimes-refused : length s ≤ 65536 → (r .number ≡ 0 → ⊥) → Retimes s l (r .number)
+    unfolding retimeNumber throughMap
+    retimes-refused h z =
+        record {
+          kind = 0;
+          known = omega arith;
+          pieces = [];
+          sized = tt;
+          number = no! _ (le-ltb 65536 (length s) h) (else-here _ _ (r .number) told-number z);
+        }
+
+    -- the first segments of the places are the map
+    kept-map : (m₀ m kept : List ℕ) → m ≡ put (flatOf (mapOf s l 0 n .segments)) m₀ → kept ≡ take (6 * r .count) m → kept ≡ flatOf (mapOf s l 0 6144 .segments)
+    kept-map m₀ m kept f g =
+        let a : m ≡ put (flatOf (mapOf s l 0 6144 .segments)) m₀ = f ∙ ap (λ (x : ℕ). put (flatOf (mapOf s l 0 x .segments)) m₀) q in
+        let b : take (6 * r .count) m ≡ take (6 * mapOf s l 0 6144 .count) m = ap (λ (x : ℕ). take (6 * x) m) told-count in
+        g ∙ b ∙ ap (take (6 * mapOf s l 0 6144 .count)) a ∙ map-front s l 0 6144 m₀
+
+    pub retimes-run : length s ≤ 65536 → r .number ≡ 0 → (m₀ m kept : List ℕ) → m ≡ put (flatOf (mapOf s l 0 n .segments)) m₀ → kept ≡ take (6 * r .count) m
+        → (v : ℕ) → Chooses (r .timescale) kept v → Retimes s l v
+    unfolding retimeNumber throughMap
+    retimes-run h z m₀ m kept f g v c =
+        let ps : List (List ℕ) = c .runs .pieces in
+        let a : v ≡ runNumber (c .kind) (mapOf s l 0 6144 .timescale) (flatOf (mapOf s l 0 6144 .segments)) ps =
+        c .runs .number
+        ∙ ap (λ (x : ℕ). runNumber (c .kind) x kept ps) told-timescale
+        ∙ ap (λ (x : List ℕ). runNumber (c .kind) (mapOf s l 0 6144 .timescale) x ps) (kept-map m₀ m kept f g) in
+        record {
+          kind = c .kind;
+          known = c .known;
+          pieces = ps;
+          sized = c .runs .sized;
+          number = no! _ (le-ltb 65536 (length s) h) (else-next _ _ (r .number) v told-number z a);
+        }
