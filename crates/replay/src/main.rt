@@ -41,12 +41,8 @@ fn run_case(
     io::write_all(STDOUT_FILENO, b"too large\n");
 }
 
-fn main() {
-    let mut x = [0u8; 70000];
-    let mut y = [0u8; 70000];
-    let mut z = [0u8; 262144];
-    let mut all = [0u8; 1048576];
-    let mut notes = [0u8; 524288];
+// Case by case, up to the end of the input.
+fn run_cases(x: &mut [u8], y: &mut [u8], z: &mut [u8], all: &mut [u8], notes: &mut [u8]) {
     let mut k: u64 = 0;
     while k < 1099511627776 {
         let mut head = [0u8; 32];
@@ -54,7 +50,16 @@ fn main() {
         if n < 32 {
             return;
         }
-        run_case(&head, k, &mut x, &mut y, &mut z, &mut all, &mut notes);
+        run_case(&head, k, x, y, z, all, notes);
         k += 1;
     }
+}
+
+fn main() {
+    let mut x = [0u8; 70000];
+    let mut y = [0u8; 70000];
+    let mut z = [0u8; 131072];
+    let mut all = [0u8; 425984];
+    let mut notes = [0u8; 262144];
+    run_cases(&mut x, &mut y, &mut z, &mut all, &mut notes);
 }

@@ -84,6 +84,7 @@ fn take_piece(
     map: &[u64],
     piece: &[u8],
     all: &mut [u8],
+    places: &mut [u64],
     notes: &mut [u8],
     written: usize,
     noted: usize,
@@ -91,10 +92,9 @@ fn take_piece(
     requires { ⌜ written ≤ length (now all) ⌝ }
     ensures { λ r. ⌜ r .written ≤ length (now (all .entry)) ⌝ }
 {
-    let mut places = [0u64; 4096];
     let most = all.len();
-    let fed = session::feed(session, map, piece, &mut all[written..], &mut places);
-    let n = note_all(notes, noted, &places, fed.warned);
+    let fed = session::feed(session, map, piece, &mut all[written..], places);
+    let n = note_all(notes, noted, places, fed.warned);
     let next = fed.session;
     Step {
         number: fed.number,
@@ -149,6 +149,7 @@ fn run(
     all: &mut [u8],
     notes: &mut [u8],
 ) -> Ran {
+    let mut places = [0u64; 4096];
     let mut at = session;
     let mut t = text;
     let mut draw = plan;
@@ -157,7 +158,16 @@ fn run(
     while 0 < t.len() {
         draw = next_draw(draw);
         let k = piece_size(plan, draw);
-        let s = take_piece(at, map, base::front(t, k), all, notes, written, noted);
+        let s = take_piece(
+            at,
+            map,
+            base::front(t, k),
+            all,
+            &mut places,
+            notes,
+            written,
+            noted,
+        );
         if s.number != 0 {
             return stopped(s.number, s.session);
         }

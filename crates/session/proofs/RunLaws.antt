@@ -2,11 +2,11 @@
 use mathlib.Core.Path.{_≡_, refl, sym, ap, subst, _∙_}
 use mathlib.Core.Bool.{Bool, true, false}
 use mathlib.Core.List.{List, [], _∷_, _++_}
-use Prim.Native.Nat.{ℕ, zero, suc, _+_, _≤_, _<_}
+use Prim.Native.Nat.{ℕ, zero, suc, _+_, _-_, _≤_, _<_}
 use native.Mathlib.Omega.{arith}
 use native.Mathlib.Numerals.{add-one}
 use lib.Dec.{eqb, leb}
-use lib.ListN.{length, take, getD}
+use lib.ListN.{length, take, set, getD, length-set}
 use lib.Seq.{length-take-le}
 use borrow.Author.Tests.{leb-true, eqb-false}
 use Rattle.base.specs.Limits.{mostLine, mostTaken, mostPiece}
@@ -38,8 +38,8 @@ use Rattle.kinds.proofs.Native.{Native, is-native}
 use Rattle.kinds.proofs.Fits.{places-two, resume-ok, feed-room}
 use Rattle.session.specs.declared.running.Going.{Going}
 use Rattle.session.specs.Taken.{Wrote, Ready, Parsed}
-use Rattle.session.specs.Stand.{Shows, ByteRoom, ParsedIn, Opening, resumeAt}
-use Rattle.session.proofs.StandLaws.{held-sizes}
+use Rattle.session.specs.Stand.{Joins, Shows, ByteRoom, ParsedIn, Opening, resumeAt, holdingTo}
+use Rattle.session.proofs.StandLaws.{held-sizes, byte-more}
 
 -- ---- captions are at most the lines ended, and one
 module _ (kind : ℕ) (L : Lawful kit kind) (n₀ : ℕ) where
@@ -232,3 +232,37 @@ module _ (c : Config) (m : List ℕ) (r : Going) (held : List ℕ) (out places :
 
 pub run-more : (M : Machine State) (q : Run State) (t : List ℕ) (i : ℕ) → i < length t → run M q (take (i + 1) t) ≡ byteStep M (run M q (take i t)) (getD t i 0)
 run-more M q t i h = rw add-one (run-take M q t i h)
+
+-- the same numbers under another name
+pub turn-held : (c : Config) (m : List ℕ) (r : Going) (piece held o w : List ℕ) (x y : Going) (held′ out′ places′ : List ℕ) (i : ℕ) → y ≡ x
+    → Turn c m r piece held o w x held′ out′ places′ i → Turn c m r piece held o w y held′ out′ places′ i
+turn-held c m r piece held o w x y held′ out′ places′ i e t = subst (λ (z : Going). Turn c m r piece held o w z held′ out′ places′ i) (sym e) t
+
+-- ---- at the loop's head k bytes are held, and `at` was made when the last line ended
+module _ (c : Config) (m : List ℕ) (r : Going) (held : List ℕ) (out places : ℕ) (d : Ready c m) (p : Opening c r held out places) where
+  module _ (piece o w : List ℕ) (at : Going) (k : ℕ) (held′ out′ places′ : List ℕ) (i : ℕ) (t : Turn c m r piece held o w (holdingTo at k) held′ out′ places′ i)
+      (h1 : length o ≡ out) (h2 : length w ≡ places) (h : i < length piece) (j : length piece ≤ mostPiece) where
+    -- a byte that joins has a place
+    pub turn-place : (x b : ℕ) → x ≡ k - at .start → Joins (at .number) x b → k < length held′
+    turn-place x b e y =
+        let R : ByteRoom (holdingTo at k) (length held′) (length out′) (length places′) =
+        turn-byte c m r held out places d p piece o w (holdingTo at k) held′ out′ places′ i t h1 h2 h j (y .live) in
+        omega (arith, R, y .room, e)
+
+    pub turn-join : (x b : ℕ) → x ≡ k - at .start → Joins (at .number) x b → b ≡ getD piece i 0
+        → Turn c m r piece held o w (holdingTo at (k + 1)) (set held′ k b) out′ places′ (i + 1)
+    turn-join x b e y f =
+        let q : Run State = run (machineOf (c .kind)) (resumeAt r held) (take i piece) in
+        let z : k - at .start < mostLine = omega (arith, y .room, e) in
+        let v : Shows c m (r .counts) (byteStep (machineOf (c .kind)) q b) o w (holdingTo at (k + 1)) (set held′ k b) out′ places′ =
+        byte-more c m (machineOf (c .kind)) (eqb (c .kind) 0) (r .counts) o w (holdingTo at k) held′ out′ places′ b q (holdingTo at (k + 1))
+        (run-parsed c m r held out places d p (take i piece)) (t .shows) (y .live) z (turn-place x b e y) refl (y .no-end) in
+        record {
+          within = omega (arith, h);
+          shows =
+              rw (run-more (machineOf (c .kind)) (resumeAt r held) piece i h)
+              (subst (λ (x : ℕ). Shows c m (r .counts) (byteStep (machineOf (c .kind)) q x) o w (holdingTo at (k + 1)) (set held′ k b) out′ places′) f v);
+          held-long = length-set held′ k b ∙ t .held-long;
+          out-long = t .out-long;
+          places-long = t .places-long;
+        }

@@ -175,6 +175,12 @@ bomTo r =
       warned = r .warned;
     }
 
+-- a byte that only joins the unfinished line, of which k bytes are held
+pub record Joins (number k b : ℕ) : Type 0 where
+  pub live : number ≡ 0
+  pub room : k < mostLine
+  pub no-end : b ≡ 10 → ⊥
+
 -- the bytes of the BOM that begins a line: 3 or 0
 unfoldable pub bomSize : (n : ℕ) → List ℕ → ℕ
 bomSize n l = cond (eqb n 0 && hasBom l) 3 0

@@ -5,6 +5,7 @@ use assline::Columns;
 use event::Config;
 use machine::Counts;
 ghost use mathlib.Core.Path.{_≡_};
+ghost use mathlib.Core.Bool.{true};
 ghost use mathlib.Core.List.{List, _++_};
 ghost use Prim.Native.Nat.{ℕ, _≤_, _<_, _+_, _-_, _^_};
 ghost use lib.Dec.{eqb};
@@ -14,7 +15,7 @@ ghost use Rattle.machine.specs.declared.counting.Counts.{Counts};
 ghost use Rattle.machine.specs.Machine.{Run, going, lineEnd, takeLine, byteStep, run};
 ghost use Rattle.kinds.specs.Takes.{State, machineOf};
 ghost use Rattle.session.specs.Taken.{Ready, Parsed};
-ghost use Rattle.session.specs.Stand.{Shows, Room, ByteRoom, Opening, ParsedIn, resumeAt, stoppedAt, holdingTo, linedTo};
+ghost use Rattle.session.specs.Stand.{Joins, Shows, Room, ByteRoom, Opening, ParsedIn, resumeAt, stoppedAt, holdingTo, linedTo};
 
 // What the loop carries: the open block's bytes end at `start`, those of the unfinished line at `held`.
 pub struct Going {
@@ -166,7 +167,23 @@ fn step(
     end_line(config, map, more, held, out, warnings)
 }
 
-// All bytes of a piece.
+// Whether a byte only joins the unfinished line, of which k bytes are held: no fault, no line end, room in the line.
+fn joins(number: u32, k: usize, b: u8) -> bool
+    ensures { λ r. ⌜ (r ≡ true → Joins number k b) ⌝ }
+{
+    if number != 0 {
+        return false;
+    }
+    if base::MOST_LINE <= k {
+        return false;
+    }
+    if b == 10 {
+        return false;
+    }
+    true
+}
+
+// All bytes of a piece. `m` bytes are held; `at` is made anew only where a line ends.
 pub fn run_piece(
     config: Config,
     map: &[u64],
@@ -180,10 +197,19 @@ pub fn run_piece(
     ensures { λ r. ⌜ Shows config (now (map .entry)) (start .counts) (run (machineOf (config .kind)) (resumeAt start (now (held .entry))) (now (piece .entry))) (now (out .entry)) (now (warnings .entry)) r (now (held .exit)) (now (out .exit)) (now (warnings .exit)) ⌝ }
 {
     let mut at = start;
+    let mut m = start.held;
     let mut i = 0;
     while i < piece.len() {
-        at = step(config, map, at, piece[i], held, out, warnings);
+        let b = piece[i];
+        if joins(at.number, base::less(m, at.start), b) {
+            held[m] = b;
+            m += 1;
+            i += 1;
+            continue;
+        }
+        at = step(config, map, holding(at, m), b, held, out, warnings);
+        m = at.held;
         i += 1;
     }
-    at
+    holding(at, m)
 }
