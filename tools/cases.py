@@ -238,6 +238,10 @@ def pair(r, u, t, edges, span):
     return a, b
 
 
+def how_many(r):
+    return r.randint(100, 600) if r.random() < 0.005 else r.choice([0, 1, 2, 3, 5, 8, 12, r.randint(0, 40)])
+
+
 def ass_text(r, t, edges, span, plain):
     ends = r.choice([['\n'], ['\n'], ['\r\n'], ['\n', '\r\n'], ['\n', '\r\n', '\r\r\n']])
     lines, columns = [], ['Start', 'End', 'Text']
@@ -245,7 +249,7 @@ def ass_text(r, t, edges, span, plain):
         lines += ['[Script Info]', 'Title: x', ''] if r.random() < 0.2 else []
         columns = r.choice([['Layer', 'Start', 'End', 'Style', 'Text'], ['Start', 'End', 'Text'], ['Text', 'End', 'Start'], ['Marked', 'Start', 'End', 'Style', 'Name', 'MarginL', 'MarginR', 'MarginV', 'Effect', 'Text']])
         lines += ['[Events]', 'Format: ' + ', '.join(columns)]
-    for _ in range(r.choice([0, 1, 2, 3, 5, 8, 12, r.randint(0, 40)])):
+    for _ in range(how_many(r)):
         p = r.random()
         if p < 0.04:
             lines.append(r.choice(['[Events]', ' [Events]\t', '[events]', '[]', '[', ']', '[Events', '[Events ]', '[Events]x', '\u3000[Events]\u00a0', '[V4+ Styles]', '[[Events]]', 'Events', '[Ev,ents]']))
@@ -281,7 +285,7 @@ def srt_text(r, t, edges, span, plain):
     blank = r.choice([[''], [''], ['', '', ' ', '\t', '\u3000', '\r', '\u00a0 ', '\u2003']])
     if r.random() < 0.1:
         out += r.choice(blank) + r.choice(ends)
-    for k in range(r.choice([0, 1, 2, 3, 5, 8, 12, r.randint(0, 40)])):
+    for k in range(how_many(r)):
         a, b = pair(r, 1000, t, edges, span)
         lines = [str(k + 1)] if r.random() < 0.95 else []
         arrow = r.choice([' --> '] * 5 + ['-->', ' -->', '--> ', '\t-->\u3000']) if r.random() < 0.99 + 0.01 * plain else r.choice([' ->', ' ---> ', '-- >', ' --> --> '])
