@@ -2,5 +2,3 @@ pub mod TellLaws
 pub mod SayLaws
 pub mod LineFits
 pub mod LineFine
-pub mod LineBack
-pub mod WholeText

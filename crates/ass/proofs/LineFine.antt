@@ -7,14 +7,14 @@ use native.Mathlib.Omega.{arith}
 use borrow.Author.Tests.{le-ltb}
 use lib.Dec.{eqb, ltb}
 use lib.ListN.{length, drop}
-use Rattle.text.specs.White.{trim}
+use Rattle.chars.specs.White.{trim}
 use Rattle.text.specs.Find.{starts, equals}
 use Rattle.text.specs.Line.{textOf, terminatorOf}
-use Rattle.time.specs.declared.read.Time.{Time}
-use Rattle.time.specs.declared.read.Time.the-variants.{At, Bad}
+use Rattle.stamp.specs.declared.read.Time.{Time}
+use Rattle.stamp.specs.declared.read.Time.the-variants.{At, Bad}
 use Rattle.time.specs.Kind.{unitsOf, markOf}
-use Rattle.time.specs.Read.{timeIn}
-use Rattle.time.proofs.Reading.{time-below, time-mark}
+use Rattle.stamp.specs.Read.{timeIn}
+use Rattle.stamp.proofs.Reading.{time-below, time-mark}
 use Rattle.segmap.specs.Segment.{segmentsOf, mapBad}
 use Rattle.event.specs.declared.setting.Config.{Config}
 use Rattle.event.specs.Says.{Cue, unplaced, short, Part, stays, passes, cue}
@@ -25,7 +25,7 @@ use Rattle.assline.specs.declared.layout.Columns.{Columns}
 use Rattle.assline.specs.Columns.{columnsIn, fields, fieldAt}
 use Rattle.assline.specs.Section.{eventsName, bracketed, inside, inSection}
 use Rattle.ass.specs.Line.{formatWord, dialogueWord, commentWord, LineSays, faulty, says, timesSay, captionSays, wordSays, textSays, lineSays}
-use Rattle.ass.specs.Answer.{columnsAfter, answerOf, answerTo, lineIn, columnsNext}
+use Rattle.ass.specs.Answer.{columnsAfter, lineAnswer, lineAnswerIn, lineIn, columnsNext}
 
 -- ---- what is known of the cue that line n + 1 says: its line, times below 10,000 hours, and ASS's mark
 pub record Timely (n : ℕ) (q : Cue) : Type 0 where
@@ -93,7 +93,7 @@ pub line-timely : (c : Columns) (n : ℕ) (l : List ℕ) (e : Columns) (q : Cue)
 line-timely c n l e q p = subst (Timed n) p (line-timed c n l)
 
 -- ---- the answer
-answer-fine : (s : Config) → Set s → (m : List ℕ) → mapBad m ≡ false → (n : ℕ) (x : LineSays) → Timed n x → answerTo s (segmentsOf m) x ≡ answerOf s (segmentsOf m) x
+answer-fine : (s : Config) → Set s → (m : List ℕ) → mapBad m ≡ false → (n : ℕ) (x : LineSays) → Timed n x → lineAnswerIn s (segmentsOf m) x ≡ lineAnswer s (segmentsOf m) x
 unfolding partIn emitBy unitsOf
 answer-fine s set m g n (faulty f) h = refl
 answer-fine s set m g n (says c (stays l)) h = refl
@@ -101,7 +101,7 @@ answer-fine s set m g n (says c (passes r k l)) h = refl
 answer-fine s set m g n (says c (cue q)) h = cue-fine s set m g q (omega (arith, h .start-below)) (omega (arith, h .stop-below))
 
 pub line-fine : (s : Config) → Set s → (m : List ℕ) → mapBad m ≡ false → (c : Columns) (n : ℕ) (l : List ℕ) (room places : ℕ) → 3 * length l ≤ room → 4 ≤ places
-    → lineIn s (segmentsOf m) c n l room places ≡ answerOf s (segmentsOf m) (lineSays c n l)
+    → lineIn s (segmentsOf m) c n l room places ≡ lineAnswer s (segmentsOf m) (lineSays c n l)
 unfolding lineIn
 line-fine s set m g c n l room places h i =
     rw (le-ltb room (3 * length l) h, le-ltb places 4 i) (answer-fine s set m g n (lineSays c n l) (line-timed c n l))

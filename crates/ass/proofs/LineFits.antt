@@ -6,16 +6,16 @@ use Prim.Native.Nat.{ℕ, suc, _+_, _*_, _≤_, _<_, _^_}
 use native.Mathlib.Omega.{arith}
 use lib.Dec.{eqb, ltb}
 use lib.ListN.{length, drop}
-use Rattle.text.specs.White.{trim}
+use Rattle.chars.specs.White.{trim}
 use Rattle.text.specs.Find.{starts, equals}
 use Rattle.text.specs.Line.{textOf, terminatorOf}
-use Rattle.time.specs.declared.read.Time.{Time}
-use Rattle.time.specs.declared.read.Time.the-variants.{At, Bad}
-use Rattle.time.specs.Read.{timeIn}
-use Rattle.time.specs.Write.{timeText}
+use Rattle.stamp.specs.declared.read.Time.{Time}
+use Rattle.stamp.specs.declared.read.Time.the-variants.{At, Bad}
+use Rattle.stamp.specs.Read.{timeIn}
+use Rattle.stamp.specs.Write.{timeText}
 use Rattle.time.specs.Convert.{coreUnits}
-use Rattle.time.proofs.Reading.{time-most}
-use Rattle.time.proofs.Written.{text-23}
+use Rattle.stamp.proofs.Reading.{time-most}
+use Rattle.stamp.proofs.Written.{text-23}
 use Rattle.segmap.specs.declared.segment.Segment.{Segment}
 use Rattle.segmap.specs.Segment.{segmentsOf, mapBad}
 use Rattle.event.specs.declared.setting.Config.{Config}
@@ -32,7 +32,7 @@ use Rattle.assline.specs.Columns.{columnsIn, fields, fieldAt}
 use Rattle.assline.specs.Section.{eventsName, bracketed, inside, inSection}
 use Rattle.assline.specs.Frame.{lineFrame}
 use Rattle.ass.specs.Line.{formatWord, dialogueWord, commentWord, LineSays, faulty, says, lineCue, timesSay, captionSays, wordSays, textSays, lineSays}
-use Rattle.ass.specs.Answer.{answerTo, lineIn}
+use Rattle.ass.specs.Answer.{lineAnswerIn, lineIn}
 use Rattle.ass.proofs.TellLaws.{render-most}
 use Rattle.assline.proofs.FitLaws.{rest-long, line-most}
 use Rattle.ass.proofs.SayLaws.{starts-long, parts-room}
@@ -145,7 +145,7 @@ line-fits s set m g c n l e p q =
     emit-fits (s .kind) (decideOf s (segmentsOf m)) (λ S E hs he. subst Words (decide-fine s set m S E g hs he) (decide-words s (segmentsOf m) S E)) c n l e p q
 
 -- by the code, at every input
-answer-small : (s : Config) (m : List Segment) (n : ℕ) (x : LineSays) → SaysSmall (s .kind) (decideIn s m) n x → Small n (answerTo s m x .emitted)
+answer-small : (s : Config) (m : List Segment) (n : ℕ) (x : LineSays) → SaysSmall (s .kind) (decideIn s m) n x → Small n (lineAnswerIn s m x .emitted)
 unfolding partIn emitBy
 answer-small s m n (faulty f) h = nothing n _ refl refl
 answer-small s m n (says e (stays l)) h = h
@@ -161,7 +161,7 @@ pub line-in-fits : (s : Config) (m : List Segment) (c : Columns) (n : ℕ) (l : 
 unfolding lineIn
 line-in-fits s m c n l room places = go (ltb room (3 * length l)) (ltb places 4)
   where
-    go : (x y : Bool) → Small (length l) (cond x (refusal 16) (cond y (refusal 16) (answerTo s m (lineSays c n l))) .emitted)
+    go : (x y : Bool) → Small (length l) (cond x (refusal 16) (cond y (refusal 16) (lineAnswerIn s m (lineSays c n l))) .emitted)
     go true y = nothing (length l) _ refl refl
     go false true = nothing (length l) _ refl refl
     go false false = answer-small s m (length l) (lineSays c n l) (says-small (s .kind) (decideIn s m) (λ S E hs he. decide-words s m S E) c n l)

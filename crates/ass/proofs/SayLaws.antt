@@ -9,13 +9,13 @@ use borrow.Author.Tests.{lt-ltb, le-ltb, eq-eqb, ne-eqb, leb-true, leb-false}
 use lib.Dec.{eqb, ltb, leb}
 use lib.ListN.{length, take, drop, length-append, length-drop}
 use Rattle.base.specs.Put.{put}
-use Rattle.text.specs.White.{trim}
+use Rattle.chars.specs.White.{trim}
 use Rattle.text.specs.Find.{starts, equals}
 use Rattle.text.specs.Line.{textOf, terminatorOf}
 use Rattle.text.proofs.LineLaws.{text-terminator}
-use Rattle.time.specs.declared.read.Time.{Time}
-use Rattle.time.specs.declared.read.Time.the-variants.{At, Bad}
-use Rattle.time.specs.Read.{timeIn}
+use Rattle.stamp.specs.declared.read.Time.{Time}
+use Rattle.stamp.specs.declared.read.Time.the-variants.{At, Bad}
+use Rattle.stamp.specs.Read.{timeIn}
 use Rattle.segmap.specs.declared.segment.Segment.{Segment}
 use Rattle.event.specs.declared.setting.Config.{Config}
 use Rattle.event.specs.declared.telling.Told.{Told}
@@ -30,7 +30,7 @@ use Rattle.assline.specs.Columns.{columnsIn, fields, fieldAt}
 use Rattle.assline.specs.Section.{eventsName, bracketed, inside, inSection}
 use Rattle.assline.specs.Frame.{lineFrame, frameMost}
 use Rattle.ass.specs.Line.{formatWord, dialogueWord, commentWord, LineSays, faulty, says, lineCue, timesSay, captionSays, wordSays, textSays, lineSays}
-use Rattle.ass.specs.Answer.{columnsAfter, answerTo, lineIn, columnsNext, stayedWith}
+use Rattle.ass.specs.Answer.{columnsAfter, lineAnswerIn, lineIn, columnsNext, stayedWith}
 use Rattle.ass.proofs.TellLaws.{tells-stayed}
 use Rattle.assline.proofs.FitLaws.{line-most}
 
@@ -72,35 +72,35 @@ module _ (c : Columns) (n : ℕ) (l v r : List ℕ) where
       go false false false (At S a) (At E b) = refl
 
 -- a part that stays, and a caption that passes
-stays-in : (s : Config) (m : List Segment) (c : Columns) (l : List ℕ) → answerTo s m (says c (stays l)) ≡ answered (emit l [] none)
+stays-in : (s : Config) (m : List Segment) (c : Columns) (l : List ℕ) → lineAnswerIn s m (says c (stays l)) ≡ answered (emit l [] none)
 unfolding partIn emitBy
 stays-in s m c l = refl
 
-passes-in : (s : Config) (m : List Segment) (c : Columns) (x : Reason) (n : ℕ) (l : List ℕ) → answerTo s m (says c (passes x n l)) ≡ answered (emit l (warning (reasonNumber x) n ∷ []) (decided passed))
+passes-in : (s : Config) (m : List Segment) (c : Columns) (x : Reason) (n : ℕ) (l : List ℕ) → lineAnswerIn s m (says c (passes x n l)) ≡ answered (emit l (warning (reasonNumber x) n ∷ []) (decided passed))
 unfolding partIn emitBy
 passes-in s m c x n l = refl
 
 -- ---- the functions of a caption
 module _ (s : Config) (m : List Segment) (c : Columns) (n : ℕ) (l v r : List ℕ) (t : Told) (o o′ w w′ : List ℕ) where
-  pub told-1 : captionSays c n l v r ≡ says c (passes unplaced n l) → Tells (answered (emit l (warning 1 n ∷ []) (decided passed))) t o o′ w w′ → Tells (answerTo s m (captionSays c n l v r)) t o o′ w w′
-  told-1 e h = tells-same (ap (answerTo s m) e ∙ passes-in s m c unplaced n l) h
+  pub told-1 : captionSays c n l v r ≡ says c (passes unplaced n l) → Tells (answered (emit l (warning 1 n ∷ []) (decided passed))) t o o′ w w′ → Tells (lineAnswerIn s m (captionSays c n l v r)) t o o′ w w′
+  told-1 e h = tells-same (ap (lineAnswerIn s m) e ∙ passes-in s m c unplaced n l) h
 
   -- u is the rest of the line that the code has
   module _ (u : List ℕ) (eu : u ≡ r) (b : Bool) (e : b ≡ leb (c .columns) (length (fields (c .columns) u))) (h : c .start ≡ 0 → ⊥) (k : c .«end» ≡ 0 → ⊥) where
     asked : leb (c .columns) (length (fields (c .columns) r)) ≡ b
     asked = sym (e ∙ ap (λ (x : List ℕ). leb (c .columns) (length (fields (c .columns) x))) eu)
 
-    pub told-2 : b ≡ false → Tells (answered (emit l (warning 2 n ∷ []) (decided passed))) t o o′ w w′ → Tells (answerTo s m (captionSays c n l v r)) t o o′ w w′
+    pub told-2 : b ≡ false → Tells (answered (emit l (warning 2 n ∷ []) (decided passed))) t o o′ w w′ → Tells (lineAnswerIn s m (captionSays c n l v r)) t o o′ w w′
     told-2 f p =
-        tells-same (ap (answerTo s m) (caption-few c n l v r h k (leb-false (c .columns) (length (fields (c .columns) r)) (asked ∙ f))) ∙ passes-in s m c short n l) p
+        tells-same (ap (lineAnswerIn s m) (caption-few c n l v r h k (leb-false (c .columns) (length (fields (c .columns) r)) (asked ∙ f))) ∙ passes-in s m c short n l) p
 
     pub told-times : b ≡ true
-        → Tells (answerTo s m (timesSay c n v (fields (c .columns) u) (terminatorOf l) (timeIn 0 (fieldAt (c .start) (fields (c .columns) u))) (timeIn 0 (fieldAt (c .«end») (fields (c .columns) u))))) t o o′ w w′
-        → Tells (answerTo s m (captionSays c n l v r)) t o o′ w w′
+        → Tells (lineAnswerIn s m (timesSay c n v (fields (c .columns) u) (terminatorOf l) (timeIn 0 (fieldAt (c .start) (fields (c .columns) u))) (timeIn 0 (fieldAt (c .«end») (fields (c .columns) u))))) t o o′ w w′
+        → Tells (lineAnswerIn s m (captionSays c n l v r)) t o o′ w w′
     told-times f p =
-        tells-same (ap (answerTo s m) (caption-times c n l v r h k (leb-true (c .columns) (length (fields (c .columns) r)) (asked ∙ f))))
+        tells-same (ap (lineAnswerIn s m) (caption-times c n l v r h k (leb-true (c .columns) (length (fields (c .columns) r)) (asked ∙ f))))
         (subst
-        (λ (x : List ℕ). Tells (answerTo s m (timesSay c n v (fields (c .columns) x) (terminatorOf l) (timeIn 0 (fieldAt (c .start) (fields (c .columns) x))) (timeIn 0 (fieldAt (c .«end») (fields (c .columns) x))))) t o o′ w w′)
+        (λ (x : List ℕ). Tells (lineAnswerIn s m (timesSay c n v (fields (c .columns) x) (terminatorOf l) (timeIn 0 (fieldAt (c .start) (fields (c .columns) x))) (timeIn 0 (fieldAt (c .«end») (fields (c .columns) x))))) t o o′ w w′)
         eu p)
 
 pub rest-is : (l T v u : List ℕ) → T ≡ textOf l → u ≡ drop (length v) T → u ≡ drop (length v) (textOf l)
@@ -122,9 +122,9 @@ module _ (s : Config) (m : List Segment) (c : Columns) (n : ℕ) (l v r f : List
   start-is : timeIn 0 (fieldAt (c .start) (fields (c .columns) r)) ≡ x
   start-is = sym (ex ∙ ap (timeIn 0) ef)
 
-  pub times-1 : (t : Told) (o w : List ℕ) → x ≡ Bad → t ≡ refusedWith 22 → Tells (answerTo s m Says) t o o w w
+  pub times-1 : (t : Told) (o w : List ℕ) → x ≡ Bad → t ≡ refusedWith 22 → Tells (lineAnswerIn s m Says) t o o w w
   times-1 t o w p q =
-      tells-same (ap (λ (X : Time). answerTo s m (timesSay c n v (fields (c .columns) r) (terminatorOf l) X (timeIn 0 (fieldAt (c .«end») (fields (c .columns) r))))) (start-is ∙ p))
+      tells-same (ap (λ (X : Time). lineAnswerIn s m (timesSay c n v (fields (c .columns) r) (terminatorOf l) X (timeIn 0 (fieldAt (c .«end») (fields (c .columns) r))))) (start-is ∙ p))
       (tells-refused 22 t o w q)
 
   module _ (g : List ℕ) (y : Time) (eg : g ≡ fieldAt (c .«end») (fields (c .columns) r)) (ey : y ≡ timeIn 0 g) (S a : ℕ) (p : x ≡ At S a) where
@@ -136,8 +136,8 @@ module _ (s : Config) (m : List Segment) (c : Columns) (n : ℕ) (l v r f : List
         ap (λ (X : Time). timesSay c n v (fields (c .columns) r) (terminatorOf l) X (timeIn 0 (fieldAt (c .«end») (fields (c .columns) r)))) (start-is ∙ p)
         ∙ ap (timesSay c n v (fields (c .columns) r) (terminatorOf l) (At S a)) (end-is ∙ q)
 
-    pub times-2 : (t : Told) (o w : List ℕ) → y ≡ Bad → t ≡ refusedWith 22 → Tells (answerTo s m Says) t o o w w
-    times-2 t o w q e = tells-same (ap (answerTo s m) (says-is Bad q)) (tells-refused 22 t o w e)
+    pub times-2 : (t : Told) (o w : List ℕ) → y ≡ Bad → t ≡ refusedWith 22 → Tells (lineAnswerIn s m Says) t o o w w
+    times-2 t o w q e = tells-same (ap (lineAnswerIn s m) (says-is Bad q)) (tells-refused 22 t o w e)
 
     module _ (E b : ℕ) (q : y ≡ At E b) (z : List ℕ) (ez : z ≡ terminatorOf l) where
       pub times-room : (o : List ℕ) → 3 * length l ≤ length o → 1 ≤ length v → length v + length r + length (terminatorOf l) ≤ length l → frameMost (lineFrame c v (fields (c .columns) r) z) ≤ length o
@@ -145,11 +145,11 @@ module _ (s : Config) (m : List Segment) (c : Columns) (n : ℕ) (l v r f : List
           let u : length z ≡ length (terminatorOf l) = ap length ez in
           omega (arith, line-most c v r z S a E b (start-is ∙ p) (end-is ∙ q) k)
 
-      pub times-3 : (t : Told) (o o′ w w′ : List ℕ) → Tells (cueIn (s .kind) (lineCue c n v (fields (c .columns) r) z S a E b) (decideIn s m S E)) t o o′ w w′ → Tells (answerTo s m Says) t o o′ w w′
+      pub times-3 : (t : Told) (o o′ w w′ : List ℕ) → Tells (cueIn (s .kind) (lineCue c n v (fields (c .columns) r) z S a E b) (decideIn s m S E)) t o o′ w w′ → Tells (lineAnswerIn s m Says) t o o′ w w′
       unfolding partIn
       times-3 t o o′ w w′ h =
           tells-same
-          (ap (answerTo s m) (says-is (At E b) q)
+          (ap (lineAnswerIn s m) (says-is (At E b) q)
           ∙ ap (λ (k : List ℕ). cueIn (s .kind) (lineCue c n v (fields (c .columns) r) k S a E b) (decideIn s m S E)) (sym ez))
           h
 
@@ -166,12 +166,12 @@ starts-long (a ∷ p) (b ∷ s) e = go (eqb a b) e (starts-long p s)
 -- ---- a line in Events, by its word: T is the text that the code has, and f, d, g what it was told of the three words
 module _ (s : Config) (m : List Segment) (c : Columns) (n : ℕ) (l T : List ℕ) (eT : T ≡ textOf l) (f : Bool) (ef : f ≡ starts formatWord T) (t : Told) (o o′ w w′ : List ℕ) where
   abbrev Both : Columns → Type 0
-  Both x = Tells (answerTo s m (wordSays c n l (textOf l))) t o o′ w w′ × (x ≡ columnsAfter c (wordSays c n l (textOf l)))
+  Both x = Tells (lineAnswerIn s m (wordSays c n l (textOf l))) t o o′ w w′ × (x ≡ columnsAfter c (wordSays c n l (textOf l)))
 
-  by-says : (z : LineSays) (x : Columns) → wordSays c n l (textOf l) ≡ z → Tells (answerTo s m z) t o o′ w w′ → x ≡ columnsAfter c z → Both x
-  by-says z x e p q = (tells-same (ap (answerTo s m) e) p, q ∙ ap (columnsAfter c) (sym e))
+  by-says : (z : LineSays) (x : Columns) → wordSays c n l (textOf l) ≡ z → Tells (lineAnswerIn s m z) t o o′ w w′ → x ≡ columnsAfter c z → Both x
+  by-says z x e p q = (tells-same (ap (lineAnswerIn s m) e) p, q ∙ ap (columnsAfter c) (sym e))
 
-  stays-told : (z : Columns) → w ≡ w′ → (t ≡ stayedWith (length l)) × (o′ ≡ put l o) → Tells (answerTo s m (says z (stays l))) t o o′ w w′
+  stays-told : (z : Columns) → w ≡ w′ → (t ≡ stayedWith (length l)) × (o′ ≡ put l o) → Tells (lineAnswerIn s m (says z (stays l))) t o o′ w w′
   stays-told z e p = tells-same (stays-in s m z l) (subst (λ (y : List ℕ). Tells (answered (emit l [] none)) t o o′ w y) e (tells-stayed l o o′ w t p))
 
   word-is : (p : List ℕ) (b : Bool) → b ≡ starts p T → starts p (textOf l) ≡ b
@@ -183,19 +183,19 @@ module _ (s : Config) (m : List Segment) (c : Columns) (n : ℕ) (l T : List ℕ
       by-says (says (columnsIn (drop 7 (textOf l))) (stays l)) x (rw (word-is formatWord f ef ∙ p)) (stays-told (columnsIn (drop 7 (textOf l))) ew q) (ex ∙ ap columnsIn (eu ∙ ap (drop 7) eT))
 
   module _ (p : f ≡ false) (d : Bool) (ed : d ≡ starts dialogueWord T) where
-    pub word-2 : (k : ℕ) → d ≡ true → k ≡ n + 1 → Tells (answerTo s m (captionSays c k l dialogueWord (drop 9 (textOf l)))) t o o′ w w′ → Both c
+    pub word-2 : (k : ℕ) → d ≡ true → k ≡ n + 1 → Tells (lineAnswerIn s m (captionSays c k l dialogueWord (drop 9 (textOf l)))) t o o′ w w′ → Both c
     unfolding wordSays
     word-2 k q ek h =
         by-says (captionSays c (suc n) l dialogueWord (drop 9 (textOf l))) c (rw (word-is formatWord f ef ∙ p, word-is dialogueWord d ed ∙ q))
-        (subst (λ (j : ℕ). Tells (answerTo s m (captionSays c j l dialogueWord (drop 9 (textOf l)))) t o o′ w w′) (ek ∙ add-one n) h)
+        (subst (λ (j : ℕ). Tells (lineAnswerIn s m (captionSays c j l dialogueWord (drop 9 (textOf l)))) t o o′ w w′) (ek ∙ add-one n) h)
         (sym (caption-columns c (suc n) l dialogueWord (drop 9 (textOf l))))
 
     module _ (q : d ≡ false) (g : Bool) (eg : g ≡ starts commentWord T) where
-      pub word-3 : (k : ℕ) → g ≡ true → k ≡ n + 1 → Tells (answerTo s m (captionSays c k l commentWord (drop 8 (textOf l)))) t o o′ w w′ → Both c
+      pub word-3 : (k : ℕ) → g ≡ true → k ≡ n + 1 → Tells (lineAnswerIn s m (captionSays c k l commentWord (drop 8 (textOf l)))) t o o′ w w′ → Both c
       unfolding wordSays
       word-3 k u ek h =
           by-says (captionSays c (suc n) l commentWord (drop 8 (textOf l))) c (rw (word-is formatWord f ef ∙ p, word-is dialogueWord d ed ∙ q, word-is commentWord g eg ∙ u))
-          (subst (λ (j : ℕ). Tells (answerTo s m (captionSays c j l commentWord (drop 8 (textOf l)))) t o o′ w w′) (ek ∙ add-one n) h)
+          (subst (λ (j : ℕ). Tells (lineAnswerIn s m (captionSays c j l commentWord (drop 8 (textOf l)))) t o o′ w w′) (ek ∙ add-one n) h)
           (sym (caption-columns c (suc n) l commentWord (drop 8 (textOf l))))
 
       pub word-4 : g ≡ false → w ≡ w′ → (t ≡ stayedWith (length l)) × (o′ ≡ put l o) → Both c
@@ -229,7 +229,7 @@ module _ (s : Config) (m : List Segment) (c : Columns) (n : ℕ) (l : List ℕ) 
         (rw (far, j) (subst (λ (y : List ℕ). Tells (refusal 16) t o y w w′) eo (subst (λ (y : List ℕ). Tells (refusal 16) t o o w y) ew (tells-refused 16 t o w p))), rw (far, j))
 
     module _ (k : 4 ≤ length w) where
-      line-by : (z : LineSays) (x : Columns) → lineSays c n l ≡ z → Tells (answerTo s m z) t o o′ w w′ → x ≡ columnsAfter c z → Told-of x
+      line-by : (z : LineSays) (x : Columns) → lineSays c n l ≡ z → Tells (lineAnswerIn s m z) t o o′ w w′ → x ≡ columnsAfter c z → Told-of x
       unfolding lineIn columnsNext
       line-by z x e p q =
           let j : ltb (length w) 4 ≡ false = le-ltb (length w) 4 k in
@@ -250,7 +250,7 @@ module _ (s : Config) (m : List Segment) (c : Columns) (n : ℕ) (l : List ℕ) 
           no-section : bracketed (trim (textOf l)) ≡ false
           no-section = sym (eb ∙ ap bracketed trim-is) ∙ p
 
-          pub line-events : (x : Columns) → c .events ≡ true → Tells (answerTo s m (wordSays c n l (textOf l))) t o o′ w w′ × (x ≡ columnsAfter c (wordSays c n l (textOf l))) → Told-of x
+          pub line-events : (x : Columns) → c .events ≡ true → Tells (lineAnswerIn s m (wordSays c n l (textOf l))) t o o′ w w′ × (x ≡ columnsAfter c (wordSays c n l (textOf l))) → Told-of x
           unfolding lineSays textSays
           line-events x q r = line-by (wordSays c n l (textOf l)) x (rw (no-section, q)) (r .0) (r .1)
 

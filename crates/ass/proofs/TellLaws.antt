@@ -7,8 +7,8 @@ use native.Mathlib.Omega.{arith}
 use lib.ListN.{length, length-append}
 use Rattle.base.specs.Put.{put, placed, placedLength, placedAt, placeAfter}
 use Rattle.base.proofs.PutLaws.{put-nil, placed-yes, length-yes, then-placed}
-use Rattle.time.specs.Write.{timeText}
-use Rattle.time.proofs.Written.{text-23}
+use Rattle.stamp.specs.Write.{timeText}
+use Rattle.stamp.proofs.Written.{text-23}
 use Rattle.event.specs.declared.telling.Told.{Told}
 use Rattle.event.specs.declared.telling.Counted.{Counted}
 use Rattle.event.specs.declared.telling.Counted.the-variants.{Nothing, Passed}

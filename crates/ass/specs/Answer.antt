@@ -20,21 +20,21 @@ columnsAfter c (faulty f) = c
 columnsAfter c (says d p) = d
 
 -- by document 01: a fault's number, or what the part becomes through the map
-abbrev pub answerOf : Config → List Segment → LineSays → Answer
-answerOf s m (faulty f) = refusal (faultNumber f)
-answerOf s m (says c p) = answered (emitOf s m p)
+abbrev pub lineAnswer : Config → List Segment → LineSays → Answer
+lineAnswer s m (faulty f) = refusal (faultNumber f)
+lineAnswer s m (says c p) = answered (emitOf s m p)
 
 -- by the code, at every input; within the limits both are the same (`line-fine`)
-abbrev pub answerTo : Config → List Segment → LineSays → Answer
-answerTo s m (faulty f) = refusal (faultNumber f)
-answerTo s m (says c p) = partIn s m p
+abbrev pub lineAnswerIn : Config → List Segment → LineSays → Answer
+lineAnswerIn s m (faulty f) = refusal (faultNumber f)
+lineAnswerIn s m (says c p) = partIn s m p
 
 -- 16 where the lent output has less than three bytes for each of the line, or fewer than four warning places
 unfoldable pub lineIn : Config → List Segment → Columns → (n : ℕ) → (l : List ℕ) → (room places : ℕ) → Answer
 lineIn s m c n l room places =
     cond (ltb room (3 * length l)) (refusal 16)
     (cond (ltb places 4) (refusal 16)
-    (answerTo s m (lineSays c n l)))
+    (lineAnswerIn s m (lineSays c n l)))
 
 -- the columns for the next line
 unfoldable pub columnsNext : Columns → (n : ℕ) → (l : List ℕ) → (room places : ℕ) → Columns

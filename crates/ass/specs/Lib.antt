@@ -1,4 +1,3 @@
--- What an ASS line says, what the code answers to it, and what a whole text says.
+-- What an ASS line says, and what the code answers to it.
 pub mod Line
 pub mod Answer
-pub mod Whole

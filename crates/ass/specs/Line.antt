@@ -4,12 +4,12 @@ use mathlib.Core.List.{List, [], _∷_}
 use Prim.Native.Nat.{ℕ, suc}
 use lib.Dec.{eqb, ltb}
 use lib.ListN.{length, drop}
-use Rattle.text.specs.White.{trim}
+use Rattle.chars.specs.White.{trim}
 use Rattle.text.specs.Find.{starts, equals}
 use Rattle.text.specs.Line.{textOf, terminatorOf}
-use Rattle.time.specs.Read.{timeIn}
-use Rattle.time.specs.declared.read.Time.{Time}
-use Rattle.time.specs.declared.read.Time.the-variants.{At, Bad}
+use Rattle.stamp.specs.Read.{timeIn}
+use Rattle.stamp.specs.declared.read.Time.{Time}
+use Rattle.stamp.specs.declared.read.Time.the-variants.{At, Bad}
 use Rattle.event.specs.Says.{unplaced, short, Cue, Part, stays, passes, cue, Fault, badTime}
 use Rattle.assline.specs.declared.layout.Columns.{Columns}
 use Rattle.assline.specs.Columns.{columnsIn, fields, fieldAt}

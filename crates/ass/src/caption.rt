@@ -16,7 +16,7 @@ use event::Retimed;
 use event::Told;
 use event::counted_by;
 use event::refused;
-use time::Time;
+use stamp::Time;
 ghost use mathlib.Core.Path.{_≡_};
 ghost use mathlib.Core.Bool.{_&&_};
 ghost use mathlib.Core.List.{[], _∷_, _++_};
@@ -24,7 +24,7 @@ ghost use Prim.Native.Nat.{_+_, _*_, _≤_};
 ghost use lib.ListN.{length, drop};
 ghost use Rattle.base.specs.Put.{put};
 ghost use Rattle.text.specs.Line.{textOf, terminatorOf};
-ghost use Rattle.time.specs.Read.{timeIn};
+ghost use Rattle.stamp.specs.Read.{timeIn};
 ghost use Rattle.segmap.specs.Segment.{segmentsOf};
 ghost use Rattle.event.specs.Decide.{decideIn};
 ghost use Rattle.event.specs.Fates.{passed};
@@ -34,7 +34,7 @@ ghost use Rattle.assline.specs.Columns.{fields, fieldAt};
 ghost use Rattle.assline.specs.Tags.{tagged};
 ghost use Rattle.assline.specs.Frame.{lineFrame, frameMost};
 ghost use Rattle.ass.specs.Line.{lineCue, timesSay, captionSays, wordSays};
-ghost use Rattle.ass.specs.Answer.{columnsAfter, answerTo, lineIn, columnsNext, stayedWith};
+ghost use Rattle.ass.specs.Answer.{columnsAfter, lineAnswerIn, lineIn, columnsNext, stayedWith};
 
 // What a line tells, and the columns for the next one.
 pub struct LineTold {
@@ -187,13 +187,13 @@ fn timed(
     warnings: &mut [u64],
 ) -> Told
     requires { ⌜ (3 * length (now text) ≤ length (now out)) × ((4 ≤ length (now warnings)) × ((1 ≤ length (now word)) × (length (now word) + length (now rest) + length (terminatorOf (now text)) ≤ length (now text)))) ⌝ }
-    ensures { λ t. ⌜ Tells (answerTo config (segmentsOf (now (map .entry))) (timesSay columns n (now (word .entry)) (fields (columns .columns) (now (rest .entry))) (terminatorOf (now (text .entry))) (timeIn 0 (fieldAt (columns .start) (fields (columns .columns) (now (rest .entry))))) (timeIn 0 (fieldAt (columns .«end») (fields (columns .columns) (now (rest .entry))))))) t (now (out .entry)) (now (out .exit)) (now (warnings .entry)) (now (warnings .exit)) ⌝ }
+    ensures { λ t. ⌜ Tells (lineAnswerIn config (segmentsOf (now (map .entry))) (timesSay columns n (now (word .entry)) (fields (columns .columns) (now (rest .entry))) (terminatorOf (now (text .entry))) (timeIn 0 (fieldAt (columns .start) (fields (columns .columns) (now (rest .entry))))) (timeIn 0 (fieldAt (columns .«end») (fields (columns .columns) (now (rest .entry))))))) t (now (out .entry)) (now (out .exit)) (now (warnings .entry)) (now (warnings .exit)) ⌝ }
 {
     let count = columns.columns;
-    let Time::At(start, start_mark) = time::read_time(field(rest, count, columns.start), 0) else {
+    let Time::At(start, start_mark) = stamp::read_time(field(rest, count, columns.start), 0) else {
         return refused(22);
     };
-    let Time::At(stop, stop_mark) = time::read_time(field(rest, count, columns.end), 0) else {
+    let Time::At(stop, stop_mark) = stamp::read_time(field(rest, count, columns.end), 0) else {
         return refused(22);
     };
     let old = Times {
@@ -218,7 +218,7 @@ fn caption(
     warnings: &mut [u64],
 ) -> Told
     requires { ⌜ (3 * length (now text) ≤ length (now out)) × ((4 ≤ length (now warnings)) × ((1 ≤ length (now word)) × (length (now word) ≤ length (textOf (now text))))) ⌝ }
-    ensures { λ t. ⌜ Tells (answerTo config (segmentsOf (now (map .entry))) (captionSays columns line (now (text .entry)) (now (word .entry)) (drop (length (now (word .entry))) (textOf (now (text .entry)))))) t (now (out .entry)) (now (out .exit)) (now (warnings .entry)) (now (warnings .exit)) ⌝ }
+    ensures { λ t. ⌜ Tells (lineAnswerIn config (segmentsOf (now (map .entry))) (captionSays columns line (now (text .entry)) (now (word .entry)) (drop (length (now (word .entry))) (textOf (now (text .entry)))))) t (now (out .entry)) (now (out .exit)) (now (warnings .entry)) (now (warnings .exit)) ⌝ }
 {
     if columns.start == 0 {
         return passing(1, line, text, out, warnings);
@@ -244,7 +244,7 @@ fn event_line(
     warnings: &mut [u64],
 ) -> LineTold
     requires { ⌜ (3 * length (now text) ≤ length (now out)) × (4 ≤ length (now warnings)) ⌝ }
-    ensures told { λ r. ⌜ Tells (answerTo config (segmentsOf (now (map .entry))) (wordSays columns n (now (text .entry)) (textOf (now (text .entry))))) (r .told) (now (out .entry)) (now (out .exit)) (now (warnings .entry)) (now (warnings .exit)) ⌝ }
+    ensures told { λ r. ⌜ Tells (lineAnswerIn config (segmentsOf (now (map .entry))) (wordSays columns n (now (text .entry)) (textOf (now (text .entry))))) (r .told) (now (out .entry)) (now (out .exit)) (now (warnings .entry)) (now (warnings .exit)) ⌝ }
     ensures columns { λ r. ⌜ r .columns ≡ columnsAfter columns (wordSays columns n (now (text .entry)) (textOf (now (text .entry)))) ⌝ }
 {
     let at = n as u64 + 1;
@@ -290,7 +290,7 @@ pub fn line(
         let told = refused(16);
         return LineTold { told, columns };
     }
-    let t = text::trimmed(text::text_of(text));
+    let t = chars::trimmed(text::text_of(text));
     if is_section(t) {
         let next = in_section(names_events(t), columns);
         let told = stayed(text, out);

@@ -9,13 +9,13 @@ use borrow.Author.Tests.{eq-eqb, ne-eqb, eqb-true, eqb-false}
 use lib.Dec.{eqb}
 use lib.ListN.{length, take, drop, getD, length-drop}
 use lib.Seq.{take-all}
-use Rattle.text.specs.White.{trim}
+use Rattle.chars.specs.White.{trim}
 use Rattle.text.specs.Find.{equals, first}
-use Rattle.text.specs.Piece.{pieces}
+use Rattle.text.specs.Piece.{pieces, comma}
 use Rattle.text.proofs.Laws.{equals-true}
 use Rattle.text.proofs.PieceLaws.{pieces-none, pieces-some}
 use Rattle.assline.specs.declared.layout.Columns.{Columns}
-use Rattle.assline.specs.Columns.{comma, startName, endName, namesIn, further, placeIn, columnsIn}
+use Rattle.assline.specs.Columns.{startName, endName, namesIn, further, placeIn, columnsIn}
 
 -- ---- the first place that was met
 pub place-kept : (e p : ℕ) (m : Bool) → (e ≡ 0 → ⊥) → e ≡ cond (eqb e 0) (cond m p 0) e
@@ -24,8 +24,8 @@ place-kept e p m h = rw (ne-eqb e 0 h)
 pub place-here : (e p : ℕ) (m : Bool) → e ≡ 0 → m ≡ true → p ≡ cond (eqb e 0) (cond m p 0) e
 place-here e p m h t = rw (eq-eqb e 0 h, t)
 
-pub place-none : (e p : ℕ) (m : Bool) → e ≡ 0 → m ≡ false → 0 ≡ cond (eqb e 0) (cond m p 0) e
-place-none e p m h t = rw (eq-eqb e 0 h, t)
+pub column-none : (e p : ℕ) (m : Bool) → e ≡ 0 → m ≡ false → 0 ≡ cond (eqb e 0) (cond m p 0) e
+column-none e p m h t = rw (eq-eqb e 0 h, t)
 
 -- ---- names
 module _ (t p n : List ℕ) (i : ℕ) (ei : i ≡ first comma t) (ep : p ≡ take i t) (en : n ≡ trim p) where

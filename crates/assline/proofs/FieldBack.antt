@@ -9,13 +9,14 @@ use lib.Dec.{ltb, eqb}
 use lib.ListN.{length, take, drop, length-append}
 use Rattle.text.specs.Find.{starts, first, contains}
 use Rattle.text.proofs.LineEnds.{lastOf, last-append, last-drop, last-some}
-use Rattle.time.proofs.Free.{Free, first-free, up-byte, past-byte}
+use Rattle.text.proofs.Free.{Free, first-free, up-byte, past-byte}
 use Rattle.event.specs.Says.{Piece, bytes, start, stop}
 use Rattle.event.specs.Emit.{render}
-use Rattle.assline.specs.Columns.{comma, fields, fieldAt}
+use Rattle.assline.specs.Columns.{fields, fieldAt}
 use Rattle.assline.specs.Frame.{pieceAt, fieldPieces, pieceText}
 use Rattle.assline.proofs.FieldLaws.{fields-some, fields-one, fields-last}
-use Rattle.assline.proofs.WriteLaws.{pieces-one, pieces-more, piece-text, is-bytes, render-step, render-nil}
+use Rattle.assline.proofs.WriteLaws.{frame-one, pieces-more, piece-text, is-bytes, render-step, render-nil}
+use Rattle.text.specs.Piece.{comma}
 
 -- ---- commas
 -- what stands before the first comma has none
@@ -96,7 +97,7 @@ module _ (i j : ℕ) (S E : List ℕ) where
 
   written-one : (k : ℕ) (f : List ℕ) → written k (f ∷ []) ≡ newField k f
   written-one k f =
-      ap (λ (ps : List Piece). render ps S E) (pieces-one i j k f) ∙ render-step S E (pieceAt i j k f) []
+      ap (λ (ps : List Piece). render ps S E) (frame-one i j k f) ∙ render-step S E (pieceAt i j k f) []
       ∙ ap (λ (x : List ℕ). pieceText S E (pieceAt i j k f) ++ x) (render-nil S E) ∙ append-nil (pieceText S E (pieceAt i j k f)) ∙ piece-text S E i j k f
 
   written-more : (k : ℕ) (f : List ℕ) (fs : List (List ℕ)) → 0 < length fs → written k (f ∷ fs) ≡ newField k f ++ 44 ∷ written (suc k) fs

@@ -9,15 +9,16 @@ use lib.Dec.{ltb, eqb}
 use lib.ListN.{length, take, drop, length-drop}
 use lib.Seq.{length-take-le}
 use Rattle.text.specs.Find.{first}
-use Rattle.time.specs.declared.read.Time.the-variants.{At}
-use Rattle.time.specs.Read.{timeIn}
-use Rattle.time.proofs.Reading.{time-long}
+use Rattle.stamp.specs.declared.read.Time.the-variants.{At}
+use Rattle.stamp.specs.Read.{timeIn}
+use Rattle.stamp.proofs.Reading.{time-long}
 use Rattle.event.specs.Says.{Piece, bytes, start, stop}
 use Rattle.assline.specs.declared.layout.Columns.{Columns}
-use Rattle.assline.specs.Columns.{comma, fields, fieldAt}
+use Rattle.assline.specs.Columns.{fields, fieldAt}
 use Rattle.assline.specs.Frame.{pieceAt, fieldPieces, lineFrame, frameMost}
 use Rattle.assline.proofs.FieldLaws.{fields-more, fields-last, fields-none, fields-one, fields-least, at-first, at-next}
-use Rattle.assline.proofs.WriteLaws.{pieces-one, pieces-more}
+use Rattle.assline.proofs.WriteLaws.{frame-one, pieces-more}
+use Rattle.text.specs.Piece.{comma}
 
 -- fields, each with a comma
 abbrev pub spread : List (List ℕ) → ℕ
@@ -94,7 +95,7 @@ module _ (i j : ℕ) where
 
   pieces-most : (k : ℕ) (fs : List (List ℕ)) → 0 < length fs → LongAt i k fs → LongAt j k fs → frameMost (fieldPieces i j k fs) + 1 ≤ 3 * spread fs
   pieces-most k [] h hi hj = absurd (omega arith)
-  pieces-most k (f ∷ []) h hi hj = rw (pieces-one i j k f) (omega (arith, none-most, piece-most k f [] [] hi hj))
+  pieces-most k (f ∷ []) h hi hj = rw (frame-one i j k f) (omega (arith, none-most, piece-most k f [] [] hi hj))
   pieces-most k (f ∷ g ∷ fs) h hi hj =
       let R = fieldPieces i j (suc k) (g ∷ fs) in
       rw (pieces-more i j k f (g ∷ fs) (omega arith))

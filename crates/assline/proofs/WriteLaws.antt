@@ -14,18 +14,19 @@ use Rattle.text.specs.Find.{first}
 use Rattle.event.specs.Says.{Piece, bytes, start, stop}
 use Rattle.event.specs.Emit.{render}
 use Rattle.assline.specs.declared.layout.Columns.{Columns}
-use Rattle.assline.specs.Columns.{comma, fields}
+use Rattle.assline.specs.Columns.{fields}
 use Rattle.assline.specs.Frame.{pieceAt, fieldPieces, lineFrame, pieceText, framePlaced, frameAfter}
 use Rattle.assline.proofs.FieldLaws.{fields-none, fields-least, head-last, head-two, head-more}
+use Rattle.text.specs.Piece.{comma}
 
 -- ---- the pieces of fields
-pub pieces-none : (i j k : ℕ) → fieldPieces i j k [] ≡ []
+pub frame-none : (i j k : ℕ) → fieldPieces i j k [] ≡ []
 unfolding fieldPieces
-pieces-none i j k = refl
+frame-none i j k = refl
 
-pub pieces-one : (i j k : ℕ) (f : List ℕ) → fieldPieces i j k (f ∷ []) ≡ pieceAt i j k f ∷ []
+pub frame-one : (i j k : ℕ) (f : List ℕ) → fieldPieces i j k (f ∷ []) ≡ pieceAt i j k f ∷ []
 unfolding fieldPieces
-pieces-one i j k f = refl
+frame-one i j k f = refl
 
 pub pieces-more : (i j k : ℕ) (f : List ℕ) (fs : List (List ℕ)) → 0 < length fs → fieldPieces i j k (f ∷ fs) ≡ pieceAt i j k f ∷ bytes comma ∷ fieldPieces i j (suc k) fs
 unfolding fieldPieces
@@ -107,7 +108,7 @@ module _ (s e : List ℕ) where
     -- no columns: nothing
     pub no-fields : m ≡ 0 → (from ≡ frameAfter s e from Whole o₀) × (o₀ ≡ framePlaced s e from Whole o₀)
     no-fields h =
-        let z : Whole ≡ [] = ap (λ (n : ℕ). fieldPieces i j 1 (fields n rest)) h ∙ ap (fieldPieces i j 1) (fields-none rest) ∙ pieces-none i j 1 in
+        let z : Whole ≡ [] = ap (λ (n : ℕ). fieldPieces i j 1 (fields n rest)) h ∙ ap (fieldPieces i j 1) (fields-none rest) ∙ frame-none i j 1 in
         (sym (ap (λ (ps : List Piece). frameAfter s e from ps o₀) z ∙ after-nil from o₀), sym (ap (λ (ps : List Piece). framePlaced s e from ps o₀) z ∙ placed-nil from o₀))
 
     module _ (n at k l at₁ : ℕ) (t o f o₁ : List ℕ) (inv : Unwritten n at k t o) (el : l ≡ cond (leb n 1) (length t) (first comma t)) (ef : f ≡ take l t)
@@ -115,7 +116,7 @@ module _ (s e : List ℕ) where
       pub fields-done : length t ≤ l → (at₁ ≡ frameAfter s e from Whole o₀) × (o₁ ≡ framePlaced s e from Whole o₀)
       fields-done h =
           let q : fieldPieces i j k (fields n t) ≡ pieceAt i j k f ∷ [] =
-          ap (fieldPieces i j k) (head-last n l t (inv .some) el h ∙ ap (λ (x : List ℕ). x ∷ []) (sym ef)) ∙ pieces-one i j k f in (
+          ap (fieldPieces i j k) (head-last n l t (inv .some) el h ∙ ap (λ (x : List ℕ). x ∷ []) (sym ef)) ∙ frame-one i j k f in (
             sym (after-nil at₁ o₁) ∙ after-step at at₁ (pieceAt i j k f) [] _ o o₁ refl (p .0) (p .1) ∙ ap (λ (ps : List Piece). frameAfter s e at ps o) (sym q) ∙ inv .after,
             sym (placed-nil at₁ o₁) ∙ placed-step at at₁ (pieceAt i j k f) [] _ o o₁ refl (p .0) (p .1) ∙ ap (λ (ps : List Piece). framePlaced s e at ps o) (sym q) ∙ inv .placed,
           )

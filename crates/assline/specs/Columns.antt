@@ -3,14 +3,10 @@ use mathlib.Core.Bool.{Bool, true, false, cond}
 use mathlib.Core.List.{List, [], _∷_, map}
 use Prim.Native.Nat.{ℕ, zero, suc}
 use lib.ListN.{length}
-use Rattle.text.specs.White.{trim}
+use Rattle.chars.specs.White.{trim}
 use Rattle.text.specs.Find.{equals, contains, upTo, past}
-use Rattle.text.specs.Piece.{pieces}
+use Rattle.text.specs.Piece.{comma, pieces}
 use Rattle.assline.specs.declared.layout.Columns.{Columns}
-
--- `,`
-abbrev pub comma : List ℕ
-comma = 44 ∷ []
 
 -- `Start`, `End`
 abbrev pub startName : List ℕ
@@ -55,3 +51,7 @@ fieldAt zero fs = []
 fieldAt (suc k) [] = []
 fieldAt (suc zero) (f ∷ fs) = f
 fieldAt (suc (suc k)) (f ∷ fs) = fieldAt (suc k) fs
+
+-- at first outside Events, columns unknown
+abbrev pub noColumns : Columns
+noColumns = record { events = false; columns = 0; start = 0; «end» = 0 }

@@ -4,7 +4,8 @@ ghost use mathlib.Core.Bool.{cond};
 ghost use lib.Dec.{leb};
 ghost use lib.ListN.{length};
 ghost use Rattle.text.specs.Find.{first};
-ghost use Rattle.assline.specs.Columns.{comma, fields, fieldAt};
+ghost use Rattle.assline.specs.Columns.{fields, fieldAt};
+ghost use Rattle.text.specs.Piece.{comma};
 
 // How many bytes the first of at most `left` fields has.
 pub fn field_length(t: &[u8], left: usize) -> usize

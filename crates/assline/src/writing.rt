@@ -3,10 +3,11 @@ use crate::fields::column_text;
 use crate::fields::field_length;
 use crate::layout::Columns;
 ghost use mathlib.Core.Path.{_≡_};
-ghost use Rattle.time.specs.Write.{timeText};
+ghost use Rattle.stamp.specs.Write.{timeText};
 ghost use Rattle.base.specs.Put.{placedAt, placeAfter};
-ghost use Rattle.assline.specs.Columns.{comma, fields};
+ghost use Rattle.assline.specs.Columns.{fields};
 ghost use Rattle.assline.specs.Frame.{pieceAt, fieldPieces, lineFrame, pieceText, framePlaced, frameAfter};
+ghost use Rattle.text.specs.Piece.{comma};
 
 // Two times in units, each with the mark before its fraction.
 pub struct Times {
@@ -101,7 +102,7 @@ pub fn write_kept(
 {
     let mut a = [0u8; 24];
     let mut b = [0u8; 24];
-    let n = time::write_time(times.start, kind, times.start_mark, &mut a);
-    let m = time::write_time(times.stop, kind, times.stop_mark, &mut b);
+    let n = stamp::write_time(times.start, kind, times.start_mark, &mut a);
+    let m = stamp::write_time(times.stop, kind, times.stop_mark, &mut b);
     write_line(out, word, rest, columns, &a[..n], &b[..m], ending)
 }

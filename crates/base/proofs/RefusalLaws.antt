@@ -48,9 +48,9 @@ pub else-next : (a b r v : ℕ) → r ≡ a → r ≡ 0 → v ≡ b → v ≡ a 
 else-next a b r v q z e = e ∙ sym (else-none b (sym q ∙ z))
 
 -- nothing is left
-pub first-none : (f : ℕ → ℕ) (i k : ℕ) → k ≡ 0 → firstOf f i k ≡ 0
+pub none-refused : (f : ℕ → ℕ) (i k : ℕ) → k ≡ 0 → firstOf f i k ≡ 0
 unfolding firstOf
-first-none f i k e = rw e
+none-refused f i k e = rw e
 
 -- f i has no fault: what is left starts one further, with the count as the code has it
 pub first-step : (f : ℕ → ℕ) (i k : ℕ) → f i ≡ 0 → firstOf f i (suc k) ≡ firstOf f (i + 1) k
@@ -96,4 +96,4 @@ pub left-here : (f : ℕ → ℕ) (i e v r : ℕ) → firstOf f i (e - i) ≡ v 
 left-here f i e v r inv l q h = q ∙ sym (first-here f i e l (λ z. h (q ∙ z))) ∙ inv
 
 pub left-done : (f : ℕ → ℕ) (i e v : ℕ) → firstOf f i (e - i) ≡ v → e ≤ i → 0 ≡ v
-left-done f i e v inv l = sym (first-none f i (e - i) (omega arith)) ∙ inv
+left-done f i e v inv l = sym (none-refused f i (e - i) (omega arith)) ∙ inv

@@ -12,10 +12,10 @@ use Rattle.base.proofs.PutLaws.{put-nil, placed-yes, length-yes}
 use Rattle.text.specs.Find.{upTo}
 use Rattle.text.specs.Line.{linesOf, textOf, terminatorOf}
 use Rattle.text.proofs.LineLaws.{lines-joined}
-use Rattle.time.specs.declared.read.Time.{Time}
-use Rattle.time.specs.declared.read.Time.the-variants.{At, Bad}
-use Rattle.time.specs.Read.{timeIn}
-use Rattle.time.specs.Write.{timeText}
+use Rattle.stamp.specs.declared.read.Time.{Time}
+use Rattle.stamp.specs.declared.read.Time.the-variants.{At, Bad}
+use Rattle.stamp.specs.Read.{timeIn}
+use Rattle.stamp.specs.Write.{timeText}
 use Rattle.segmap.specs.declared.segment.Segment.{Segment}
 use Rattle.event.specs.declared.setting.Config.{Config}
 use Rattle.event.specs.declared.telling.Told.{Told}
@@ -35,9 +35,9 @@ use Rattle.block.specs.declared.srt.Reading.the-variants.{Bad as Unread,
 use Rattle.block.specs.declared.timing.Place.{Place}
 use Rattle.block.specs.Style.{srtEnd, srt}
 use Rattle.block.specs.Block
-use Rattle.block.specs.Block.{arrow, afterArrow, blockFrame, blockCue, timesSay, endText, trailing, lineSays, timingSays, blockSays, timingOf, Timing, faulty, says}
-use Rattle.block.specs.Answer.{answerTo, blockIn, readingOf}
-use Rattle.block.specs.Place.{placeIn}
+use Rattle.block.specs.Block.{arrow, afterArrow, blockFrame, blockCue, bothSay, endText, trailing, timingLineSays, timingSays, blockSays, timingOf, Timing, faulty, says}
+use Rattle.block.specs.Answer.{blockAnswerIn, blockIn, timesRead}
+use Rattle.block.specs.Place.{timingPlace}
 use Rattle.block.proofs.PlaceLaws.{Stands, stands}
 use Rattle.block.proofs.WriteLaws.{line-long}
 
@@ -63,26 +63,26 @@ keep-told kind n S a E b ps r c i j o o′ w w′ ec eo ew =
     }
 
 -- ---- read_times
-pub read-1 : (s v : List ℕ) (x : Time) → x ≡ timeIn 1 s → x ≡ Bad → Unread ≡ readingOf (timeIn 1 s) (timeIn 1 v)
-read-1 s v x e p = ap (λ (X : Time). readingOf X (timeIn 1 v)) (sym p ∙ e)
+pub read-1 : (s v : List ℕ) (x : Time) → x ≡ timeIn 1 s → x ≡ Bad → Unread ≡ timesRead (timeIn 1 s) (timeIn 1 v)
+read-1 s v x e p = ap (λ (X : Time). timesRead X (timeIn 1 v)) (sym p ∙ e)
 
-pub read-2 : (s v : List ℕ) (x y : Time) (S a : ℕ) → x ≡ timeIn 1 s → x ≡ At S a → y ≡ timeIn 1 v → y ≡ Bad → Unread ≡ readingOf (timeIn 1 s) (timeIn 1 v)
-read-2 s v x y S a e p f q = ap (λ (Y : Time). readingOf (At S a) Y) (sym q ∙ f) ∙ ap (λ (X : Time). readingOf X (timeIn 1 v)) (sym p ∙ e)
+pub read-2 : (s v : List ℕ) (x y : Time) (S a : ℕ) → x ≡ timeIn 1 s → x ≡ At S a → y ≡ timeIn 1 v → y ≡ Bad → Unread ≡ timesRead (timeIn 1 s) (timeIn 1 v)
+read-2 s v x y S a e p f q = ap (λ (Y : Time). timesRead (At S a) Y) (sym q ∙ f) ∙ ap (λ (X : Time). timesRead X (timeIn 1 v)) (sym p ∙ e)
 
 pub read-3 : (s v : List ℕ) (x y : Time) (S a E b : ℕ) → x ≡ timeIn 1 s → x ≡ At S a → y ≡ timeIn 1 v → y ≡ At E b
-    → Both (record { start = S; «start_mark» = a; stop = E; «stop_mark» = b }) ≡ readingOf (timeIn 1 s) (timeIn 1 v)
-read-3 s v x y S a E b e p f q = ap (λ (Y : Time). readingOf (At S a) Y) (sym q ∙ f) ∙ ap (λ (X : Time). readingOf X (timeIn 1 v)) (sym p ∙ e)
+    → Both (record { start = S; «start_mark» = a; stop = E; «stop_mark» = b }) ≡ timesRead (timeIn 1 s) (timeIn 1 v)
+read-3 s v x y S a E b e p f q = ap (λ (Y : Time). timesRead (At S a) Y) (sym q ∙ f) ∙ ap (λ (X : Time). timesRead X (timeIn 1 v)) (sym p ∙ e)
 
 not-both : {A : Type 0} {o : Times} → Unread ≡ Both o → A
 not-both e = absurd (let z : _≡_ {A = ℕ} 0 1 = ap (λ (r : Reading). elim r [ Unread ↦ 0 | Both o ↦ 1 ]) e in omega arith)
 
 -- a bad time, and both times, told of
-times-bad : (n : ℕ) (ps : List Piece) (X Y : Time) → readingOf X Y ≡ Unread → timesSay n ps X Y ≡ faulty badTime
+times-bad : (n : ℕ) (ps : List Piece) (X Y : Time) → timesRead X Y ≡ Unread → bothSay n ps X Y ≡ faulty badTime
 times-bad n ps Bad Y e = refl
 times-bad n ps (At S a) Bad e = refl
 times-bad n ps (At S a) (At E b) e = not-both (sym e)
 
-times-both : (X Y : Time) (o : Times) → readingOf X Y ≡ Both o → (X ≡ At (o .start) (o .«start_mark»)) × (Y ≡ At (o .stop) (o .«stop_mark»))
+times-both : (X Y : Time) (o : Times) → timesRead X Y ≡ Both o → (X ≡ At (o .start) (o .«start_mark»)) × (Y ≡ At (o .stop) (o .«stop_mark»))
 times-both Bad Y o e = not-both e
 times-both (At S a) Bad o e = not-both e
 times-both (At S a) (At E b) o e =
@@ -90,7 +90,7 @@ times-both (At S a) (At E b) o e =
     (ap (λ (v : Times). At (v .start) (v .«start_mark»)) v, ap (λ (v : Times). At (v .stop) (v .«stop_mark»)) v)
 
 -- ---- timed
-module _ (config : Config) (m : List Segment) (k n : ℕ) (b l a T B t z u v : List ℕ) (x : Reading) (et : T ≡ textOf l) (eb : B ≡ afterArrow T) (en : n ≡ srtEnd B) (ew : t ≡ drop n B) (ez : z ≡ terminatorOf l) (eu : u ≡ upTo arrow T) (ev : v ≡ take n B) (ex : x ≡ readingOf (timeIn 1 u) (timeIn 1 v)) where
+module _ (config : Config) (m : List Segment) (k n : ℕ) (b l a T B t z u v : List ℕ) (x : Reading) (et : T ≡ textOf l) (eb : B ≡ afterArrow T) (en : n ≡ srtEnd B) (ew : t ≡ drop n B) (ez : z ≡ terminatorOf l) (eu : u ≡ upTo arrow T) (ev : v ≡ take n B) (ex : x ≡ timesRead (timeIn 1 u) (timeIn 1 v)) where
   behind-is : B ≡ afterArrow (textOf l)
   behind-is = eb ∙ ap afterArrow et
 
@@ -104,13 +104,13 @@ module _ (config : Config) (m : List Segment) (k n : ℕ) (b l a T B t z u v : L
   trailing-is = ew ∙ ap (λ (j : ℕ). drop j B) en ∙ ap (λ (c : List ℕ). drop (srtEnd c) c) behind-is
 
   -- the line in the words of the code
-  line-is : lineSays srt k b l a ≡ timesSay k (blockFrame b t z a) (timeIn 1 u) (timeIn 1 v)
-  unfolding lineSays
+  line-is : timingLineSays srt k b l a ≡ bothSay k (blockFrame b t z a) (timeIn 1 u) (timeIn 1 v)
+  unfolding timingLineSays
   line-is = rw (start-is, end-is, trailing-is, ez)
 
-  pub timed-bad : (r : Told) (o w : List ℕ) → x ≡ Unread → r ≡ refusedWith 22 → Tells (answerTo config m (lineSays srt k b l a)) r o o w w
+  pub timed-bad : (r : Told) (o w : List ℕ) → x ≡ Unread → r ≡ refusedWith 22 → Tells (blockAnswerIn config m (timingLineSays srt k b l a)) r o o w w
   timed-bad r o w p q =
-      tells-same (ap (answerTo config m) (line-is ∙ times-bad k (blockFrame b t z a) (timeIn 1 u) (timeIn 1 v) (sym ex ∙ p))) (tells-refused 22 r o w q)
+      tells-same (ap (blockAnswerIn config m) (line-is ∙ times-bad k (blockFrame b t z a) (timeIn 1 u) (timeIn 1 v) (sym ex ∙ p))) (tells-refused 22 r o w q)
 
   module _ (old : Times) (p : x ≡ Both old) where
     both : (timeIn 1 u ≡ At (old .start) (old .«start_mark»)) × (timeIn 1 v ≡ At (old .stop) (old .«stop_mark»))
@@ -125,13 +125,13 @@ module _ (config : Config) (m : List Segment) (k n : ℕ) (b l a T B t z u v : L
 
     pub timed-both : (r : Told) (o o′ w w′ : List ℕ)
         → Tells (cueIn (config .kind) (blockCue k (old .start) (old .«start_mark») (old .stop) (old .«stop_mark») (blockFrame b t z a)) (decideIn config m (old .start) (old .stop))) r o o′ w w′
-        → Tells (answerTo config m (lineSays srt k b l a)) r o o′ w w′
+        → Tells (blockAnswerIn config m (timingLineSays srt k b l a)) r o o′ w w′
     unfolding partIn
     timed-both r o o′ w w′ h =
         tells-same
-        (ap (answerTo config m)
-        (line-is ∙ ap (λ (X : Time). timesSay k (blockFrame b t z a) X (timeIn 1 v)) (both .0) ∙
-        ap (λ (Y : Time). timesSay k (blockFrame b t z a) (At (old .start) (old .«start_mark»)) Y) (both .1)))
+        (ap (blockAnswerIn config m)
+        (line-is ∙ ap (λ (X : Time). bothSay k (blockFrame b t z a) X (timeIn 1 v)) (both .0) ∙
+        ap (λ (Y : Time). bothSay k (blockFrame b t z a) (At (old .start) (old .«start_mark»)) Y) (both .1)))
         h
 
 -- ---- block
@@ -144,18 +144,18 @@ module _ (config : Config) (m : List Segment) (first : ℕ) (s : List ℕ) (room
   unfolding blockIn
   answer-2 h i = rw (le-ltb room (3 * length s) (omega arith), lt-ltb places 2 i)
 
-  pub answer-3 : length s ≤ room / 3 → 2 ≤ places → blockIn config m first s room places ≡ answerTo config m (blockSays srt first (linesOf s))
+  pub answer-3 : length s ≤ room / 3 → 2 ≤ places → blockIn config m first s room places ≡ blockAnswerIn config m (blockSays srt first (linesOf s))
   unfolding blockIn
   answer-3 h i = rw (le-ltb room (3 * length s) (omega arith), le-ltb places 2 i)
 
-module _ (config : Config) (m : List Segment) (first : ℕ) (s : List ℕ) (p : Place) (e : p ≡ placeIn (linesOf s) 0 0) where
+module _ (config : Config) (m : List Segment) (first : ℕ) (s : List ℕ) (p : Place) (e : p ≡ timingPlace (linesOf s) 0 0) where
   says-of : (t : Timing) → Stands s p t → p .found ≡ true
-      → timingSays srt first (linesOf s) t ≡ lineSays srt (first + p .lines) (take (p .at) s) (take (p .size) (drop (p .at) s)) (drop (p .size) (drop (p .at) s))
+      → timingSays srt first (linesOf s) t ≡ timingLineSays srt (first + p .lines) (take (p .at) s) (take (p .size) (drop (p .at) s)) (drop (p .size) (drop (p .at) s))
   says-of Block.untimed h f = absurd (true≢false (sym f ∙ h))
   says-of (Block.timed b l a) h f = rw (h .before, h .line, h .after, h .lines)
 
   block-timed : p .found ≡ true
-      → blockSays srt first (linesOf s) ≡ lineSays srt (first + p .lines) (take (p .at) s) (take (p .size) (drop (p .at) s)) (drop (p .size) (drop (p .at) s))
+      → blockSays srt first (linesOf s) ≡ timingLineSays srt (first + p .lines) (take (p .at) s) (take (p .size) (drop (p .at) s)) (drop (p .size) (drop (p .at) s))
   unfolding blockSays
   block-timed f = says-of (timingOf (linesOf s)) (stands s p e) f
 
@@ -173,7 +173,7 @@ module _ (config : Config) (m : List Segment) (first : ℕ) (s : List ℕ) (p : 
   unfolding partIn emitBy placesOf
   block-4 n o o′ w f h i q =
       let r : length s ≤ length o = omega arith in
-      tells-same (answer-3 config m first s (length o) (length w) h i ∙ ap (answerTo config m) (block-untimed f))
+      tells-same (answer-3 config m first s (length o) (length w) h i ∙ ap (blockAnswerIn config m) (block-untimed f))
       (record {
         number = refl;
         counted = refl;
@@ -185,10 +185,10 @@ module _ (config : Config) (m : List Segment) (first : ℕ) (s : List ℕ) (p : 
 
   pub block-3 : (k : ℕ) (r0 f1 f2 r2 : List ℕ) (r : Told) (o o′ w w′ : List ℕ) → length s ≤ length o / 3 → 2 ≤ length w → p .found ≡ true
       → k ≡ first + p .lines → r0 ≡ drop (p .at) s → f1 ≡ take (p .at) s → f2 ≡ take (p .size) r0 → r2 ≡ drop (p .size) r0
-      → Tells (answerTo config m (lineSays srt k f1 f2 r2)) r o o′ w w′ → Tells (blockIn config m first s (length o) (length w)) r o o′ w w′
+      → Tells (blockAnswerIn config m (timingLineSays srt k f1 f2 r2)) r o o′ w w′ → Tells (blockIn config m first s (length o) (length w)) r o o′ w w′
   block-3 k r0 f1 f2 r2 r o o′ w w′ h i f ek e0 e1 e2 e3 t =
-      let line : lineSays srt (first + p .lines) (take (p .at) s) (take (p .size) (drop (p .at) s)) (drop (p .size) (drop (p .at) s)) ≡ lineSays srt k f1 f2 r2 = rw (ek, e3, e2, e1, e0) in
-      tells-same (answer-3 config m first s (length o) (length w) h i ∙ ap (answerTo config m) (block-timed f ∙ line)) t
+      let line : timingLineSays srt (first + p .lines) (take (p .at) s) (take (p .size) (drop (p .at) s)) (drop (p .size) (drop (p .at) s)) ≡ timingLineSays srt k f1 f2 r2 = rw (ek, e3, e2, e1, e0) in
+      tells-same (answer-3 config m first s (length o) (length w) h i ∙ ap (blockAnswerIn config m) (block-timed f ∙ line)) t
 
 pub block-room : (s r0 f1 f2 r2 o : List ℕ) (i n : ℕ) → r0 ≡ drop i s → f1 ≡ take i s → f2 ≡ take n r0 → r2 ≡ drop n r0 → length s ≤ length o / 3 → 3 * (length f1 + length f2 + length r2) ≤ length o
 block-room s r0 f1 f2 r2 o i n e0 e1 e2 e3 h =

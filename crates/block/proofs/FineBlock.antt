@@ -9,11 +9,11 @@ use lib.ListN.{length}
 use Rattle.text.specs.Find.{upTo}
 use Rattle.text.specs.Line.{linesOf, concat, lineCount, textOf, terminatorOf, hasLf}
 use Rattle.text.proofs.LineLaws.{Finished, lines-back, line-last}
-use Rattle.time.specs.declared.read.Time.{Time}
-use Rattle.time.specs.declared.read.Time.the-variants.{At, Bad}
+use Rattle.stamp.specs.declared.read.Time.{Time}
+use Rattle.stamp.specs.declared.read.Time.the-variants.{At, Bad}
 use Rattle.time.specs.Kind.{unitsOf, markOf}
-use Rattle.time.specs.Read.{timeIn}
-use Rattle.time.proofs.Reading.{time-below, time-mark}
+use Rattle.stamp.specs.Read.{timeIn}
+use Rattle.stamp.proofs.Reading.{time-below, time-mark}
 use Rattle.segmap.specs.Segment.{segmentsOf, mapBad}
 use Rattle.event.specs.declared.setting.Config.{Config}
 use Rattle.event.specs.Says.{Cue, stays, passes, cue}
@@ -22,8 +22,8 @@ use Rattle.event.specs.Told.{partIn}
 use Rattle.event.proofs.FineLaws.{Set, cue-fine}
 use Rattle.block.specs.Style.{Style, srt}
 use Rattle.block.specs.Block
-use Rattle.block.specs.Block.{arrow, blockFrame, timesSay, endText, trailing, lineSays, timingSays, blockSays, timingOf, Timing, BlockSays, faulty, says}
-use Rattle.block.specs.Answer.{answerOf, answerTo, blockIn}
+use Rattle.block.specs.Block.{arrow, blockFrame, bothSay, endText, trailing, timingLineSays, timingSays, blockSays, timingOf, Timing, BlockSays, faulty, says}
+use Rattle.block.specs.Answer.{blockAnswer, blockAnswerIn, blockIn}
 
 -- ---- what is known of the cue that a block says: times below 10,000 hours, and SRT's mark; no tag
 pub record Timely (q : Cue) : Type 0 where
@@ -39,12 +39,12 @@ Timed (says (stays l)) = Unit {0}
 Timed (says (passes r n l)) = ⊥
 Timed (says (cue q)) = Timely q
 
-line-timed : (k : ℕ) (b l a : List ℕ) → Timed (lineSays srt k b l a)
-unfolding lineSays
+line-timed : (k : ℕ) (b l a : List ℕ) → Timed (timingLineSays srt k b l a)
+unfolding timingLineSays
 line-timed k b l a = go (timeIn 1 (upTo arrow (textOf l))) (timeIn 1 (endText srt (textOf l))) refl refl
   where
     go : (X Y : Time) → timeIn 1 (upTo arrow (textOf l)) ≡ X → timeIn 1 (endText srt (textOf l)) ≡ Y
-        → Timed (timesSay k (blockFrame b (trailing srt (textOf l)) (terminatorOf l) a) X Y)
+        → Timed (bothSay k (blockFrame b (trailing srt (textOf l)) (terminatorOf l) a) X Y)
     go Bad Y p q = tt
     go (At S i) Bad p q = tt
     go (At S i) (At E j) p q =
@@ -68,7 +68,7 @@ pub block-timely : (first : ℕ) (ls : List (List ℕ)) (q : Cue) → blockSays 
 block-timely first ls q e = subst Timed e (block-timed first ls)
 
 -- ---- the answer
-answer-fine : (c : Config) → Set c → (m : List ℕ) → mapBad m ≡ false → (b : BlockSays) → Timed b → answerTo c (segmentsOf m) b ≡ answerOf c (segmentsOf m) b
+answer-fine : (c : Config) → Set c → (m : List ℕ) → mapBad m ≡ false → (b : BlockSays) → Timed b → blockAnswerIn c (segmentsOf m) b ≡ blockAnswer c (segmentsOf m) b
 unfolding partIn emitBy unitsOf
 answer-fine c set m g (faulty f) h = refl
 answer-fine c set m g (says (stays l)) h = refl
@@ -76,7 +76,7 @@ answer-fine c set m g (says (passes r n l)) h = absurd h
 answer-fine c set m g (says (cue q)) h = cue-fine c set m g q (omega (arith, h .start-below)) (omega (arith, h .stop-below))
 
 pub block-fine : (c : Config) → Set c → (m : List ℕ) → mapBad m ≡ false → (first : ℕ) (s : List ℕ) (room places : ℕ) → 3 * length s ≤ room → 2 ≤ places
-    → blockIn c (segmentsOf m) first s room places ≡ answerOf c (segmentsOf m) (blockSays srt first (linesOf s))
+    → blockIn c (segmentsOf m) first s room places ≡ blockAnswer c (segmentsOf m) (blockSays srt first (linesOf s))
 unfolding blockIn
 block-fine c set m g first s room places h i =
     rw (le-ltb room (3 * length s) h, le-ltb places 2 i) (answer-fine c set m g (blockSays srt first (linesOf s)) (block-timed first (linesOf s)))

@@ -9,11 +9,11 @@ use lib.ListN.{length, length-append}
 use Rattle.text.specs.Find.{upTo}
 use Rattle.text.specs.Line.{linesOf, concat, lineCount, textOf, terminatorOf}
 use Rattle.text.proofs.LineLaws.{lines-joined}
-use Rattle.time.specs.declared.read.Time.{Time}
-use Rattle.time.specs.declared.read.Time.the-variants.{At, Bad}
-use Rattle.time.specs.Read.{timeIn}
+use Rattle.stamp.specs.declared.read.Time.{Time}
+use Rattle.stamp.specs.declared.read.Time.the-variants.{At, Bad}
+use Rattle.stamp.specs.Read.{timeIn}
 use Rattle.time.specs.Convert.{coreUnits}
-use Rattle.time.proofs.Reading.{time-most}
+use Rattle.stamp.proofs.Reading.{time-most}
 use Rattle.segmap.specs.declared.segment.Segment.{Segment}
 use Rattle.segmap.specs.Segment.{segmentsOf, mapBad}
 use Rattle.event.specs.declared.setting.Config.{Config}
@@ -27,9 +27,9 @@ use Rattle.event.proofs.FineLaws.{Set, decide-fine}
 use Rattle.event.proofs.WordLaws.{Words, decide-words}
 use Rattle.block.specs.Style.{srt}
 use Rattle.block.specs.Block
-use Rattle.block.specs.Block.{arrow, blockFrame, blockCue, timesSay, endText, trailing, lineSays, timingSays, blockSays, timingOf, Timing, BlockSays, faulty, says}
-use Rattle.block.specs.Answer.{answerTo, blockIn}
-use Rattle.block.specs.Place.{placeIn}
+use Rattle.block.specs.Block.{arrow, blockFrame, blockCue, bothSay, endText, trailing, timingLineSays, timingSays, blockSays, timingOf, Timing, BlockSays, faulty, says}
+use Rattle.block.specs.Answer.{blockAnswerIn, blockIn}
+use Rattle.block.specs.Place.{timingPlace}
 use Rattle.block.proofs.PlaceLaws.{Placed, timing-placed}
 use Rattle.block.proofs.WriteLaws.{kept-length, line-long}
 
@@ -62,12 +62,12 @@ cue-small kind n k S i E j b t x a (Kept r) w h =
     }
 
 module _ (kind : ℕ) (d : ℕ → ℕ → Decision) (wd : (S E : ℕ) → S ≤ coreUnits → E ≤ coreUnits → Words (d S E)) where
-  line-small : (k : ℕ) (b l a : List ℕ) → SaysSmall kind d (length b + length l + length a) (lineSays srt k b l a)
-  unfolding lineSays emitBy
+  line-small : (k : ℕ) (b l a : List ℕ) → SaysSmall kind d (length b + length l + length a) (timingLineSays srt k b l a)
+  unfolding timingLineSays emitBy
   line-small k b l a = go (timeIn 1 (upTo arrow (textOf l))) (timeIn 1 (endText srt (textOf l))) refl refl
     where
       go : (X Y : Time) → timeIn 1 (upTo arrow (textOf l)) ≡ X → timeIn 1 (endText srt (textOf l)) ≡ Y
-          → SaysSmall kind d (length b + length l + length a) (timesSay k (blockFrame b (trailing srt (textOf l)) (terminatorOf l) a) X Y)
+          → SaysSmall kind d (length b + length l + length a) (bothSay k (blockFrame b (trailing srt (textOf l)) (terminatorOf l) a) X Y)
       go Bad Y p q = tt
       go (At S i) Bad p q = tt
       go (At S i) (At E j) p q =
@@ -75,13 +75,13 @@ module _ (kind : ℕ) (d : ℕ → ℕ → Decision) (wd : (S E : ℕ) → S ≤
           let he : E ≤ coreUnits = omega (arith, time-most 1 E j _ q) in
           cue-small kind _ k S i E j b (trailing srt (textOf l)) (terminatorOf l) a (d S E) (wd S E hs he) (omega (arith, line-long l S E i j p q))
 
-  timing-small : (first i j : ℕ) (ls : List (List ℕ)) (t : Timing) → Placed t ls i j (placeIn ls i j) → SaysSmall kind d (length (concat ls)) (timingSays srt first ls t)
+  timing-small : (first i j : ℕ) (ls : List (List ℕ)) (t : Timing) → Placed t ls i j (timingPlace ls i j) → SaysSmall kind d (length (concat ls)) (timingSays srt first ls t)
   unfolding emitBy
   timing-small first i j ls Block.untimed h = record { output = omega arith; one-warning = omega arith; warned-long = omega arith }
   timing-small first i j ls (Block.timed b l a) h =
       let n : length (concat b) + length l + length (concat a) ≡ length (concat ls) =
       sym (ap length (sym (h .1)) ∙ length-append (concat b) (l ++ concat a) ∙ ap (λ (x : ℕ). length (concat b) + x) (length-append l (concat a)) ∙ omega arith) in
-      subst (λ (x : ℕ). SaysSmall kind d x (lineSays srt (first + lineCount b) (concat b) l (concat a))) n (line-small (first + lineCount b) (concat b) l (concat a))
+      subst (λ (x : ℕ). SaysSmall kind d x (timingLineSays srt (first + lineCount b) (concat b) l (concat a))) n (line-small (first + lineCount b) (concat b) l (concat a))
 
   says-small : (first : ℕ) (s : List ℕ) → SaysSmall kind d (length s) (blockSays srt first (linesOf s))
   unfolding blockSays
@@ -100,7 +100,7 @@ block-fits c set m g first s p e =
     emit-fits (c .kind) (decideOf c (segmentsOf m)) (λ S E hs he. subst Words (decide-fine c set m S E g hs he) (decide-words c (segmentsOf m) S E)) first s p e
 
 -- by the code, at every input
-answer-small : (c : Config) (m : List Segment) (n : ℕ) (b : BlockSays) → SaysSmall (c .kind) (decideIn c m) n b → Small n (answerTo c m b .emitted)
+answer-small : (c : Config) (m : List Segment) (n : ℕ) (b : BlockSays) → SaysSmall (c .kind) (decideIn c m) n b → Small n (blockAnswerIn c m b .emitted)
 unfolding partIn emitBy
 answer-small c m n (faulty f) h = record { output = omega arith; one-warning = omega arith; warned-long = omega arith }
 answer-small c m n (says (stays l)) h = h
@@ -116,7 +116,7 @@ pub block-in-fits : (c : Config) (m : List Segment) (first : ℕ) (s : List ℕ)
 unfolding blockIn
 block-in-fits c m first s room places = go (ltb room (3 * length s)) (ltb places 2)
   where
-    go : (x y : Bool) → Small (length s) (cond x (refusal 16) (cond y (refusal 16) (answerTo c m (blockSays srt first (linesOf s)))) .emitted)
+    go : (x y : Bool) → Small (length s) (cond x (refusal 16) (cond y (refusal 16) (blockAnswerIn c m (blockSays srt first (linesOf s)))) .emitted)
     go true y = record { output = omega arith; one-warning = omega arith; warned-long = omega arith }
     go false true = record { output = omega arith; one-warning = omega arith; warned-long = omega arith }
     go false false =

@@ -4,9 +4,4 @@ pub mod WriteLaws
 pub mod BlockLaws
 pub mod Fits
 pub mod FineBlock
-pub mod LineBack
-pub mod LineEnds
-pub mod BlockBack
-pub mod BlockShape
-pub mod WholeText
 pub mod Examples

@@ -9,15 +9,15 @@ use borrow.Author.Tests.{lt-ltb, le-ltb}
 use lib.Seq.{length-take-le, take-at, drop-at}
 use lib.ListN.{length, take, drop, getD, length-drop, length-append}
 use Rattle.base.proofs.Laws.{yes!, no! }
-use Rattle.text.specs.Utf8.{tail}
-use Rattle.text.specs.White.{trimHead}
+use Rattle.chars.specs.Utf8.{tail}
+use Rattle.chars.specs.White.{trimHead}
 use Rattle.text.specs.Find.{contains, past}
 use Rattle.text.specs.Line.{lineLength, linesOf, concat, lineCount, textOf}
 use Rattle.text.proofs.LineLaws.{line-some, line-le, lines-cut, lines-end, lines-joined}
 use Rattle.block.specs.declared.timing.Place.{Place}
 use Rattle.block.specs.Style.{srtEnd}
 use Rattle.block.specs.Block.{arrow, Timing, untimed, timed, later, timingOf, afterArrow}
-use Rattle.block.specs.Place.{nowhere, somewhere, placeIn}
+use Rattle.block.specs.Place.{nowhere, somewhere, timingPlace}
 
 -- ---- the end time
 pub end-1 : (r : List ℕ) → length r < 12 → length r ≡ srtEnd r
@@ -38,34 +38,31 @@ after-found s t r e f = f ∙ ap trimHead e
 
 -- ---- the loop over the lines
 place-cut : (t line x : List ℕ) (n i k : ℕ) (f : Bool) → 0 < length t → n ≡ lineLength t → line ≡ take n t → x ≡ textOf line → f ≡ contains arrow x
-    → placeIn (linesOf t) i k ≡ cond f (somewhere i n k) (placeIn (linesOf (drop n t)) (i + n) (k + 1))
-unfolding placeIn
+    → timingPlace (linesOf t) i k ≡ cond f (somewhere i n k) (timingPlace (linesOf (drop n t)) (i + n) (k + 1))
+unfolding timingPlace
 place-cut t line x n i k f h en el ex ef =
     let q : length (take n t) ≡ n = length-take-le n t (omega (arith, line-le t)) in
     let c : linesOf t ≡ take n t ∷ linesOf (drop n t) = lines-cut t h ∙ ap (λ (m : ℕ). take m t ∷ linesOf (drop m t)) (sym en) in
     rw (c, q, ef, ex, el)
 
-pub place-found : (s t line x : List ℕ) (n i k : ℕ) (f : Bool) → placeIn (linesOf s) 0 0 ≡ placeIn (linesOf t) i k → 0 < length t → n ≡ lineLength t → line ≡ take n t → x ≡ textOf line → f ≡ contains arrow x → f ≡ true
-    → _≡_ {A = Place} (record { found = true; at = i; size = n; lines = k }) (placeIn (linesOf s) 0 0)
+pub place-found : (s t line x : List ℕ) (n i k : ℕ) (f : Bool) → timingPlace (linesOf s) 0 0 ≡ timingPlace (linesOf t) i k → 0 < length t → n ≡ lineLength t → line ≡ take n t → x ≡ textOf line → f ≡ contains arrow x → f ≡ true
+    → _≡_ {A = Place} (record { found = true; at = i; size = n; lines = k }) (timingPlace (linesOf s) 0 0)
 place-found s t line x n i k f inv h en el ex ef p =
-    sym (inv ∙ place-cut t line x n i k f h en el ex ef ∙ ap (λ (b : Bool). cond b (somewhere i n k) (placeIn (linesOf (drop n t)) (i + n) (k + 1))) p)
+    sym (inv ∙ place-cut t line x n i k f h en el ex ef ∙ ap (λ (b : Bool). cond b (somewhere i n k) (timingPlace (linesOf (drop n t)) (i + n) (k + 1))) p)
 
-pub place-again : (s t u line x : List ℕ) (n i k : ℕ) (f : Bool) → placeIn (linesOf s) 0 0 ≡ placeIn (linesOf t) i k → 0 < length t → n ≡ lineLength t → line ≡ take n t → x ≡ textOf line → f ≡ contains arrow x → f ≡ false → u ≡ drop n t
-    → placeIn (linesOf s) 0 0 ≡ placeIn (linesOf u) (i + n) (k + 1)
+pub place-again : (s t u line x : List ℕ) (n i k : ℕ) (f : Bool) → timingPlace (linesOf s) 0 0 ≡ timingPlace (linesOf t) i k → 0 < length t → n ≡ lineLength t → line ≡ take n t → x ≡ textOf line → f ≡ contains arrow x → f ≡ false → u ≡ drop n t
+    → timingPlace (linesOf s) 0 0 ≡ timingPlace (linesOf u) (i + n) (k + 1)
 place-again s t u line x n i k f inv h en el ex ef p eu =
-    inv ∙ place-cut t line x n i k f h en el ex ef ∙ ap (λ (b : Bool). cond b (somewhere i n k) (placeIn (linesOf (drop n t)) (i + n) (k + 1))) p
-    ∙ ap (λ (y : List ℕ). placeIn (linesOf y) (i + n) (k + 1)) (sym eu)
+    inv ∙ place-cut t line x n i k f h en el ex ef ∙ ap (λ (b : Bool). cond b (somewhere i n k) (timingPlace (linesOf (drop n t)) (i + n) (k + 1))) p
+    ∙ ap (λ (y : List ℕ). timingPlace (linesOf y) (i + n) (k + 1)) (sym eu)
 
-pub place-none : (s t : List ℕ) (i k : ℕ) → placeIn (linesOf s) 0 0 ≡ placeIn (linesOf t) i k → length t ≤ 0
-    → _≡_ {A = Place} (record { found = false; at = 0; size = 0; lines = 0 }) (placeIn (linesOf s) 0 0)
-unfolding placeIn
-place-none s t i k inv h = sym (inv ∙ ap (λ (y : List (List ℕ)). placeIn y i k) (lines-end t h))
+pub place-none : (s t : List ℕ) (i k : ℕ) → timingPlace (linesOf s) 0 0 ≡ timingPlace (linesOf t) i k → length t ≤ 0
+    → _≡_ {A = Place} (record { found = false; at = 0; size = 0; lines = 0 }) (timingPlace (linesOf s) 0 0)
+unfolding timingPlace
+place-none s t i k inv h = sym (inv ∙ ap (λ (y : List (List ℕ)). timingPlace y i k) (lines-end t h))
 
-pub line-fits : (t : List ℕ) (n : ℕ) → n ≡ lineLength t → n ≤ length t
-line-fits t n e = omega (arith, line-le t)
-
-pub rest-less : (t u : List ℕ) (n : ℕ) → n ≡ lineLength t → 0 < length t → u ≡ drop n t → length u < length t
-rest-less t u n e h d = let a = line-some t h in subst (λ (x : List ℕ). length x < length t) (sym d) (simp length-drop (omega arith))
+pub line-inside : (t : List ℕ) (n : ℕ) → n ≡ lineLength t → n ≤ length t
+line-inside t n e = omega (arith, line-le t)
 
 pub rest-sum : (s t u : List ℕ) (n i : ℕ) → i + length t ≡ length s → n ≡ lineLength t → u ≡ drop n t → i + n + length u ≡ length s
 rest-sum s t u n i inv e d =
@@ -89,15 +86,15 @@ later-placed l (timed b x a) ls i k p e =
       append-assoc l (concat b) (x ++ concat a) ∙ ap (λ (y : List ℕ). l ++ y) (e .1),
     )
 
-pub timing-placed : (ls : List (List ℕ)) (i k : ℕ) → Placed (timingOf ls) ls i k (placeIn ls i k)
-unfolding timingOf placeIn
+pub timing-placed : (ls : List (List ℕ)) (i k : ℕ) → Placed (timingOf ls) ls i k (timingPlace ls i k)
+unfolding timingOf timingPlace
 timing-placed [] i k = refl
 timing-placed (l ∷ ls) i k = go (contains arrow (textOf l)) (timing-placed ls (i + length l) (k + 1))
   where
-    go : (t : Bool) → Placed (timingOf ls) ls (i + length l) (k + 1) (placeIn ls (i + length l) (k + 1))
-        → Placed (cond t (timed [] l ls) (later l (timingOf ls))) (l ∷ ls) i k (cond t (somewhere i (length l) k) (placeIn ls (i + length l) (k + 1)))
+    go : (t : Bool) → Placed (timingOf ls) ls (i + length l) (k + 1) (timingPlace ls (i + length l) (k + 1))
+        → Placed (cond t (timed [] l ls) (later l (timingOf ls))) (l ∷ ls) i k (cond t (somewhere i (length l) k) (timingPlace ls (i + length l) (k + 1)))
     go true ih = (ap (λ (n : ℕ). somewhere n (length l) k) (sym (add-zero i)) ∙ ap (λ (n : ℕ). somewhere (i + 0) (length l) n) (sym (add-zero k)), refl)
-    go false ih = later-placed l (timingOf ls) ls i k (placeIn ls (i + length l) (k + 1)) ih
+    go false ih = later-placed l (timingOf ls) ls i k (timingPlace ls (i + length l) (k + 1)) ih
 
 -- what the code knows of the place
 pub record Apart (s : List ℕ) (p : Place) (b : List (List ℕ)) (l : List ℕ) (a : List (List ℕ)) : Type 0 where
@@ -132,5 +129,5 @@ stands-of s p (timed b l a) e =
       room = omega arith;
     }
 
-pub stands : (s : List ℕ) (p : Place) → p ≡ placeIn (linesOf s) 0 0 → Stands s p (timingOf (linesOf s))
-stands s p e = subst (λ (q : Place). Stands s q (timingOf (linesOf s))) (sym e) (stands-of s (placeIn (linesOf s) 0 0) (timingOf (linesOf s)) (timing-placed (linesOf s) 0 0))
+pub stands : (s : List ℕ) (p : Place) → p ≡ timingPlace (linesOf s) 0 0 → Stands s p (timingOf (linesOf s))
+stands s p e = subst (λ (q : Place). Stands s q (timingOf (linesOf s))) (sym e) (stands-of s (timingPlace (linesOf s) 0 0) (timingOf (linesOf s)) (timing-placed (linesOf s) 0 0))

@@ -9,14 +9,14 @@ use Rattle.base.specs.Put.{put, placedAt, placeAfter}
 use Rattle.base.proofs.PartLaws.{part-lengths}
 use Rattle.base.proofs.PutLaws.{put-nil, then-placed}
 use Rattle.text.specs.Find.{upTo, past}
-use Rattle.text.specs.White.{trimHead}
+use Rattle.chars.specs.White.{trimHead}
 use Rattle.text.specs.Line.{textOf, terminatorOf}
 use Rattle.text.proofs.LineLaws.{text-terminator, up-past, trim-head-length}
-use Rattle.time.specs.declared.read.Time.the-variants.{At}
-use Rattle.time.specs.Read.{timeIn}
-use Rattle.time.specs.Write.{timeText}
-use Rattle.time.proofs.Reading.{time-long}
-use Rattle.time.proofs.Written.{text-23}
+use Rattle.stamp.specs.declared.read.Time.the-variants.{At}
+use Rattle.stamp.specs.Read.{timeIn}
+use Rattle.stamp.specs.Write.{timeText}
+use Rattle.stamp.proofs.Reading.{time-long}
+use Rattle.stamp.proofs.Written.{text-23}
 use Rattle.event.specs.Emit.{warnIf, placesOf, render}
 use Rattle.block.specs.Style.{srtEnd, srt}
 use Rattle.block.specs.Block.{arrow, writtenArrow, afterArrow, blockFrame, endText, trailing}

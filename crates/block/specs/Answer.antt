@@ -6,8 +6,8 @@ use lib.Dec.{ltb}
 use lib.ListN.{length}
 use Rattle.text.specs.Line.{linesOf}
 use Rattle.segmap.specs.declared.segment.Segment.{Segment}
-use Rattle.time.specs.declared.read.Time.{Time}
-use Rattle.time.specs.declared.read.Time.the-variants.{At, Bad as NoTime}
+use Rattle.stamp.specs.declared.read.Time.{Time}
+use Rattle.stamp.specs.declared.read.Time.the-variants.{At, Bad as NoTime}
 use Rattle.event.specs.declared.setting.Config.{Config}
 use Rattle.event.specs.Says.{faultNumber}
 use Rattle.event.specs.Emit.{emitOf}
@@ -19,24 +19,24 @@ use Rattle.block.specs.Style.{srt}
 use Rattle.block.specs.Block.{BlockSays, faulty, says, blockSays}
 
 -- by document 01: a fault's number, or what the part becomes through the map
-abbrev pub answerOf : Config → List Segment → BlockSays → Answer
-answerOf s m (faulty f) = refusal (faultNumber f)
-answerOf s m (says p) = answered (emitOf s m p)
+abbrev pub blockAnswer : Config → List Segment → BlockSays → Answer
+blockAnswer s m (faulty f) = refusal (faultNumber f)
+blockAnswer s m (says p) = answered (emitOf s m p)
 
 -- by the code, at every input; within the limits both are the same (`block-fine`)
-abbrev pub answerTo : Config → List Segment → BlockSays → Answer
-answerTo s m (faulty f) = refusal (faultNumber f)
-answerTo s m (says p) = partIn s m p
+abbrev pub blockAnswerIn : Config → List Segment → BlockSays → Answer
+blockAnswerIn s m (faulty f) = refusal (faultNumber f)
+blockAnswerIn s m (says p) = partIn s m p
 
 -- 16 where the lent output has less than three bytes for each of the block, or fewer than two warning places
 unfoldable pub blockIn : Config → List Segment → (first : ℕ) → (block : List ℕ) → (room places : ℕ) → Answer
 blockIn s m first b room places =
     cond (ltb room (3 * length b)) (refusal 16)
     (cond (ltb places 2) (refusal 16)
-    (answerTo s m (blockSays srt first (linesOf b))))
+    (blockAnswerIn s m (blockSays srt first (linesOf b))))
 
 -- what is read of a start and an end
-abbrev pub readingOf : Time → Time → Reading
-readingOf NoTime y = Bad
-readingOf (At S a) NoTime = Bad
-readingOf (At S a) (At E b) = Both (record { start = S; «start_mark» = a; stop = E; «stop_mark» = b })
+abbrev pub timesRead : Time → Time → Reading
+timesRead NoTime y = Bad
+timesRead (At S a) NoTime = Bad
+timesRead (At S a) (At E b) = Both (record { start = S; «start_mark» = a; stop = E; «stop_mark» = b })

@@ -3,11 +3,11 @@ use mathlib.Core.Bool.{false, cond}
 use mathlib.Core.List.{List, [], _∷_}
 use Prim.Native.Nat.{ℕ, _+_}
 use lib.ListN.{take, drop}
-use Rattle.text.specs.White.{trimHead}
+use Rattle.chars.specs.White.{trimHead}
 use Rattle.text.specs.Find.{contains, upTo, past}
 use Rattle.text.specs.Line.{concat, lineCount, textOf, terminatorOf}
-use Rattle.time.specs.declared.read.Time.{Time}
-use Rattle.time.specs.declared.read.Time.the-variants.{At, Bad}
+use Rattle.stamp.specs.declared.read.Time.{Time}
+use Rattle.stamp.specs.declared.read.Time.the-variants.{At, Bad}
 use Rattle.event.specs.Says.{Piece, bytes, start, stop, Cue, Part, stays, cue, Fault, badTime}
 use Rattle.block.specs.Style.{Style}
 
@@ -49,10 +49,10 @@ abbrev pub blockCue : (n S a E b : ℕ) → List Piece → Cue
 blockCue n S a E b ps = record { line = n; start = S; startMark = a; stop = E; stopMark = b; tagged = false; frame = ps }
 
 -- both times must read
-abbrev pub timesSay : (n : ℕ) → List Piece → Time → Time → BlockSays
-timesSay n ps Bad y = faulty badTime
-timesSay n ps (At S a) Bad = faulty badTime
-timesSay n ps (At S a) (At E b) = says (cue (blockCue n S a E b ps))
+abbrev pub bothSay : (n : ℕ) → List Piece → Time → Time → BlockSays
+bothSay n ps Bad y = faulty badTime
+bothSay n ps (At S a) Bad = faulty badTime
+bothSay n ps (At S a) (At E b) = says (cue (blockCue n S a E b ps))
 
 module _ (k : Style) where
   abbrev pub endText : List ℕ → List ℕ
@@ -62,16 +62,16 @@ module _ (k : Style) where
   trailing t = drop (k .endLength (afterArrow t)) (afterArrow t)
 
   -- the timing line, between the bytes before and after it
-  unfoldable pub lineSays : (n : ℕ) → (before line after : List ℕ) → BlockSays
-  lineSays n before l after =
-      timesSay n (blockFrame before (trailing (textOf l)) (terminatorOf l) after)
+  unfoldable pub timingLineSays : (n : ℕ) → (before line after : List ℕ) → BlockSays
+  timingLineSays n before l after =
+      bothSay n (blockFrame before (trailing (textOf l)) (terminatorOf l) after)
       (k .time (upTo arrow (textOf l)))
       (k .time (endText (textOf l)))
 
   -- without a timing line the block stays
   abbrev pub timingSays : (first : ℕ) → List (List ℕ) → Timing → BlockSays
   timingSays first ls untimed = says (stays (concat ls))
-  timingSays first ls (timed before l after) = lineSays (first + lineCount before) (concat before) l (concat after)
+  timingSays first ls (timed before l after) = timingLineSays (first + lineCount before) (concat before) l (concat after)
 
   -- the block's lines; `first` is the number of its first line, from 1
   unfoldable pub blockSays : (first : ℕ) → List (List ℕ) → BlockSays

@@ -15,6 +15,6 @@ abbrev pub somewhere : (at size lines : ℕ) → Place
 somewhere i n k = record { found = true; at = i; size = n; lines = k }
 
 -- the first line with an arrow, in lines that begin at byte i with k lines before them
-unfoldable pub placeIn : List (List ℕ) → (i k : ℕ) → Place
-placeIn [] i k = nowhere
-placeIn (l ∷ ls) i k = cond (contains arrow (textOf l)) (somewhere i (length l) k) (placeIn ls (i + length l) (k + 1))
+unfoldable pub timingPlace : List (List ℕ) → (i k : ℕ) → Place
+timingPlace [] i k = nowhere
+timingPlace (l ∷ ls) i k = cond (contains arrow (textOf l)) (somewhere i (length l) k) (timingPlace ls (i + length l) (k + 1))

@@ -4,10 +4,10 @@ use mathlib.Core.List.{List}
 use Prim.Native.Nat.{ℕ}
 use lib.Dec.{ltb, eqb}
 use lib.ListN.{length, getD}
-use Rattle.text.specs.Utf8.{tail}
+use Rattle.chars.specs.Utf8.{tail}
 use Rattle.text.specs.Line.{blank}
-use Rattle.time.specs.Read.{timeIn}
-use Rattle.time.specs.declared.read.Time.{Time}
+use Rattle.stamp.specs.Read.{timeIn}
+use Rattle.stamp.specs.declared.read.Time.{Time}
 
 -- a line that ends a block, by kind: SRT's is trimmed empty; the other kinds have no blocks
 unfoldable pub blankIn : (kind : ℕ) → List ℕ → Bool

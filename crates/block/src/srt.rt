@@ -10,21 +10,21 @@ use event::Retimed;
 use event::Told;
 use event::counted_by;
 use event::refused;
-use time::Time;
+use stamp::Time;
 ghost use mathlib.Core.Path.{_≡_};
 ghost use Prim.Native.Nat.{_+_, _*_, _≤_};
 ghost use lib.ListN.{length};
 ghost use Rattle.base.specs.Put.{put, placedAt, placeAfter};
-ghost use Rattle.time.specs.Read.{timeIn};
-ghost use Rattle.time.specs.Write.{timeText};
+ghost use Rattle.stamp.specs.Read.{timeIn};
+ghost use Rattle.stamp.specs.Write.{timeText};
 ghost use Rattle.segmap.specs.Segment.{segmentsOf};
 ghost use Rattle.event.specs.declared.retiming.Decision.the-variants.{Kept};
 ghost use Rattle.event.specs.Decide.{decideIn};
 ghost use Rattle.event.specs.Emit.{warnIf, placesOf, render};
 ghost use Rattle.event.specs.Told.{cueIn, Tells};
 ghost use Rattle.block.specs.Style.{srt};
-ghost use Rattle.block.specs.Block.{writtenArrow, blockFrame, blockCue, lineSays};
-ghost use Rattle.block.specs.Answer.{readingOf, answerTo, blockIn};
+ghost use Rattle.block.specs.Block.{writtenArrow, blockFrame, blockCue, timingLineSays};
+ghost use Rattle.block.specs.Answer.{timesRead, blockAnswerIn, blockIn};
 
 // The times of a timing line, each with its mark.
 struct Times {
@@ -60,9 +60,9 @@ fn write_kept(
     ensures { λ r. ⌜ (now (out .exit) ≡ put (render (blockFrame (now (before .entry)) (now (trailing .entry)) (now (end .entry)) (now (after .entry))) (timeText kind (new .«start_mark») (new .start)) (timeText kind (new .«stop_mark») (new .stop))) (now (out .entry))) × (r ≡ length (render (blockFrame (now (before .entry)) (now (trailing .entry)) (now (end .entry)) (now (after .entry))) (timeText kind (new .«start_mark») (new .start)) (timeText kind (new .«stop_mark») (new .stop)))) ⌝ }
 {
     let a = base::bytes_at(out, 0, before);
-    let b = time::write_time_at(new.start, kind, new.start_mark, out, a);
+    let b = stamp::write_time_at(new.start, kind, new.start_mark, out, a);
     let c = put_arrow(out, b);
-    let d = time::write_time_at(new.stop, kind, new.stop_mark, out, c);
+    let d = stamp::write_time_at(new.stop, kind, new.stop_mark, out, c);
     let e = base::bytes_at(out, d, trailing);
     let f = base::bytes_at(out, e, end);
     base::bytes_at(out, f, after)
@@ -155,12 +155,12 @@ fn settle(
 
 // The start's text and the end's, read.
 fn read_times(start: &[u8], stop: &[u8]) -> Reading
-    ensures { λ r. ⌜ r ≡ readingOf (timeIn 1 (now (start .entry))) (timeIn 1 (now (stop .entry))) ⌝ }
+    ensures { λ r. ⌜ r ≡ timesRead (timeIn 1 (now (start .entry))) (timeIn 1 (now (stop .entry))) ⌝ }
 {
-    let Time::At(from, from_mark) = time::read_time(start, 1) else {
+    let Time::At(from, from_mark) = stamp::read_time(start, 1) else {
         return Reading::Bad;
     };
-    let Time::At(to, to_mark) = time::read_time(stop, 1) else {
+    let Time::At(to, to_mark) = stamp::read_time(stop, 1) else {
         return Reading::Bad;
     };
     Reading::Both(Times {
@@ -183,7 +183,7 @@ fn timed(
     warnings: &mut [u64],
 ) -> Told
     requires { ⌜ (3 * (length (now before) + length (now line) + length (now after)) ≤ length (now out)) × (2 ≤ length (now warnings)) ⌝ }
-    ensures { λ r. ⌜ Tells (answerTo config (segmentsOf (now (map .entry))) (lineSays srt number (now (before .entry)) (now (line .entry)) (now (after .entry)))) r (now (out .entry)) (now (out .exit)) (now (warnings .entry)) (now (warnings .exit)) ⌝ }
+    ensures { λ r. ⌜ Tells (blockAnswerIn config (segmentsOf (now (map .entry))) (timingLineSays srt number (now (before .entry)) (now (line .entry)) (now (after .entry)))) r (now (out .entry)) (now (out .exit)) (now (warnings .entry)) (now (warnings .exit)) ⌝ }
 {
     let text = text::text_of(line);
     let behind = after_arrow(text);

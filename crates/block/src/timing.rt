@@ -6,7 +6,7 @@ ghost use Rattle.text.specs.Find.{contains, upTo};
 ghost use Rattle.text.specs.Line.{linesOf};
 ghost use Rattle.block.specs.Style.{srtEnd};
 ghost use Rattle.block.specs.Block.{arrow, afterArrow};
-ghost use Rattle.block.specs.Place.{placeIn};
+ghost use Rattle.block.specs.Place.{timingPlace};
 
 // Where the timing line stands in a block: its first byte, its length, and how many lines are before it.
 pub struct Place {
@@ -32,7 +32,7 @@ pub fn before_arrow(s: &[u8]) -> &[u8]
 pub fn after_arrow(s: &[u8]) -> &[u8]
     ensures { λ r. ⌜ now r ≡ afterArrow (now (s .entry)) ⌝ }
 {
-    text::trim_head(text::past(s, b"-->"))
+    chars::trim_head(text::past(s, b"-->"))
 }
 
 // How many bytes of what follows the arrow are the end time.
@@ -42,7 +42,7 @@ pub fn end_length(r: &[u8]) -> usize
     if r.len() < 12 {
         return r.len();
     }
-    if text::is_tail(base::byte(r, 12)) {
+    if chars::is_tail(base::byte(r, 12)) {
         return r.len();
     }
     12
@@ -50,7 +50,7 @@ pub fn end_length(r: &[u8]) -> usize
 
 // The first line with an arrow.
 pub fn locate(block: &[u8]) -> Place
-    ensures { λ r. ⌜ r ≡ placeIn (linesOf (now (block .entry))) 0 0 ⌝ }
+    ensures { λ r. ⌜ r ≡ timingPlace (linesOf (now (block .entry))) 0 0 ⌝ }
     ensures few { λ r. ⌜ r .lines ≤ length (now (block .entry)) ⌝ }
 {
     let mut t = block;

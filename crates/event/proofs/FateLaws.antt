@@ -12,7 +12,7 @@ use Rattle.time.specs.Convert.{ticksOf, startUnits, endUnits}
 use Rattle.time.specs.Near.{NearStart, NearEnd}
 use Rattle.time.proofs.Drift.{near-start, near-end}
 use Rattle.segmap.specs.declared.segment.Segment.{Segment}
-use Rattle.segmap.specs.Segment.{sourceOf, outputOf, sourceEnd}
+use Rattle.segmap.specs.Segment.{sourceOf, outputStartOf, sourceEnd}
 use Rattle.event.specs.declared.setting.Config.{Config}
 use Rattle.event.specs.declared.retiming.Retimed.{Retimed}
 use Rattle.event.specs.Hit.{meetsParts, meets, Found, miss, hit, findFrom, findHit, metOf}
@@ -78,16 +78,16 @@ module _ (T U : ℕ) (posT : 0 < T) (posU : 0 < U) (m : List Segment) (S E : ℕ
   b = ticksOf T U E
 
   abbrev startOf : Segment → ℕ
-  startOf x = startUnits T U (moved (sourceOf x) (outputOf x) (max a (sourceOf x)))
+  startOf x = startUnits T U (moved (sourceOf x) (outputStartOf x) (max a (sourceOf x)))
 
   abbrev endOf : Segment → ℕ
-  endOf x = endUnits T U (moved (sourceOf x) (outputOf x) (min b (sourceEnd x)))
+  endOf x = endUnits T U (moved (sourceOf x) (outputStartOf x) (min b (sourceEnd x)))
 
   moves : (x : Segment) → Meets x a b → Moves T U x a b (startOf x) (endOf x)
   moves x k =
       record {
-        start = moved (sourceOf x) (outputOf x) (max a (sourceOf x));
-        stop = moved (sourceOf x) (outputOf x) (min b (sourceEnd x));
+        start = moved (sourceOf x) (outputStartOf x) (max a (sourceOf x));
+        stop = moved (sourceOf x) (outputStartOf x) (min b (sourceEnd x));
         start-moved = omega arith;
         stop-moved = omega (arith, k .long, k .sooner);
         start-written = refl;
@@ -100,8 +100,8 @@ module _ (T U : ℕ) (posT : 0 < T) (posU : 0 < U) (m : List Segment) (S E : ℕ
         segment = x;
         first = f;
         moves = moves x (f .met);
-        start-near = λ h. let p : max a (sourceOf x) ≡ a = omega arith in rw p (near-start T U (sourceOf x) (outputOf x) S posT posU h);
-        end-near = λ h. let p : min b (sourceEnd x) ≡ b = omega arith in rw p (near-end T U (sourceOf x) (outputOf x) E posT posU (omega (arith, f .met .sooner)));
+        start-near = λ h. let p : max a (sourceOf x) ≡ a = omega arith in rw p (near-start T U (sourceOf x) (outputStartOf x) S posT posU h);
+        end-near = λ h. let p : min b (sourceEnd x) ≡ b = omega arith in rw p (near-end T U (sourceOf x) (outputStartOf x) E posT posU (omega (arith, f .met .sooner)));
       }
 
   by-cut : (x : Segment) (sc ec : Bool) → FirstMet m a b x → ltb a (sourceOf x) ≡ sc → ltb (sourceEnd x) b ≡ ec

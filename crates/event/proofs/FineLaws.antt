@@ -12,7 +12,7 @@ use Rattle.time.specs.Kind.{kindBad, unitsOf}
 use Rattle.time.specs.Convert.{ticksOf, startUnits, endUnits, timescaleBad, ticksWithin, startWithin, endWithin, coreTimescale, coreUnits, coreTicks}
 use Rattle.time.proofs.Limits.{Within, ticks-within, start-within, end-within, timescale-low, timescale-high}
 use Rattle.segmap.specs.declared.segment.Segment.{Segment}
-use Rattle.segmap.specs.Segment.{sourceOf, outputOf, sourceEnd, segmentsOf, endBad, segmentBad, anyBad, mapBad}
+use Rattle.segmap.specs.Segment.{sourceOf, outputStartOf, sourceEnd, segmentsOf, endBad, segmentBad, anyBad, mapBad}
 use Rattle.event.specs.declared.setting.Config.{Config}
 use Rattle.event.specs.declared.meeting.Met.{Met}
 use Rattle.event.specs.declared.retiming.Retimed.{Retimed}
@@ -66,7 +66,7 @@ module _ (c : Config) (set : Set c) where
 
   abbrev Sound : (a b : ℕ) → Found → Type 0
   Sound a b miss = Unit {0}
-  Sound a b (hit i x xs) = (meets x a b ≡ true) × (endBad (sourceOf x) (x .duration) ≡ false) × (endBad (outputOf x) (x .duration) ≡ false)
+  Sound a b (hit i x xs) = (meets x a b ≡ true) × (endBad (sourceOf x) (x .duration) ≡ false) × (endBad (outputStartOf x) (x .duration) ≡ false)
 
   find-sound : (i : ℕ) (m : List Segment) (a b : ℕ) → anyBad m ≡ false → Sound a b (findFrom i m a b)
   unfolding findFrom anyBad
@@ -87,7 +87,7 @@ module _ (c : Config) (set : Set c) where
   hit-same : (a b : ℕ) (f : Found) → Sound a b f → limitedHit c a b f ≡ decideHit (c .timescale) (unitsOf (c .kind)) a b f
   hit-same a b miss s = refl
   hit-same a b (hit i x xs) s =
-      rw (s .1, s .2) (ap Kept (retimed-same a b (metOf i x xs) (fits (sourceOf x) (outputOf x) (x .duration) a b (s .0) (s .1) (s .2))))
+      rw (s .1, s .2) (ap Kept (retimed-same a b (metOf i x xs) (fits (sourceOf x) (outputStartOf x) (x .duration) a b (s .0) (s .1) (s .2))))
 
   -- for times that can be read, and a map that open accepts
   pub decide-same : (m : List Segment) (S E : ℕ) → anyBad m ≡ false → S ≤ coreUnits → E ≤ coreUnits → decideIn c m S E ≡ decideOf c m S E

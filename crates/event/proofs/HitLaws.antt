@@ -120,5 +120,5 @@ unfolding lostRule
 lost-2 l s a b e = rw (lt-ltb 0 s (omega arith))
 
 -- the place stays below the length of the map
-pub place-again : (m t u : List ℕ) (i : ℕ) → i + length t ≤ length m → 6 ≤ length t → u ≡ drop 6 t → i + 1 + length u ≤ length m
-place-again m t u i inv h e = let n : length u ≡ length t - 6 = ap length e ∙ length-drop 6 t in omega arith
+pub hit-place : (m t u : List ℕ) (i : ℕ) → i + length t ≤ length m → 6 ≤ length t → u ≡ drop 6 t → i + 1 + length u ≤ length m
+hit-place m t u i inv h e = let n : length u ≡ length t - 6 = ap length e ∙ length-drop 6 t in omega arith

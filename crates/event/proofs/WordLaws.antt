@@ -10,7 +10,7 @@ use Rattle.time.specs.Convert.{startUnits, endUnits, coreTicks, coreHolds, star
 use Rattle.time.proofs.Conversions.{start-low, end-start}
 use Rattle.time.proofs.Limits.{core-within, units-high}
 use Rattle.segmap.specs.declared.segment.Segment.{Segment}
-use Rattle.segmap.specs.Segment.{sourceOf, outputOf, endBad}
+use Rattle.segmap.specs.Segment.{sourceOf, outputStartOf, endBad}
 use Rattle.event.specs.declared.setting.Config.{Config}
 use Rattle.event.specs.declared.retiming.Decision.{Decision}
 use Rattle.event.specs.declared.retiming.Decision.the-variants.{Strange, Dropped, Kept}
@@ -59,7 +59,7 @@ tested-words false false d w = w
 hit-words : (c : Config) (a b : ℕ) (f : Found) → Words (limitedHit c a b f)
 hit-words c a b miss = tt
 hit-words c a b (hit i x xs) =
-    tested-words (endBad (sourceOf x) (x .duration)) (endBad (outputOf x) (x .duration))
+    tested-words (endBad (sourceOf x) (x .duration)) (endBad (outputStartOf x) (x .duration))
     (Kept (retimedBy (startWithin (c .kind) (c .timescale)) (endWithin (c .kind) (c .timescale)) a b (metOf i x xs)))
     (start-word (c .kind) (c .timescale) _, end-word (c .kind) (c .timescale) _)
 

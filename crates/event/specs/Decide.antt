@@ -7,7 +7,7 @@ use lib.Dec.{ltb}
 use Rattle.time.specs.Kind.{unitsOf}
 use Rattle.time.specs.Convert.{ticksOf, startUnits, endUnits, ticksWithin, startWithin, endWithin}
 use Rattle.segmap.specs.declared.segment.Segment.{Segment}
-use Rattle.segmap.specs.Segment.{sourceOf, outputOf, sourceEnd, endBad}
+use Rattle.segmap.specs.Segment.{sourceOf, outputStartOf, sourceEnd, endBad}
 use Rattle.event.specs.declared.setting.Config.{Config}
 use Rattle.event.specs.declared.meeting.Met.{Met}
 use Rattle.event.specs.declared.retiming.Retimed.{Retimed}
@@ -55,7 +55,7 @@ abbrev pub limitedHit : Config → (a b : ℕ) → Found → Decision
 limitedHit c a b miss = Dropped
 limitedHit c a b (hit i x xs) =
     cond (endBad (sourceOf x) (x .duration)) Strange
-    (cond (endBad (outputOf x) (x .duration)) Strange
+    (cond (endBad (outputStartOf x) (x .duration)) Strange
     (Kept (retimedBy (startWithin (c .kind) (c .timescale)) (endWithin (c .kind) (c .timescale)) a b (metOf i x xs))))
 
 unfoldable pub decideIn : Config → List Segment → (S E : ℕ) → Decision

@@ -2,7 +2,7 @@
 use mathlib.Core.Bool.{Bool, true, false, _&&_}
 use mathlib.Core.List.{List, [], _∷_, _++_}
 use Prim.Native.Nat.{ℕ}
-use Rattle.time.specs.Write.{timeText}
+use Rattle.stamp.specs.Write.{timeText}
 use Rattle.segmap.specs.declared.segment.Segment.{Segment}
 use Rattle.event.specs.declared.setting.Config.{Config}
 use Rattle.event.specs.declared.retiming.Retimed.{Retimed}

@@ -7,7 +7,7 @@ use Prim.Native.Nat.{ℕ, _+_, _≤_, _<_, min, max}
 use Rattle.time.specs.Convert.{ticksOf, startUnits, endUnits}
 use Rattle.time.specs.Near.{NearStart, NearEnd}
 use Rattle.segmap.specs.declared.segment.Segment.{Segment}
-use Rattle.segmap.specs.Segment.{sourceOf, outputOf, sourceEnd}
+use Rattle.segmap.specs.Segment.{sourceOf, outputStartOf, sourceEnd}
 use Rattle.event.specs.declared.setting.Config.{Config}
 use Rattle.event.specs.declared.retiming.Retimed.{Retimed}
 use Rattle.event.specs.declared.retiming.Decision.{Decision}
@@ -52,7 +52,7 @@ pub record FirstMet (m : List Segment) (a b : ℕ) (x : Segment) : Type 0 where
 
 -- tick u is tick t moved by d = output start − source start
 abbrev pub MovedBy : Segment → (t u : ℕ) → Type 0
-MovedBy x t u = u + sourceOf x ≡ t + outputOf x
+MovedBy x t u = u + sourceOf x ≡ t + outputStartOf x
 
 -- both ticks, cut to the segment, move by its shift, and are written
 pub record Moves (T U : ℕ) (x : Segment) (a b s e : ℕ) : Type 0 where
@@ -68,8 +68,8 @@ pub record IsKept (T U : ℕ) (m : List Segment) (S E s e : ℕ) : Type 0 where
   pub segment : Segment
   pub first : FirstMet m (ticksOf T U S) (ticksOf T U E) segment
   pub moves : Moves T U segment (ticksOf T U S) (ticksOf T U E) s e
-  pub start-near : sourceOf segment ≤ ticksOf T U S → NearStart T U (sourceOf segment) (outputOf segment) S s
-  pub end-near : ticksOf T U E ≤ sourceEnd segment → NearEnd T U (sourceOf segment) (outputOf segment) E e
+  pub start-near : sourceOf segment ≤ ticksOf T U S → NearStart T U (sourceOf segment) (outputStartOf segment) S s
+  pub end-near : ticksOf T U E ≤ sourceEnd segment → NearEnd T U (sourceOf segment) (outputStartOf segment) E e
 
 -- neither tick was cut
 pub record IsShifted (T U : ℕ) (m : List Segment) (S E s e : ℕ) : Type 0 where

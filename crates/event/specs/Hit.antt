@@ -5,7 +5,7 @@ use Prim.Native.Nat.{ℕ, suc, _+_}
 use lib.Dec.{ltb}
 use lib.ListN.{length, getD}
 use Rattle.segmap.specs.declared.segment.Segment.{Segment}
-use Rattle.segmap.specs.Segment.{sourceOf, outputOf}
+use Rattle.segmap.specs.Segment.{sourceOf, outputStartOf}
 use Rattle.event.specs.declared.meeting.Met.{Met}
 use Rattle.event.specs.declared.meeting.Hit.{Hit}
 use Rattle.event.specs.declared.meeting.Hit.the-variants.{Miss, At}
@@ -45,7 +45,7 @@ metOf i x xs =
     record {
       place = i;
       source = sourceOf x;
-      output = outputOf x;
+      output = outputStartOf x;
       duration = x .duration;
       later = nextSource xs;
       span = nextDuration xs;

@@ -27,6 +27,19 @@ pub record Cue : Type 0 where
   pub tagged : Bool
   pub frame : List Piece
 
+-- the same cue with other times
+abbrev pub withTimes : Cue → (s e : ℕ) → Cue
+withTimes q s e =
+    record {
+      line = q .line;
+      start = s;
+      startMark = q .startMark;
+      stop = e;
+      stopMark = q .stopMark;
+      tagged = q .tagged;
+      frame = q .frame;
+    }
+
 pub data Part : Type 0 where
   stays : List ℕ → Part
   passes : Reason → (line : ℕ) → List ℕ → Part

@@ -5,15 +5,15 @@ use mathlib.Core.List.{List}
 use lib.ListN.{length}
 use Rattle.base.specs.Part.{last}
 use Rattle.base.specs.Refusal.{_orElse_, faultUnless}
-use Rattle.text.specs.Utf8.{leadLen, secondLow, secondHigh, tail, widthBy, charWidth, utf8From, utf8, codeBy, codeHead}
-use Rattle.text.specs.White.{whiteHigh, white, whiteHead, endsWhite, whiteTail, headFrom, keepFrom, trimHead, trimTail, trim}
+use Rattle.chars.specs.Utf8.{leadLen, secondLow, secondHigh, tail, widthBy, charWidth, utf8From, utf8, codeBy, codeHead}
+use Rattle.chars.specs.White.{whiteHigh, white, whiteHead, endsWhite, whiteTail, headFrom, keepFrom, trimHead, trimTail, trim}
 use Rattle.text.specs.Find.{starts, equals, first, contains, upTo, past}
 use Rattle.text.specs.Piece.{piecesFrom, pieces}
 use Rattle.text.specs.Number.{digit, digits, valueFrom, natural, unsigned, number}
 use Rattle.text.specs.Line.{linesOf, textOf, terminatorLength, terminatorOf}
 use Rattle.time.specs.Kind.{kindBad, unitsOf, markOf}
 use Rattle.time.specs.Convert.{ticksOf, startUnits, endUnits, scaledUp}
-use Rattle.time.specs.Read.{timeWith, timeIn}
+use Rattle.stamp.specs.Read.{timeWith, timeIn}
 use Rattle.segmap.specs.declared.segment.Segment.{Segment}
 use Rattle.segmap.specs.Segment.{flatOf, segmentsOf, endBad, segmentBad, anyBad, mapBad}
 use Rattle.event.specs.declared.setting.Config.{Config}
@@ -32,11 +32,11 @@ use Rattle.machine.specs.Calls.{readingOf}
 use Rattle.promise.specs.Demand.{CueRight, AllRight}
 use Rattle.promise.specs.Plain.{lineFault, assRead, linesSay, plainRead}
 use Rattle.example.specs.Worked.{plainMap, plainFour}
-use Rattle.example.specs.Texts.{assFirst, assRest, assSaid}
+use Rattle.example.specs.Texts.{assFirst, assRest, assParts}
 use Rattle.example.proofs.Four.{fates}
 use Rattle.example.proofs.AssRun.{known}
 
-said-is : readingOf (plainRead 0) (plainFour 0 assFirst assRest .reader) .parts ≡ assSaid
+said-is : readingOf (plainRead 0) (plainFour 0 assFirst assRest .reader) .parts ≡ assParts
 unfolding leadLen secondLow secondHigh tail widthBy charWidth utf8From utf8 codeBy codeHead whiteHigh white whiteHead last endsWhite whiteTail headFrom keepFrom trimHead trimTail trim starts equals first contains upTo past piecesFrom pieces digit digits valueFrom natural unsigned number linesOf textOf terminatorLength terminatorOf kindBad unitsOf markOf timeWith timeIn namesIn placeIn columnsIn fields fieldAt holdsAny bracketed inside pieceAt fieldPieces captionSays wordSays textSays lineSays faultUnless _orElse_ lineFault assRead linesSay plainRead flatOf segmentsOf endBad segmentBad anyBad mapBad
 said-is = refl
 
@@ -55,9 +55,9 @@ right-of c m q e r f p =
     subst (Right (c .timescale) (unitsOf (c .kind)) m (q .start) (q .stop)) (ap fateIn (sym (r .caption) ∙ p)) (r .right)
 
 module _ (out short places : List ℕ) (long : length out ≡ 32768) (few : length short ≡ 32767) (enough : length places ≡ 4096) where
-  pub ass-fates : AllRight (setting 0) (plainMap .segments) assSaid
+  pub ass-fates : AllRight (setting 0) (plainMap .segments) assParts
   ass-fates =
-      subst (λ (m : List Segment). AllRight (setting 0) m assSaid) flat-back
+      subst (λ (m : List Segment). AllRight (setting 0) m assParts) flat-back
       (subst (AllRight (setting 0) (segmentsOf (flatOf (plainMap .segments)))) said-is (fates 0 known assFirst assRest out short places long few enough))
 
   pub first-clipped : Right 30000 (unitsOf 0) (plainMap .segments) 5 25 (clipped 5 11)

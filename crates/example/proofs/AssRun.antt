@@ -6,16 +6,16 @@ use mathlib.Core.List.{List, [], _∷_, _++_}
 use lib.ListN.{length, replicate, length-replicate}
 use Rattle.base.specs.Part.{last}
 use Rattle.base.specs.Refusal.{_orElse_, faultUnless}
-use Rattle.text.specs.Utf8.{leadLen, secondLow, secondHigh, tail, widthBy, charWidth, utf8From, utf8, codeBy, codeHead}
-use Rattle.text.specs.White.{whiteHigh, white, whiteHead, endsWhite, whiteTail, headFrom, keepFrom, trimHead, trimTail, trim}
+use Rattle.chars.specs.Utf8.{leadLen, secondLow, secondHigh, tail, widthBy, charWidth, utf8From, utf8, codeBy, codeHead}
+use Rattle.chars.specs.White.{whiteHigh, white, whiteHead, endsWhite, whiteTail, headFrom, keepFrom, trimHead, trimTail, trim}
 use Rattle.text.specs.Find.{starts, equals, first, contains, upTo, past}
 use Rattle.text.specs.Piece.{piecesFrom, pieces}
 use Rattle.text.specs.Number.{digit, digits, valueFrom, natural, unsigned, number}
 use Rattle.text.specs.Line.{linesOf, textOf, terminatorLength, terminatorOf}
 use Rattle.time.specs.Kind.{kindBad, unitsOf, markOf, fractionDigits, hourDigits}
 use Rattle.time.specs.Convert.{ticksOf, startUnits, endUnits, scaledUp}
-use Rattle.time.specs.Read.{timeWith, timeIn}
-use Rattle.time.specs.Write.{pad, widthUnder, width, textWith, timeText}
+use Rattle.stamp.specs.Read.{timeWith, timeIn}
+use Rattle.stamp.specs.Write.{pad, widthUnder, width, textWith, timeText}
 use Rattle.segmap.specs.Segment.{flatOf, segmentsOf, endBad, segmentBad, anyBad, mapBad}
 use Rattle.event.specs.Hit.{meetsParts, findFrom, lostRule}
 use Rattle.event.specs.Decide.{decideTicks, decideOf}
@@ -29,7 +29,7 @@ use Rattle.machine.specs.Counts.{countAll}
 use Rattle.machine.specs.Calls.{Heard}
 use Rattle.promise.specs.Runs.{outcome}
 use Rattle.promise.specs.Plain.{lineFault, assRead, linesSay, plainRead}
-use Rattle.example.specs.Worked.{plainMap, opened, made, toldBy, readBy, plainFour}
+use Rattle.example.specs.Worked.{plainMap, openAnswer, madeCalls, toldBy, readBy, plainFour}
 use Rattle.example.specs.Texts.{assFirst, assRest, assTold}
 use Rattle.example.proofs.Four.{worked}
 
@@ -55,12 +55,12 @@ known = refl
 
 -- for any buffers of these lengths
 pub ass-run : (out short places : List ℕ) → length out ≡ 32768 → length short ≡ 32767 → length places ≡ 4096
-    → toldBy (outcome (opened 0 .session) (made 0 assFirst assRest out short places)) ≡ assTold
+    → toldBy (outcome (openAnswer 0 .session) (madeCalls 0 assFirst assRest out short places)) ≡ assTold
 ass-run out short places long few enough =
     worked 0 known assFirst assRest out short places long few enough ∙ ap (readBy 0 plainMap) heard-is ∙ read-is
 
 -- for buffers of zeros
-pub ass-zeros : toldBy (outcome (opened 0 .session) (made 0 assFirst assRest (replicate 32768 0) (replicate 32767 0) (replicate 4096 0))) ≡ assTold
+pub ass-zeros : toldBy (outcome (openAnswer 0 .session) (madeCalls 0 assFirst assRest (replicate 32768 0) (replicate 32767 0) (replicate 4096 0))) ≡ assTold
 ass-zeros =
     ass-run (replicate 32768 0) (replicate 32767 0) (replicate 4096 0)
     (length-replicate {A = ℕ} 32768 0) (length-replicate {A = ℕ} 32767 0) (length-replicate {A = ℕ} 4096 0)

@@ -27,7 +27,7 @@ use Rattle.promise.specs.Demand.{AllRight, Demand, heard}
 use Rattle.promise.specs.Runs.{Made, callsOf, outcome}
 use Rattle.promise.specs.Promise.{configOf}
 use Rattle.promise.proofs.ThePromise.{built-opens, promise}
-use Rattle.example.specs.Worked.{lentMap, plainMap, opened, four, fourCalls, made, toldBy, readBy, plainFour}
+use Rattle.example.specs.Worked.{lentMap, plainMap, openAnswer, four, fourCalls, madeCalls, toldBy, readBy, plainFour}
 use Rattle.example.proofs.RunsExist.{made-ran}
 
 -- ---- the sheet's bytes
@@ -65,7 +65,7 @@ module _ (kind : ℕ) (k : kindBad kind ≡ false) where
       opens-fresh kit (configOf kind (theMap .timescale)) lentMap (opened-good kit (configOf kind (theMap .timescale)) lentMap opens-0)
       ∙ ap (λ (x : Map). record { number = 0; session = fresh kit (configOf kind (x .timescale)); emits = [] }) map-is
 
-  pub opens : OpenAnswered kind (theMap .timescale) lentMap (opened kind)
+  pub opens : OpenAnswered kind (theMap .timescale) lentMap (openAnswer kind)
   unfolding openOf
   opens =
       record {
@@ -76,16 +76,16 @@ module _ (kind : ℕ) (k : kindBad kind ≡ false) where
 -- ---- the calls
 module _ (kind : ℕ) (k : kindBad kind ≡ false) (first rest out short places : List ℕ) where
   abbrev calls : List Made
-  calls = made kind first rest out short places
+  calls = madeCalls kind first rest out short places
 
   -- the premises are met, and demand 3 holds of the list
-  pub demanded : Demand (configOf kind (theMap .timescale)) lentMap (callsOf calls) (outcome (opened kind .session) calls)
+  pub demanded : Demand (configOf kind (theMap .timescale)) lentMap (callsOf calls) (outcome (openAnswer kind .session) calls)
   demanded =
-      promise smallSheet theList 0 6144 kind sheet-bytes map-number k (opened kind) (opens kind k) .kept calls
+      promise smallSheet theList 0 6144 kind sheet-bytes map-number k (openAnswer kind) (opens kind k) .kept calls
       (inl refl, (inl refl, (inl refl, (inl refl, tt))))
-      (made-ran (opened kind .session) (four lentMap first rest out short places))
+      (made-ran (openAnswer kind .session) (four lentMap first rest out short places))
 
-  came : toldBy (outcome (opened kind .session) calls) ≡ readBy kind theMap (heard (configOf kind (theMap .timescale)) (callsOf calls))
+  came : toldBy (outcome (openAnswer kind .session) calls) ≡ readBy kind theMap (heard (configOf kind (theMap .timescale)) (callsOf calls))
   came =
       let d = demanded .same in
       λ i. record {
@@ -103,7 +103,7 @@ module _ (kind : ℕ) (k : kindBad kind ≡ false) (first rest out short places 
     calls-are : callsOf calls ≡ fourCalls lentMap first rest 32768 32767 4096
     calls-are = λ i. fourCalls lentMap first rest (long i) (few i) (enough i)
 
-    pub worked : toldBy (outcome (opened kind .session) calls) ≡ readBy kind plainMap (plainFour kind first rest)
+    pub worked : toldBy (outcome (openAnswer kind .session) calls) ≡ readBy kind plainMap (plainFour kind first rest)
     worked =
         came
         ∙ ap (λ (xs : List Call). readBy kind theMap (hear (plainRead kind) newReader xs)) calls-are

@@ -6,28 +6,28 @@ use mathlib.Core.List.{List, [], _∷_, _++_}
 use lib.ListN.{length, replicate, length-replicate}
 use Rattle.base.specs.Part.{last}
 use Rattle.base.specs.Refusal.{_orElse_, faultUnless}
-use Rattle.text.specs.Utf8.{leadLen, secondLow, secondHigh, tail, widthBy, charWidth, utf8From, utf8, codeBy, codeHead}
-use Rattle.text.specs.White.{whiteHigh, white, whiteHead, endsWhite, whiteTail, headFrom, keepFrom, trimHead, trimTail, trim}
+use Rattle.chars.specs.Utf8.{leadLen, secondLow, secondHigh, tail, widthBy, charWidth, utf8From, utf8, codeBy, codeHead}
+use Rattle.chars.specs.White.{whiteHigh, white, whiteHead, endsWhite, whiteTail, headFrom, keepFrom, trimHead, trimTail, trim}
 use Rattle.text.specs.Find.{starts, equals, first, contains, upTo, past}
 use Rattle.text.specs.Piece.{piecesFrom, pieces}
 use Rattle.text.specs.Number.{digit, digits, valueFrom, natural, unsigned, number}
 use Rattle.text.specs.Line.{linesOf, textOf, terminatorLength, terminatorOf, blank}
 use Rattle.time.specs.Kind.{kindBad, unitsOf, markOf, fractionDigits, hourDigits}
 use Rattle.time.specs.Convert.{ticksOf, startUnits, endUnits, scaledUp}
-use Rattle.time.specs.Read.{timeWith, timeIn}
-use Rattle.time.specs.Write.{pad, widthUnder, width, textWith, timeText}
+use Rattle.stamp.specs.Read.{timeWith, timeIn}
+use Rattle.stamp.specs.Write.{pad, widthUnder, width, textWith, timeText}
 use Rattle.segmap.specs.Segment.{flatOf, segmentsOf, endBad, segmentBad, anyBad, mapBad}
 use Rattle.event.specs.Hit.{meetsParts, findFrom, lostRule}
 use Rattle.event.specs.Decide.{decideTicks, decideOf}
 use Rattle.event.specs.Emit.{emitBy, emitsOf, render, outputOf, warningsOf}
 use Rattle.block.specs.Style.{blankIn, srtEnd}
-use Rattle.block.specs.Block.{timingOf, afterArrow, lineSays, blockSays}
+use Rattle.block.specs.Block.{timingOf, afterArrow, timingLineSays, blockSays}
 use Rattle.machine.specs.Counts.{countAll}
 use Rattle.machine.specs.Calls.{Heard}
 use Rattle.promise.specs.Runs.{outcome}
-use Rattle.block.specs.Whole.{blocksOf}
+use Rattle.whole.specs.Srt.{blocksOf}
 use Rattle.promise.specs.Plain.{lineFault, bodyLineFault, bodyFault, srtRead, linesSay, plainRead}
-use Rattle.example.specs.Worked.{plainMap, opened, made, toldBy, readBy, plainFour}
+use Rattle.example.specs.Worked.{plainMap, openAnswer, madeCalls, toldBy, readBy, plainFour}
 use Rattle.example.specs.Texts.{srtFirst, srtRest, srtTold}
 use Rattle.example.proofs.Four.{worked}
 
@@ -40,11 +40,11 @@ heard =
     }
 
 heard-is : plainFour 1 srtFirst srtRest ≡ heard
-unfolding leadLen secondLow secondHigh tail widthBy charWidth utf8From utf8 codeBy codeHead whiteHigh white whiteHead last endsWhite whiteTail headFrom keepFrom trimHead trimTail trim starts equals first contains upTo past piecesFrom pieces digit digits valueFrom natural unsigned number linesOf textOf terminatorLength terminatorOf kindBad unitsOf markOf timeWith timeIn blank srtEnd blankIn timingOf afterArrow lineSays blockSays faultUnless _orElse_ lineFault bodyLineFault blocksOf bodyFault srtRead linesSay plainRead flatOf segmentsOf endBad segmentBad anyBad mapBad
+unfolding leadLen secondLow secondHigh tail widthBy charWidth utf8From utf8 codeBy codeHead whiteHigh white whiteHead last endsWhite whiteTail headFrom keepFrom trimHead trimTail trim starts equals first contains upTo past piecesFrom pieces digit digits valueFrom natural unsigned number linesOf textOf terminatorLength terminatorOf kindBad unitsOf markOf timeWith timeIn blank srtEnd blankIn timingOf afterArrow timingLineSays blockSays faultUnless _orElse_ lineFault bodyLineFault blocksOf bodyFault srtRead linesSay plainRead flatOf segmentsOf endBad segmentBad anyBad mapBad
 heard-is = refl
 
 read-is : readBy 1 plainMap heard ≡ srtTold
-unfolding leadLen secondLow secondHigh tail widthBy charWidth utf8From utf8 codeBy codeHead whiteHigh white whiteHead last endsWhite whiteTail headFrom keepFrom trimHead trimTail trim starts equals first contains upTo past piecesFrom pieces digit digits valueFrom natural unsigned number linesOf textOf terminatorLength terminatorOf kindBad unitsOf markOf timeWith timeIn blank srtEnd blankIn timingOf afterArrow lineSays blockSays faultUnless _orElse_ lineFault bodyLineFault blocksOf bodyFault srtRead linesSay plainRead flatOf segmentsOf emitBy emitsOf render outputOf warningsOf timeText textWith pad width widthUnder fractionDigits hourDigits decideOf decideTicks findFrom meetsParts lostRule ticksOf startUnits endUnits scaledUp countAll
+unfolding leadLen secondLow secondHigh tail widthBy charWidth utf8From utf8 codeBy codeHead whiteHigh white whiteHead last endsWhite whiteTail headFrom keepFrom trimHead trimTail trim starts equals first contains upTo past piecesFrom pieces digit digits valueFrom natural unsigned number linesOf textOf terminatorLength terminatorOf kindBad unitsOf markOf timeWith timeIn blank srtEnd blankIn timingOf afterArrow timingLineSays blockSays faultUnless _orElse_ lineFault bodyLineFault blocksOf bodyFault srtRead linesSay plainRead flatOf segmentsOf emitBy emitsOf render outputOf warningsOf timeText textWith pad width widthUnder fractionDigits hourDigits decideOf decideTicks findFrom meetsParts lostRule ticksOf startUnits endUnits scaledUp countAll
 read-is = refl
 
 known : kindBad 1 ≡ false
@@ -53,12 +53,12 @@ known = refl
 
 -- for any buffers of these lengths
 pub srt-run : (out short places : List ℕ) → length out ≡ 32768 → length short ≡ 32767 → length places ≡ 4096
-    → toldBy (outcome (opened 1 .session) (made 1 srtFirst srtRest out short places)) ≡ srtTold
+    → toldBy (outcome (openAnswer 1 .session) (madeCalls 1 srtFirst srtRest out short places)) ≡ srtTold
 srt-run out short places long few enough =
     worked 1 known srtFirst srtRest out short places long few enough ∙ ap (readBy 1 plainMap) heard-is ∙ read-is
 
 -- for buffers of zeros
-pub srt-zeros : toldBy (outcome (opened 1 .session) (made 1 srtFirst srtRest (replicate 32768 0) (replicate 32767 0) (replicate 4096 0))) ≡ srtTold
+pub srt-zeros : toldBy (outcome (openAnswer 1 .session) (madeCalls 1 srtFirst srtRest (replicate 32768 0) (replicate 32767 0) (replicate 4096 0))) ≡ srtTold
 srt-zeros =
     srt-run (replicate 32768 0) (replicate 32767 0) (replicate 4096 0)
     (length-replicate {A = ℕ} 32768 0) (length-replicate {A = ℕ} 32767 0) (length-replicate {A = ℕ} 4096 0)

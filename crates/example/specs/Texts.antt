@@ -40,8 +40,8 @@ assCue n S E z =
       frame = bytes (ascii "Dialogue:") ∷ start ∷ bytes (ascii ",") ∷ stop ∷ bytes z ∷ [];
     }
 
-abbrev pub assSaid : List Part
-assSaid =
+abbrev pub assParts : List Part
+assParts =
     stays (ascii "[Events]\n")
     ∷ stays (ascii "Format:Start,End\n")
     ∷ cue (assCue 3 5 25 (10 ∷ []))

@@ -30,8 +30,8 @@ abbrev pub plainMap : Map
 plainMap = record { number = 0; timescale = 30000; count = 2; segments = segment 0 3 0 3 0 3003 ∷ segment 6 10 6006 4 3003 4004 ∷ [] }
 
 -- what open answers
-abbrev pub opened : (kind : ℕ) → Opened
-opened kind = record { number = 0; session = stored (fresh kit (setting kind)) }
+abbrev pub openAnswer : (kind : ℕ) → Opened
+openAnswer kind = record { number = 0; session = stored (fresh kit (setting kind)) }
 
 -- the four calls, as they are lent and by their lengths
 abbrev pub four : (map first rest out short places : List ℕ) → List Asked
@@ -42,8 +42,8 @@ abbrev pub fourCalls : (map first rest : List ℕ) → (out short places : ℕ) 
 fourCalls m first rest o s w = feedCall m first o w ∷ feedCall m rest s w ∷ feedCall m rest o w ∷ finishCall m o w ∷ []
 
 -- made from the session that open answered, each result as its contract says
-abbrev pub made : (kind : ℕ) → (first rest out short places : List ℕ) → List Made
-made kind first rest out short places = makes (opened kind .session) (four lentMap first rest out short places)
+abbrev pub madeCalls : (kind : ℕ) → (first rest out short places : List ℕ) → List Made
+madeCalls kind first rest out short places = makes (openAnswer kind .session) (four lentMap first rest out short places)
 
 -- what a caller has in hand after a list
 pub record Told : Type 0 where

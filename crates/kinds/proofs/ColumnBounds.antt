@@ -9,15 +9,15 @@ use lib.ListN.{length, drop, length-drop, length-take, length-map}
 use borrow.Author.Tests.{le-ltb, ltb-false}
 use Rattle.base.specs.Limits.{mostLine, mostColumns}
 use Rattle.base.proofs.Laws.{or-left, or-right}
-use Rattle.text.specs.White.{trim}
+use Rattle.chars.specs.White.{trim}
 use Rattle.text.specs.Find.{starts, equals}
-use Rattle.text.specs.Piece.{piecesFrom, pieces}
+use Rattle.text.specs.Piece.{piecesFrom, pieces, comma}
 use Rattle.text.specs.Line.{ontoFirst, terminatorLength, textOf, terminatorOf}
-use Rattle.time.specs.Read.{timeIn}
-use Rattle.time.specs.declared.read.Time.{Time}
-use Rattle.time.specs.declared.read.Time.the-variants.{At, Bad}
+use Rattle.stamp.specs.Read.{timeIn}
+use Rattle.stamp.specs.declared.read.Time.{Time}
+use Rattle.stamp.specs.declared.read.Time.the-variants.{At, Bad}
 use Rattle.assline.specs.declared.layout.Columns.{Columns}
-use Rattle.assline.specs.Columns.{comma, startName, endName, namesIn, further, placeIn, columnsIn, fields, fieldAt}
+use Rattle.assline.specs.Columns.{startName, endName, namesIn, further, placeIn, columnsIn, fields, fieldAt}
 use Rattle.ass.specs.Line.{formatWord, dialogueWord, commentWord, timesSay, captionSays, wordSays, textSays, lineSays, LineSays, faulty, says}
 use Rattle.assline.specs.Section.{eventsName, bracketed, inside, inSection}
 use Rattle.kinds.specs.Takes.{noColumns}

@@ -118,5 +118,5 @@ gate-fits s x false false true a p q r = fits-none
 gate-fits s x false false false true p q r = fits-none
 gate-fits s x false false false false p q r = accepted-fits s p x q r
 
-pub fits : (s : Session Columns) (x : Call) → Fits (answer kit s x .emits)
-fits s x = gate-fits s x (foreign kit s) (s .ended) (mapBad (lentOf x .map)) (argumentBad (s .taken) x) refl refl refl
+pub answer-fits : (s : Session Columns) (x : Call) → Fits (answer kit s x .emits)
+answer-fits s x = gate-fits s x (foreign kit s) (s .ended) (mapBad (lentOf x .map)) (argumentBad (s .taken) x) refl refl refl

@@ -20,7 +20,7 @@ use Rattle.machine.specs.Machine.{lineEnd, byte, byteStep, run, closed, 
 use Rattle.machine.specs.Session.{Kit, configBad, foreign}
 use Rattle.machine.proofs.Emits.{parts-append, parts-none, parts-stay}
 use Rattle.machine.proofs.CutLaws.{has-none}
-use Rattle.machine.proofs.OpenLines.{has-lf-append, ends-append, bom-ends}
+use Rattle.machine.proofs.OpenLines.{has-lf-append, ends-lf, bom-ends}
 use Rattle.machine.proofs.Bytes.{begin}
 use Rattle.machine.proofs.Laws.{StepOk, CloseOk, Lawful}
 
@@ -67,7 +67,7 @@ module _ {σ κ : Type 0} (K : Kit σ κ) (kind : ℕ) (L : Lawful K kind) (k : 
   end-ok t s n h b ps (faulty f) g q o = omega (arith, g .few, g .bytes)
   end-ok t s n h b ps (says u new) g q o =
       record {
-        fit = o .fit (ends-append h b (g .open-line) q);
+        fit = o .fit (ends-lf h b (g .open-line) q);
         short = omega arith;
         open-line = has-none;
         bytes = omega (arith, g .bytes);

@@ -21,10 +21,10 @@ has-lf-append (x ∷ h) b e f = go (eqb x 10) e (λ (q : hasLf h ≡ false). has
     go false e ih = ih e
 
 -- a line that LF has just ended
-pub ends-append : (h : List ℕ) (b : ℕ) → hasLf h ≡ false → eqb b 10 ≡ true → endsLine (h ++ (b ∷ [])) ≡ true
+pub ends-lf : (h : List ℕ) (b : ℕ) → hasLf h ≡ false → eqb b 10 ≡ true → endsLine (h ++ (b ∷ [])) ≡ true
 unfolding hasLf endsLine
-ends-append [] b e f = rw f
-ends-append (x ∷ h) b e f = go (eqb x 10) e (λ (q : hasLf h ≡ false). ends-append h b q f)
+ends-lf [] b e f = rw f
+ends-lf (x ∷ h) b e f = go (eqb x 10) e (λ (q : hasLf h ≡ false). ends-lf h b q f)
   where
     go : (t : Bool) → cond t true (hasLf h) ≡ false → (hasLf h ≡ false → endsLine (h ++ (b ∷ [])) ≡ true)
         → cond t (isEmpty (h ++ (b ∷ []))) (endsLine (h ++ (b ∷ []))) ≡ true

@@ -19,9 +19,9 @@ drop-two l at h =
     let f : at + 2 ≡ suc (suc at) = omega arith in
     rw (e, f) (drop-cons l at 0 (omega arith) ∙ ap (λ (t : List ℕ). getD l at 0 ∷ t) (drop-cons l (suc at) 0 (omega arith)))
 
-pub left-start : (l : List ℕ) (count : ℕ) → leftOf l count 0 ≡ take (2 * count) l
+pub pairs-start : (l : List ℕ) (count : ℕ) → leftOf l count 0 ≡ take (2 * count) l
 unfolding leftOf
-left-start l count =
+pairs-start l count =
     let e : 2 * (count - 0) ≡ 2 * count = omega arith in
     ap (λ (m : ℕ). take m l) e
 
@@ -41,9 +41,9 @@ pub left-short : (l : List ℕ) (count i : ℕ) → length l < 2 * i + 2 → len
 unfolding leftOf
 left-short l count i h = simp (length-take, length-drop) (omega arith)
 
-pub left-done : (l : List ℕ) (count i : ℕ) → count ≤ i → leftOf l count i ≡ []
+pub pairs-done : (l : List ℕ) (count i : ℕ) → count ≤ i → leftOf l count i ≡ []
 unfolding leftOf
-left-done l count i h =
+pairs-done l count i h =
     let e : 2 * (count - i) ≡ 0 = omega arith in
     ap (λ (m : ℕ). take m (drop (2 * i) l)) e
 

@@ -10,7 +10,7 @@ use Rattle.base.specs.Refusal.{_orElse_, faultUnless}
 use Rattle.base.specs.Put.{put}
 use Rattle.base.proofs.PutLaws.{sets-put}
 use Rattle.plan.specs.Snap.{floorSync, ceilSync, snapStart, snapEnd, snapAll, overlapsFault}
-use Rattle.plan.proofs.PairLaws.{leftOf, left-start, left-cut, left-short, left-done, left-stored, left-same}
+use Rattle.plan.proofs.PairLaws.{leftOf, pairs-start, left-cut, left-short, pairs-done, left-stored, left-same}
 
 -- ---- the two directions: r is what the search found
 pub start-out : (s : List ℕ) (n d a r : ℕ) → r ≡ floorSync s n a → d ≡ 0 → r ≡ snapStart s n d a
@@ -58,7 +58,7 @@ module _ (s : List ℕ) (n d : ℕ) where
   Snapping l₀ l count i = sets l₀ 0 (snapAll s n d (take (2 * count) l₀)) ≡ sets l (2 * i) (snapAll s n d (leftOf l count i))
 
   pub snapping-start : (l : List ℕ) (count : ℕ) → Snapping l l count 0
-  snapping-start l count = sym (ap (λ (u : List ℕ). sets l 0 (snapAll s n d u)) (left-start l count))
+  snapping-start l count = sym (ap (λ (u : List ℕ). sets l 0 (snapAll s n d u)) (pairs-start l count))
 
   snapping-end : (l₀ l : List ℕ) (count i : ℕ) → Snapping l₀ l count i → length (leftOf l count i) < 2 → l ≡ put (snapAll s n d (take (2 * count) l₀)) l₀
   snapping-end l₀ l count i inv h =
@@ -69,7 +69,7 @@ module _ (s : List ℕ) (n d : ℕ) where
   snapping-short l₀ l count i inv h k = snapping-end l₀ l count i inv (left-short l count i (omega arith))
 
   pub snapping-done : (l₀ l : List ℕ) (count i : ℕ) → Snapping l₀ l count i → count ≤ i → l ≡ put (snapAll s n d (take (2 * count) l₀)) l₀
-  snapping-done l₀ l count i inv h = snapping-end l₀ l count i inv (rw (left-done l count i h) (omega arith))
+  snapping-done l₀ l count i inv h = snapping-end l₀ l count i inv (rw (pairs-done l count i h) (omega arith))
 
   pub snapping-next : (l₀ l m : List ℕ) (count i : ℕ) → Snapping l₀ l count i → i < count → 2 * i ≤ length l → 2 ≤ length l - 2 * i
       → m ≡ set (set l (2 * i) (snapStart s n d (getD l (2 * i) 0))) (2 * i + 1) (snapEnd s n d (getD l (2 * i + 1) 0))
@@ -105,14 +105,14 @@ overlap-next p a e r h = rw (le-leb p a h)
 
 -- the loop: what is left of the test is the whole answer v
 pub crossing-start : (l : List ℕ) (count : ℕ) → overlapsFault 0 (leftOf l count 0) ≡ overlapsFault 0 (take (2 * count) l)
-crossing-start l count = ap (overlapsFault 0) (left-start l count)
+crossing-start l count = ap (overlapsFault 0) (pairs-start l count)
 
 module _ (l : List ℕ) (count i p v : ℕ) (inv : overlapsFault p (leftOf l count i) ≡ v) where
   pub crossing-short : 2 * i ≤ length l → length l - 2 * i < 2 → 0 ≡ v
   crossing-short h k = sym (overlap-none p (leftOf l count i) (left-short l count i (omega arith))) ∙ inv
 
   pub crossing-done : count ≤ i → 0 ≡ v
-  crossing-done h = sym (overlap-none p (leftOf l count i) (rw (left-done l count i h) (omega arith))) ∙ inv
+  crossing-done h = sym (overlap-none p (leftOf l count i) (rw (pairs-done l count i h) (omega arith))) ∙ inv
 
   module _ (h : i < count) (j : 2 * i ≤ length l) (k : 2 ≤ length l - 2 * i) where
     pub crossing-here : getD l (2 * i) 0 < p → 8 ≡ v

@@ -17,13 +17,13 @@ use Rattle.assline.specs.declared.layout.Columns.{Columns}
 use Rattle.assline.proofs.ColumnLaws.{Apart}
 use Rattle.ass.specs.Line.{LineSays, lineSays, faulty, says}
 use Rattle.ass.specs.Answer.{columnsAfter}
-use Rattle.ass.specs.Whole.{noColumns}
-use Rattle.ass.proofs.LineBack.{line-back, line-apart}
+use Rattle.assline.specs.Columns.{noColumns}
+use Rattle.back.proofs.AssLine.{line-back, line-apart}
 use Rattle.block.specs.Style.{srt}
 use Rattle.block.specs.Block.{BlockSays, blockSays, faulty as blockFaulty, says as blockSaid}
-use Rattle.block.specs.Whole.{Block, blocksOf}
-use Rattle.block.proofs.BlockBack.{block-back}
-use Rattle.block.proofs.BlockShape.{blockLines, blocks-joined}
+use Rattle.whole.specs.Srt.{Block, blocksOf}
+use Rattle.back.proofs.SrtBlock.{block-back}
+use Rattle.whole.proofs.BlockShape.{blockLines, blocks-joined}
 use Rattle.machine.specs.Cut.{closedLines, unfinished}
 use Rattle.machine.specs.Reader.{Reading, fails, _⊕_}
 use Rattle.machine.proofs.CutLaws.{cut-ends, cut-open, has-none, restLines, lines-of-cut}

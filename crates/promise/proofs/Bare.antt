@@ -127,11 +127,11 @@ no-bom-part l t e = go (hasBom l) refl
     go true p = absurd (true≢false (sym (bom-longer l t p) ∙ e))
     go false p = refl
 
-pub equals-same : (p s : List ℕ) → equals p s ≡ true → starts p s ≡ true
+pub equal-starts : (p s : List ℕ) → equals p s ≡ true → starts p s ≡ true
 unfolding equals starts
-equals-same [] s e = refl
-equals-same (a ∷ p) [] e = e
-equals-same (a ∷ p) (b ∷ s) e = go (eqb a b) e (λ q. equals-same p s q)
+equal-starts [] s e = refl
+equal-starts (a ∷ p) [] e = e
+equal-starts (a ∷ p) (b ∷ s) e = go (eqb a b) e (λ q. equal-starts p s q)
   where
     go : (t : Bool) → cond t (equals p s) false ≡ true → (equals p s ≡ true → starts p s ≡ true) → cond t (starts p s) false ≡ true
     go true q ih = ih q
@@ -142,7 +142,7 @@ unfolding hasBom
 no-bom-alone r e = go (equals bom r) refl
   where
     go : (b : Bool) → equals bom r ≡ b → b ≡ false
-    go true p = absurd (true≢false (sym (equals-same bom r p) ∙ e))
+    go true p = absurd (true≢false (sym (equal-starts bom r p) ∙ e))
     go false p = refl
 
 pub unmarked-text : {σ : Type 0} (M : Machine σ) (f : Bool) (text : List ℕ) → hasBom text ≡ false

@@ -7,14 +7,14 @@ use mathlib.Core.List.{List, [], _∷_, _++_}
 use Rattle.base.specs.Ascii.{ascii}
 use Rattle.base.specs.Part.{last}
 use Rattle.base.specs.Refusal.{_orElse_, faultUnless}
-use Rattle.text.specs.Utf8.{leadLen, secondLow, secondHigh, tail, widthBy, charWidth, utf8From, utf8, codeBy, codeHead}
-use Rattle.text.specs.White.{whiteHigh, white, whiteHead, endsWhite, whiteTail, headFrom, keepFrom, trimHead, trimTail, trim}
+use Rattle.chars.specs.Utf8.{leadLen, secondLow, secondHigh, tail, widthBy, charWidth, utf8From, utf8, codeBy, codeHead}
+use Rattle.chars.specs.White.{whiteHigh, white, whiteHead, endsWhite, whiteTail, headFrom, keepFrom, trimHead, trimTail, trim}
 use Rattle.text.specs.Find.{starts, equals, first, contains, upTo, past}
 use Rattle.text.specs.Piece.{piecesFrom, pieces}
 use Rattle.text.specs.Number.{digit, digits, valueFrom, natural, unsigned, number}
 use Rattle.text.specs.Line.{linesOf, textOf, terminatorLength, terminatorOf, blank}
 use Rattle.time.specs.Kind.{kindBad, unitsOf, markOf}
-use Rattle.time.specs.Read.{timeWith, timeIn}
+use Rattle.stamp.specs.Read.{timeWith, timeIn}
 use Rattle.event.specs.Says.{Piece, bytes, start, stop, unplaced, Cue, stays, passes, cue}
 use Rattle.assline.specs.Columns.{namesIn, placeIn, columnsIn, fields, fieldAt}
 use Rattle.assline.specs.Tags.{holdsAny}
@@ -22,8 +22,8 @@ use Rattle.ass.specs.Line.{captionSays, wordSays, textSays, lineSays}
 use Rattle.assline.specs.Section.{bracketed, inside}
 use Rattle.assline.specs.Frame.{pieceAt, fieldPieces}
 use Rattle.block.specs.Style.{blankIn, srtEnd}
-use Rattle.block.specs.Block.{blockFrame, blockCue, timingOf, afterArrow, lineSays as blockLineSays, blockSays}
-use Rattle.block.specs.Whole.{blocksOf}
+use Rattle.block.specs.Block.{blockFrame, blockCue, timingOf, afterArrow, timingLineSays as blockLineSays, blockSays}
+use Rattle.whole.specs.Srt.{blocksOf}
 use Rattle.event.specs.Mark.{bom}
 use Rattle.machine.specs.Reader.{reading, fails}
 use Rattle.promise.specs.Plain.{lineFault, bodyLineFault, assRead, bodyFault, srtRead, linesSay, plainRead}

@@ -9,7 +9,7 @@ use lib.Dec.{ltb}
 use borrow.Author.Tests.{lt-ltb}
 use Rattle.time.specs.Kind.{unitsOf}
 use Rattle.time.specs.Convert.{ticksOf}
-use Rattle.time.specs.Write.{timeText}
+use Rattle.stamp.specs.Write.{timeText}
 use Rattle.segmap.specs.declared.segment.Segment.{Segment}
 use Rattle.segmap.specs.Segment.{sourceOf, sourceEnd}
 use Rattle.event.specs.declared.setting.Config.{Config}

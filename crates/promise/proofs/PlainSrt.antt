@@ -9,17 +9,17 @@ use lib.ListN.{length, length-append}
 use Rattle.base.specs.Limits.{mostLine, mostBlock}
 use Rattle.base.specs.Refusal.{_orElse_, faultUnless}
 use Rattle.base.proofs.RefusalLaws.{else-none, else-zero}
-use Rattle.text.specs.Utf8.{utf8}
+use Rattle.chars.specs.Utf8.{utf8}
 use Rattle.text.specs.Line.{concat, lineCount}
 use Rattle.event.specs.Says.{Part, stays, notUtf8}
 use Rattle.block.specs.Style.{srt, blankIn}
 use Rattle.block.specs.Block.{BlockSays, blockSays, faulty as blockFaulty, says as blockSaid}
-use Rattle.block.specs.Whole.{Block, blockOf, ontoBlock, ontoBlanks, blankOnto, blocksOf}
+use Rattle.whole.specs.Srt.{Block, blockOf, ontoBlock, ontoBlanks, blankOnto, blocksOf}
 use Rattle.machine.specs.Machine.{Machine, Says, faulty}
 use Rattle.machine.specs.Reader.{Reading, fails, _⊕_, readLine, readClose}
 use Rattle.kinds.specs.Takes.{State, blankState, withBlock, ofBlock, closes, adds, blockTakes, takes, machineOf}
 use Rattle.promise.specs.Plain.{lineFault, bodyLineFault, unlessFault, bodyFault, blockThen, bodyThen, blanksThen, markBehind, closesBlock, srtRead, restFault}
-use Rattle.block.proofs.BlockShape.{blocks-none, blocks-blank, blocks-body}
+use Rattle.whole.proofs.BlockShape.{blocks-none, blocks-blank, blocks-body}
 use Rattle.kinds.proofs.KindLaws.{takes-srt, ends-srt}
 use Rattle.promise.proofs.Bare.{passed, endOf, readAll}
 use Rattle.promise.proofs.PlainAss.{rest-behind, ending}

@@ -24,7 +24,7 @@ use Rattle.foreign.specs.declared.holding.Session.{Session}
 use Rattle.foreign.specs.View.{view, stored, padded, foreignOf}
 use Rattle.foreign.proofs.ViewLaws.{view-stored, padded-length, native-view}
 use Rattle.session.specs.declared.calling.Fed.{Fed}
-use Rattle.session.specs.Answer.{lent, feedCall, finishCall, answerOf, gateOf, gateNumber, nextBy, nextOf, Answered}
+use Rattle.session.specs.Answer.{lent, feedCall, finishCall, answerOf, sessionGate, gateNumber, nextBy, nextOf, Answered}
 use Rattle.session.proofs.CallLaws.{gate-passed, answer-by, settled-small}
 use Rattle.promise.specs.Runs.{Made, fed, finished, resultOf, callOf, callsOf, Met, Ran, warningsIn, writtenBy, warnedBy, outcome}
 
@@ -37,8 +37,8 @@ unfolding stored
 stored-whole t p = padded-length (t .held) p
 
 -- what an admitted call leaves fits it
-gate-admits : (s : Session) (x : Call) → gateOf s x ≡ admit → (foreignOf s ≡ false) × (mapBad (lentOf x .map) ≡ false)
-unfolding gateOf
+gate-admits : (s : Session) (x : Call) → sessionGate s x ≡ admit → (foreignOf s ≡ false) × (mapBad (lentOf x .map) ≡ false)
+unfolding sessionGate
 gate-admits s x e =
     let g = gate-passed (foreignOf s) (s .ended) (mapBad (lentOf x .map)) (argumentBad (s .taken) x) (ap gateNumber e) in
     (g .0, g .2)
@@ -47,7 +47,7 @@ stopped-small : (v : model.Session Columns) (t : ℕ) (map : List ℕ) (y : Run 
 stopped-small v t map (going st n h ps) e = absurd e
 stopped-small v t map (stopped k ps) e = omega arith
 
-next-small : (s : Session) (x : Call) → gateOf s x ≡ admit → length (respond kit admit (view s) x .session .held) ≤ mostHeld
+next-small : (s : Session) (x : Call) → sessionGate s x ≡ admit → length (respond kit admit (view s) x .session .held) ≤ mostHeld
 next-small s (feed l piece) e =
     let g = gate-admits s (feed l piece) e in
     settled-small (view s) (native-view s (g .0)) (l .map) piece (g .1) (s .taken + length piece)
@@ -57,7 +57,7 @@ next-small s (finish l) e =
 
 -- ---- the session that a call returns stands for the model's
 module _ (s : Session) (w : Whole s) where
-  gate-whole : (x : Call) (g : Gate) → gateOf s x ≡ g → Whole (nextBy g s x (respond kit g (view s) x .session))
+  gate-whole : (x : Call) (g : Gate) → sessionGate s x ≡ g → Whole (nextBy g s x (respond kit g (view s) x .session))
   gate-whole x (refuse k) e = w
   gate-whole (feed l []) admit e = w
   gate-whole (feed l (b ∷ p)) admit e = stored-whole (respond kit admit (view s) (feed l (b ∷ p)) .session) (next-small s (feed l (b ∷ p)) e)
@@ -67,19 +67,19 @@ module _ (s : Session) (w : Whole s) where
   unfolding answerOf
   empty l = empty-piece (view s) l
 
-  gate-view : (x : Call) (g : Gate) → gateOf s x ≡ g → view (nextBy g s x (respond kit g (view s) x .session)) ≡ respond kit g (view s) x .session
+  gate-view : (x : Call) (g : Gate) → sessionGate s x ≡ g → view (nextBy g s x (respond kit g (view s) x .session)) ≡ respond kit g (view s) x .session
   gate-view x (refuse k) e = refl
   gate-view (feed l []) admit e =
       sym (ap (λ (g : Gate). respond kit g (view s) (feed l []) .session) (sym e) ∙ ap (λ (a : model.Answer Columns). a .session) (sym (answer-by s (feed l []))) ∙ empty l)
   gate-view (feed l (b ∷ p)) admit e = view-stored (respond kit admit (view s) (feed l (b ∷ p)) .session) (next-small s (feed l (b ∷ p)) e)
   gate-view (finish l) admit e = view-stored (respond kit admit (view s) (finish l) .session) (next-small s (finish l) e)
 
-  next-is : (x : Call) → nextOf s x ≡ nextBy (gateOf s x) s x (respond kit (gateOf s x) (view s) x .session)
+  next-is : (x : Call) → nextOf s x ≡ nextBy (sessionGate s x) s x (respond kit (sessionGate s x) (view s) x .session)
   unfolding nextOf
-  next-is x = ap (λ (a : model.Answer Columns). nextBy (gateOf s x) s x (a .session)) (answer-by s x)
+  next-is x = ap (λ (a : model.Answer Columns). nextBy (sessionGate s x) s x (a .session)) (answer-by s x)
 
   pub next-whole : (x : Call) → Whole (nextOf s x)
-  next-whole x = subst Whole (sym (next-is x)) (gate-whole x (gateOf s x) refl)
+  next-whole x = subst Whole (sym (next-is x)) (gate-whole x (sessionGate s x) refl)
 
   model-answer : (x : Call) → answerOf s x ≡ answer kit (view s) x
   unfolding answerOf
@@ -87,7 +87,7 @@ module _ (s : Session) (w : Whole s) where
 
   pub next-view : (x : Call) → view (nextOf s x) ≡ answer kit (view s) x .session
   next-view x =
-      ap view (next-is x) ∙ gate-view x (gateOf s x) refl ∙ ap (λ (a : model.Answer Columns). a .session) (sym (answer-by s x) ∙ model-answer x)
+      ap view (next-is x) ∙ gate-view x (sessionGate s x) refl ∙ ap (λ (a : model.Answer Columns). a .session) (sym (answer-by s x) ∙ model-answer x)
 
   -- ---- a call that met its contract
   front : (v l got : List ℕ) (n : ℕ) → n ≡ length v → got ≡ put v l → take n got ≡ v

@@ -13,7 +13,8 @@ use Rattle.event.specs.Mark.{marked, behindMark, markWritten}
 use Rattle.assline.specs.declared.layout.Columns.{Columns}
 use Rattle.ass.specs.Line.{LineSays, lineSays, faulty as lineFaulty, says as lineSaid}
 use Rattle.ass.specs.Answer.{columnsAfter}
-use Rattle.ass.specs.Whole.{noColumns, partThen, linesSaid, columnsBehind, assSaid}
+use Rattle.assline.specs.Columns.{noColumns}
+use Rattle.whole.specs.Ass.{saidThen, linesSaid, columnsBehind, assSaid}
 use Rattle.machine.specs.Reader.{Reading, fails}
 use Rattle.promise.specs.Plain.{markLength, lineFault, unlessFault, lineThen, assRead, markBehind, linesSay, opened, markBack, plainRead}
 use Rattle.promise.specs.Whole.{AssWhole, timeFault, AssStops, AssBefore}
@@ -55,9 +56,9 @@ module _ (x : ℕ) (c : Columns) (n : ℕ) (l : List ℕ) where
       ap (λ (i : ℕ). unlessFault i (lineThen (lineSays c n l) (λ d. read 0 d (suc n) ls))) e
       ∙ ap (λ (i : LineSays). unlessFault k (lineThen i (λ d. read 0 d (suc n) ls))) f
 
-  said-line : (ls : List (List ℕ)) (s : LineSays) → lineSays c n l ≡ s → linesSaid c n (l ∷ ls) ≡ partThen s (λ d. linesSaid d (suc n) ls)
+  said-line : (ls : List (List ℕ)) (s : LineSays) → lineSays c n l ≡ s → linesSaid c n (l ∷ ls) ≡ saidThen s (λ d. linesSaid d (suc n) ls)
   unfolding linesSaid
-  said-line ls s e = ap (λ (i : LineSays). partThen i (λ d. linesSaid d (suc n) ls)) e
+  said-line ls s e = ap (λ (i : LineSays). saidThen i (λ d. linesSaid d (suc n) ls)) e
 
   columns-line : (ls : List (List ℕ)) (s : LineSays) → lineSays c n l ≡ s → columnsBehind c n (l ∷ ls) ≡ columnsBehind (columnsAfter c s) (suc n) ls
   unfolding columnsBehind

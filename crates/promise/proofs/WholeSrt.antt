@@ -13,11 +13,11 @@ use Rattle.event.specs.Says.{Part, stays, faultNumber}
 use Rattle.event.specs.Mark.{marked, behindMark}
 use Rattle.block.specs.Style.{srt, blankIn}
 use Rattle.block.specs.Block.{BlockSays, blockSays, faulty as blockFaulty, says as blockSaid}
-use Rattle.block.specs.Whole.{Block, blockOf, ontoBlock, ontoBlanks, blankOnto, blocksOf, partThen, bodySaid, blocksSaid, srtSaid}
-use Rattle.block.proofs.BlockShape.{blockLines, AllBlank, Lines, Ended, Others, Blocks, lines-more, others-blocks, blocks-joined, blocks-shape, blocks-only, blocks-blank, blocks-body}
+use Rattle.whole.specs.Srt.{Block, blockOf, ontoBlock, ontoBlanks, blankOnto, blocksOf, blockSaidThen, bodySaid, blocksSaid, srtSaid}
+use Rattle.whole.proofs.BlockShape.{blockLines, AllBlank, Lines, BlankBehind, Others, Blocks, lines-more, others-blocks, blocks-joined, blocks-shape, blocks-only, blocks-blank, blocks-body}
 use Rattle.machine.specs.Reader.{Reading, fails, _⊕_}
 use Rattle.promise.specs.Plain.{markLength, lineFault, bodyLineFault, unlessFault, bodyFault, blockThen, bodyThen, blanksThen, markBehind, closesBlock, srtRead, linesSay, opened, markBack, plainRead}
-use Rattle.promise.specs.Whole.{SrtWhole, blockTimeFault, bodyTimeFault, firstBlankFault, blockFault, SrtStops, endsBlank, SrtBefore}
+use Rattle.promise.specs.Whole.{SrtWhole, blockTimeFault, bodyTimeFault, firstBlankFault, srtBlockFault, SrtStops, endsBlank, SrtBefore}
 use Rattle.promise.proofs.WholeAss.{mark-none, number-positive, no-fault, mark-back}
 
 -- ---- a block by itself
@@ -45,7 +45,7 @@ body-passes : (n : ℕ) (body : List (List ℕ)) (r : Reading) → bodyTimeFault
 body-passes n [] r e = refl
 body-passes n (l ∷ ls) r e = block-passes (blockSays srt (suc n) (l ∷ ls)) r e
 
-block-said : (s : BlockSays) (ps : List Part) → blockTimeFault s ≡ 0 → partThen s ps ≡ partOf s ++ ps
+block-said : (s : BlockSays) (ps : List Part) → blockTimeFault s ≡ 0 → blockSaidThen s ps ≡ partOf s ++ ps
 block-said (blockFaulty f) ps e = absurd (let z : 0 < faultNumber f = number-positive f in omega arith)
 block-said (blockSaid p) ps e = refl
 
@@ -125,7 +125,7 @@ lines-last : (ks : List (List ℕ)) (l : List ℕ) (ls : List (List ℕ)) → Li
 lines-last [] l ls = tt
 lines-last (k ∷ ks) l ls = tt
 
-ended-lines : (l : List ℕ) (ls : List (List ℕ)) (bs : List Block) → Ended (l ∷ ls) bs
+ended-lines : (l : List ℕ) (ls : List (List ℕ)) (bs : List Block) → BlankBehind (l ∷ ls) bs
 ended-lines l ls [] = tt
 ended-lines l ls (b ∷ bs) = tt
 
@@ -156,7 +156,7 @@ record Cut (x n : ℕ) (bs : List Block) : Type 0 where
   shape-before : Blocks before
   shape-rest : Blocks rest
   others : Others bs → Others before
-  ended : (ls : List (List ℕ)) → Ended ls bs → Ended ls before
+  ended : (ls : List (List ℕ)) → BlankBehind ls bs → BlankBehind ls before
   closed : 0 < read x n bs .fault → endsBlank (blockLines before) ≡ true
   passes : read x n before .fault ≡ 0
   parts : read x n bs .parts ≡ blocksSaid n before
@@ -169,7 +169,7 @@ stops-same rest x y n m k j p r s h =
     (subst (λ (i : ℕ). SrtStops i n rest k) p h))
 
 -- a fault behind a block: blank lines end the block
-has-blank : (n : ℕ) (blanks : List (List ℕ)) (bs : List Block) → 0 < read 0 n bs .fault → Ended blanks bs → Lines blanks
+has-blank : (n : ℕ) (blanks : List (List ℕ)) (bs : List Block) → 0 < read 0 n bs .fault → BlankBehind blanks bs → Lines blanks
 unfolding srtRead
 has-blank n blanks [] g h = absurd (let z : 0 < 0 = g in omega arith)
 has-blank n blanks (b ∷ bs) g h = h
@@ -184,18 +184,18 @@ module _ (x n : ℕ) (body : List (List ℕ)) where
   unfolding srtRead
   read-block blanks bs = ap (unlessFault (bodyFault x 0 body)) (closes-read x n body blanks (read 0 (next blanks) bs))
 
-  read-fault : (blanks : List (List ℕ)) (bs : List Block) (k : ℕ) → blockFault x n body blanks ≡ suc k → read x n (blockOf body blanks ∷ bs) ≡ fails (suc k)
+  read-fault : (blanks : List (List ℕ)) (bs : List Block) (k : ℕ) → srtBlockFault x n body blanks ≡ suc k → read x n (blockOf body blanks ∷ bs) ≡ fails (suc k)
   read-fault blanks bs k e =
       read-block blanks bs
       ∙ faults n body (bodyFault x 0 body) (firstBlankFault (markBehind x body) blanks) k (blanksRead blanks (read 0 (next blanks) bs)) e
 
-  read-pass : (blanks : List (List ℕ)) (bs : List Block) → blockFault x n body blanks ≡ 0
+  read-pass : (blanks : List (List ℕ)) (bs : List Block) → srtBlockFault x n body blanks ≡ 0
       → read x n (blockOf body blanks ∷ bs) ≡ bodyParts n body ⊕ blanksRead blanks (read 0 (next blanks) bs)
   read-pass blanks bs e =
       read-block blanks bs
       ∙ no-faults n body (bodyFault x 0 body) (firstBlankFault (markBehind x body) blanks) (blanksRead blanks (read 0 (next blanks) bs)) e
 
-  said-pass : (blanks : List (List ℕ)) (bs : List Block) → blockFault x n body blanks ≡ 0
+  said-pass : (blanks : List (List ℕ)) (bs : List Block) → srtBlockFault x n body blanks ≡ 0
       → blocksSaid n (blockOf body blanks ∷ bs) ≡ bodyParts n body ++ (map stays blanks ++ blocksSaid (next blanks) bs)
   unfolding blocksSaid
   said-pass blanks bs e =
@@ -203,7 +203,7 @@ module _ (x n : ℕ) (body : List (List ℕ)) where
       (no-time-fault n body (bodyFault x 0 body) (firstBlankFault (markBehind x body) blanks) e)
 
   -- a block with a fault
-  here : (blanks : List (List ℕ)) (bs : List Block) (k : ℕ) → Blocks (blockOf body blanks ∷ bs) → blockFault x n body blanks ≡ suc k → Cut x n (blockOf body blanks ∷ bs)
+  here : (blanks : List (List ℕ)) (bs : List Block) (k : ℕ) → Blocks (blockOf body blanks ∷ bs) → srtBlockFault x n body blanks ≡ suc k → Cut x n (blockOf body blanks ∷ bs)
   unfolding srtRead blocksSaid
   here blanks bs k h e =
       let z : 0 < suc k = omega arith in
@@ -227,7 +227,7 @@ module _ (x n : ℕ) (body : List (List ℕ)) where
 
   -- a block whose blank lines pass up to one that has a fault
   within : (l₀ : List ℕ) (ls p : List (List ℕ)) (l : List ℕ) (q : List (List ℕ)) (k : ℕ) (bs : List Block) → Blocks (blockOf body (l₀ ∷ ls) ∷ bs)
-      → blockFault x n body (l₀ ∷ ls) ≡ 0 → ls ≡ p ++ (l ∷ q) → lineFault 0 l ≡ suc k
+      → srtBlockFault x n body (l₀ ∷ ls) ≡ 0 → ls ≡ p ++ (l ∷ q) → lineFault 0 l ≡ suc k
       → ((r : Reading) → blanksThen ls r ≡ map stays p ⊕ fails (suc k)) → ((r : Reading) → blanksThen p r ≡ map stays p ⊕ r)
       → Cut x n (blockOf body (l₀ ∷ ls) ∷ bs)
   unfolding srtRead blocksSaid bodyFault _orElse_
@@ -239,7 +239,7 @@ module _ (x n : ℕ) (body : List (List ℕ)) where
       let tail : List (List ℕ) = (l ∷ q) ++ blockLines bs in
       let r : read x n (blockOf body (l₀ ∷ ls) ∷ bs) ≡ bodyParts n body ⊕ ((stays l₀ ∷ []) ⊕ (map stays p ⊕ fails (suc k))) =
       read-pass (l₀ ∷ ls) bs e ∙ ap (λ (y : Reading). bodyParts n body ⊕ ((stays l₀ ∷ []) ⊕ y)) (f (read 0 (next (l₀ ∷ ls)) bs)) in
-      let own : blockFault 0 (n + lineCount head) [] (l ∷ q) ≡ suc k = ap (λ (i : ℕ). i orElse 0) g in
+      let own : srtBlockFault 0 (n + lineCount head) [] (l ∷ q) ≡ suc k = ap (λ (i : ℕ). i orElse 0) g in
       record {
         before = blockOf body (l₀ ∷ p) ∷ [];
         rest = blockOf [] (l ∷ q) ∷ bs;
@@ -262,7 +262,7 @@ module _ (x n : ℕ) (body : List (List ℕ)) where
       }
 
   -- a block that passes
-  behind : (blanks : List (List ℕ)) (bs : List Block) → Blocks (blockOf body blanks ∷ bs) → blockFault x n body blanks ≡ 0
+  behind : (blanks : List (List ℕ)) (bs : List Block) → Blocks (blockOf body blanks ∷ bs) → srtBlockFault x n body blanks ≡ 0
       → ((r : Reading) → blanksRead blanks r ≡ map stays blanks ⊕ r) → Cut 0 (next blanks) bs → Cut x n (blockOf body blanks ∷ bs)
   behind blanks bs h e f c =
       let head : List (List ℕ) = blockLines (c .before) in
@@ -298,12 +298,12 @@ module _ (x n : ℕ) (body : List (List ℕ)) where
             (sym (ap (λ (y : Reading). y .fault) (reads bs))) (c .stops);
       }
 
-  by-blanks : (l : List ℕ) (ls : List (List ℕ)) (bs : List Block) → Blocks (blockOf body (l ∷ ls) ∷ bs) → blockFault x n body (l ∷ ls) ≡ 0
+  by-blanks : (l : List ℕ) (ls : List (List ℕ)) (bs : List Block) → Blocks (blockOf body (l ∷ ls) ∷ bs) → srtBlockFault x n body (l ∷ ls) ≡ 0
       → Cut 0 (next (l ∷ ls)) bs → Blanks ls → Cut x n (blockOf body (l ∷ ls) ∷ bs)
   by-blanks l ls bs h e c (all f) = behind (l ∷ ls) bs h e (λ r. ap (λ (y : Reading). (stays l ∷ []) ⊕ y) (f r)) c
   by-blanks l ls bs h e c (some p m q k d g f i) = within l ls p m q k bs h e d g f i
 
-  by-fault : (blanks : List (List ℕ)) (bs : List Block) (k : ℕ) → blockFault x n body blanks ≡ k → Blocks (blockOf body blanks ∷ bs)
+  by-fault : (blanks : List (List ℕ)) (bs : List Block) (k : ℕ) → srtBlockFault x n body blanks ≡ k → Blocks (blockOf body blanks ∷ bs)
       → Cut 0 (next blanks) bs → Cut x n (blockOf body blanks ∷ bs)
   by-fault blanks bs (suc k) e h c = here blanks bs k h e
   by-fault [] bs zero e h c = behind [] bs h e (λ r. refl) c
@@ -326,7 +326,7 @@ cut-blocks [] x n h =
       stops = refl;
     }
 cut-blocks (b ∷ bs) x n h =
-    by-fault x n (b .body) (b .blanks) bs (blockFault x n (b .body) (b .blanks)) refl h
+    by-fault x n (b .body) (b .blanks) bs (srtBlockFault x n (b .body) (b .blanks)) refl h
     (cut-blocks bs 0 (n + lineCount (b .body) + lineCount (b .blanks)) (others-blocks bs (h .4)))
 
 -- ---- the text

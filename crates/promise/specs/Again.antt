@@ -4,26 +4,13 @@ use mathlib.Core.List.{List, [], _∷_}
 use Prim.Native.Nat.{ℕ, zero, suc, _*_, _<_}
 use Rattle.text.specs.Line.{linesOf}
 use Rattle.time.specs.Kind.{unitsOf}
-use Rattle.time.specs.Write.{timeText}
-use Rattle.event.specs.Says.{Cue, Part, stays, passes, cue}
+use Rattle.stamp.specs.Write.{timeText}
+use Rattle.event.specs.Says.{Cue, withTimes, Part, stays, passes, cue}
 use Rattle.event.specs.Emit.{render}
 use Rattle.assline.specs.declared.layout.Columns.{Columns}
 use Rattle.ass.specs.Line.{lineSays, says}
 use Rattle.block.specs.Style.{srt}
 use Rattle.block.specs.Block.{blockSays, blockCue, says as blockSaid}
-
--- the same cue with other times
-abbrev pub timed : Cue → (s e : ℕ) → Cue
-timed q s e =
-    record {
-      line = q .line;
-      start = s;
-      startMark = q .startMark;
-      stop = e;
-      stopMark = q .stopMark;
-      tagged = q .tagged;
-      frame = q .frame;
-    }
 
 -- its frame with these times in the places of the old ones, as it is written
 abbrev pub written : (kind : ℕ) → Cue → (s e : ℕ) → List ℕ
@@ -36,7 +23,7 @@ pub record LineAgain (q : Cue) : Type 0 where
   pub line : List ℕ
   pub next : Columns
   pub said : lineSays columns before line ≡ says next (cue q)
-  pub again : (s e : ℕ) → s < 36000000 * unitsOf 0 → e < 36000000 * unitsOf 0 → lineSays columns before (written 0 q s e) ≡ says next (cue (timed q s e))
+  pub again : (s e : ℕ) → s < 36000000 * unitsOf 0 → e < 36000000 * unitsOf 0 → lineSays columns before (written 0 q s e) ≡ says next (cue (withTimes q s e))
 
 -- SRT: the cue is that of a block, given as its bytes, and has no tag; an end of 100 hours or more has thirteen bytes, of which document 01 reads twelve
 pub record BlockAgain (q : Cue) : Type 0 where

@@ -6,7 +6,7 @@ use Prim.Native.Nat.{ℕ, suc}
 use lib.Dec.{ltb, leb}
 use Rattle.time.specs.Kind.{unitsOf}
 use Rattle.time.specs.Convert.{ticksOf}
-use Rattle.time.specs.Write.{timeText}
+use Rattle.stamp.specs.Write.{timeText}
 use Rattle.segmap.specs.declared.segment.Segment.{Segment}
 use Rattle.segmap.specs.Segment.{sourceOf, sourceEnd, segmentsOf}
 use Rattle.event.specs.declared.setting.Config.{Config}

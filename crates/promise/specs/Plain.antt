@@ -6,16 +6,16 @@ use lib.Dec.{leb, eqb}
 use lib.ListN.{length}
 use Rattle.base.specs.Limits.{mostLine, mostBlock}
 use Rattle.base.specs.Refusal.{_orElse_, faultUnless}
-use Rattle.text.specs.Utf8.{utf8}
+use Rattle.chars.specs.Utf8.{utf8}
 use Rattle.text.specs.Line.{linesOf, lineCount}
 use Rattle.event.specs.Says.{Part, stays, faultNumber}
 use Rattle.event.specs.Mark.{marked, behindMark, markWritten}
 use Rattle.assline.specs.declared.layout.Columns.{Columns}
 use Rattle.ass.specs.Line.{LineSays, lineSays, faulty as lineFaulty, says as lineSaid}
-use Rattle.ass.specs.Whole.{noColumns}
+use Rattle.assline.specs.Columns.{noColumns}
 use Rattle.block.specs.Style.{srt, blankIn}
 use Rattle.block.specs.Block.{BlockSays, blockSays, faulty as blockFaulty, says as blockSaid}
-use Rattle.block.specs.Whole.{Block, blocksOf}
+use Rattle.whole.specs.Srt.{Block, blocksOf}
 use Rattle.machine.specs.Cut.{closedLines, unfinished}
 use Rattle.machine.specs.Reader.{Reading, fails, _⊕_}
 

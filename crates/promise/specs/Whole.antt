@@ -10,10 +10,11 @@ use Rattle.event.specs.Says.{faultNumber}
 use Rattle.event.specs.Mark.{behindMark}
 use Rattle.assline.specs.declared.layout.Columns.{Columns}
 use Rattle.ass.specs.Line.{LineSays, lineSays, faulty as lineFaulty, says as lineSaid}
-use Rattle.ass.specs.Whole.{noColumns, linesSaid, columnsBehind, assSaid}
+use Rattle.assline.specs.Columns.{noColumns}
+use Rattle.whole.specs.Ass.{linesSaid, columnsBehind, assSaid}
 use Rattle.block.specs.Style.{srt, blankIn}
 use Rattle.block.specs.Block.{BlockSays, blockSays, faulty as blockFaulty, says as blockSaid}
-use Rattle.block.specs.Whole.{Block, blocksOf, blocksSaid, srtSaid}
+use Rattle.whole.specs.Srt.{Block, blocksOf, blocksSaid, srtSaid}
 use Rattle.machine.specs.Reader.{fails}
 use Rattle.promise.specs.Plain.{markLength, lineFault, assRead, bodyFault, markBehind, srtRead, markBack, plainRead}
 
@@ -58,13 +59,13 @@ firstBlankFault x [] = 0
 firstBlankFault x (l ∷ ls) = lineFault x l
 
 -- a block: 19, 20, 21 of its lines, 19 and 20 of its first blank line, then a bad time
-abbrev pub blockFault : (x n : ℕ) → (body blanks : List (List ℕ)) → ℕ
-blockFault x n body blanks = bodyFault x 0 body orElse (firstBlankFault (markBehind x body) blanks orElse bodyTimeFault n body)
+abbrev pub srtBlockFault : (x n : ℕ) → (body blanks : List (List ℕ)) → ℕ
+srtBlockFault x n body blanks = bodyFault x 0 body orElse (firstBlankFault (markBehind x body) blanks orElse bodyTimeFault n body)
 
 -- the reader stops without a fault behind the last block, else at a block by that block's fault
 abbrev pub SrtStops : (x n : ℕ) → (rest : List Block) → (fault : ℕ) → Type 0
 SrtStops x n [] k = k ≡ 0
-SrtStops x n (b ∷ bs) k = (k ≡ blockFault x n (b .body) (b .blanks)) × (0 < k)
+SrtStops x n (b ∷ bs) k = (k ≡ srtBlockFault x n (b .body) (b .blanks)) × (0 < k)
 
 -- the last line is blank
 abbrev pub endsBlank : List (List ℕ) → Bool

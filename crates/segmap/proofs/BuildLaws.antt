@@ -12,7 +12,7 @@ use Rattle.base.specs.Refusal.{_orElse_, faultUnless}
 use Rattle.base.proofs.PutLaws.{sets-put}
 use Rattle.base.proofs.RefusalLaws.{held, else-zero, else-none, else-found}
 use Rattle.sheet.specs.Sheet.{decodeOf}
-use Rattle.plan.proofs.PairLaws.{leftOf, left-start, left-cut, left-short, left-done}
+use Rattle.plan.proofs.PairLaws.{leftOf, pairs-start, left-cut, left-short, pairs-done}
 use Rattle.segmap.specs.declared.segment.Segment.{Segment}
 use Rattle.segmap.specs.Segment.{segment, numbersOf, flatOf}
 use Rattle.segmap.specs.Build.{ticksFrom, sourceStart, rangeTicks, rangeFault, rangesFault, segmentIn, segmentsIn}
@@ -52,7 +52,7 @@ faults-cut s n a e r = refl
 
 -- the loop that tests them: what is left of the test is the whole answer v
 pub testing-start : (s : List ℕ) (n : ℕ) (l : List ℕ) (count : ℕ) → rangesFault s n (leftOf l count 0) ≡ rangesFault s n (take (2 * count) l)
-testing-start s n l count = ap (rangesFault s n) (left-start l count)
+testing-start s n l count = ap (rangesFault s n) (pairs-start l count)
 
 pub testing-zero : (s : List ℕ) (n : ℕ) (l : List ℕ) (count : ℕ) → rangesFault s n (take (2 * count) l) ≡ 0 → rangesFault s n (leftOf l count 0) ≡ 0
 testing-zero s n l count z = testing-start s n l count ∙ z
@@ -62,7 +62,7 @@ module _ (s : List ℕ) (n : ℕ) (l : List ℕ) (count i v : ℕ) (inv : ranges
   testing-short h k = sym (faults-short s n (leftOf l count i) (left-short l count i (omega arith))) ∙ inv
 
   pub testing-done : count ≤ i → 0 ≡ v
-  testing-done h = sym (faults-short s n (leftOf l count i) (rw (left-done l count i h) (omega arith))) ∙ inv
+  testing-done h = sym (faults-short s n (leftOf l count i) (rw (pairs-done l count i h) (omega arith))) ∙ inv
 
   -- f is the fault of the next range
   module _ (h : i < count) (j : 2 * i ≤ length l) (k : 2 ≤ length l - 2 * i) (f : ℕ) (e : f ≡ rangeFault s n (getD l (2 * i) 0) (getD l (2 * i + 1) 0)) where
@@ -115,7 +115,7 @@ module _ (s : List ℕ) where
   Building l count m₀ m i o = sets m₀ 0 (flatOf (segmentsIn s 0 (take (2 * count) l))) ≡ sets m (6 * i) (flatOf (segmentsIn s o (leftOf l count i)))
 
   pub building-start : (l : List ℕ) (count : ℕ) (m : List ℕ) → Building l count m m 0 0
-  building-start l count m = sym (ap (λ (u : List ℕ). sets m 0 (flatOf (segmentsIn s 0 u))) (left-start l count))
+  building-start l count m = sym (ap (λ (u : List ℕ). sets m 0 (flatOf (segmentsIn s 0 u))) (pairs-start l count))
 
   pub building-next : (l : List ℕ) (count : ℕ) (m₀ m w : List ℕ) (i o : ℕ) (t : Segment) → Building l count m₀ m i o → i < count → 2 * count ≤ length l
       → t ≡ segmentIn s o (getD l (2 * i) 0) (getD l (2 * i + 1) 0) → w ≡ sets m (6 * i) (numbersOf t) → Building l count m₀ w (i + 1) (o + t .duration)
@@ -140,7 +140,7 @@ module _ (s : List ℕ) where
       sym
       (sym (sets-put (flatOf (segmentsIn s 0 (take (2 * count) l))) m₀ r)
       ∙ inv
-      ∙ ap (λ (u : List ℕ). sets m (6 * i) (flatOf (segmentsIn s o u))) (left-done l count i h)
+      ∙ ap (λ (u : List ℕ). sets m (6 * i) (flatOf (segmentsIn s o u))) (pairs-done l count i h)
       ∙ ap (sets m (6 * i)) (flat-none o))
 
 -- the ranges that are left have no fault: neither has the next one, nor have those after it

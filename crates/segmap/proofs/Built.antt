@@ -25,7 +25,7 @@ use Rattle.segmap.specs.declared.segment.Segment.{Segment}
 use Rattle.segmap.specs.declared.whole.Made.{Made}
 use Rattle.segmap.specs.Segment.{segment, flatOf, endBad, segmentBad, anyBad, mapBad}
 use Rattle.segmap.specs.Build.{ticksFrom, sourceStart, rangeTicks, rangeFault, rangesFault, segmentIn, segmentsIn}
-use Rattle.segmap.specs.Map.{rangesFor, snappedOf, mapNumber, Map, answer, mapOf, madeOf}
+use Rattle.segmap.specs.Map.{rangesFor, snappedOf, mapNumber, Map, mapAnswer, mapOf, madeOf}
 use Rattle.segmap.proofs.SegmentLaws.{flat-back}
 use Rattle.segmap.proofs.TicksLaws.{ticks-none, ticks-split, ticks-more, ticks-most, ticks-within}
 use Rattle.segmap.proofs.BuildLaws.{fault-free, faults-cut}
@@ -176,18 +176,18 @@ segments-still s o (a ∷ []) = tt
 segments-still s o (a ∷ e ∷ r) = (λ q. ticks-none s (decodeOf s a) (e - a) (omega arith), segments-still s (o + ticksFrom s (decodeOf s a) (e - a)) r)
 
 -- ---- an answer, made or refused
-answer-number : (k t : ℕ) (xs : List Segment) → answer k t xs .number ≡ k
-unfolding answer
+answer-number : (k t : ℕ) (xs : List Segment) → mapAnswer k t xs .number ≡ k
+unfolding mapAnswer
 answer-number zero t xs = refl
 answer-number (suc k) t xs = refl
 
-answer-count : (k t : ℕ) (xs : List Segment) → answer k t xs .count ≡ length (answer k t xs .segments)
-unfolding answer
+answer-count : (k t : ℕ) (xs : List Segment) → mapAnswer k t xs .count ≡ length (mapAnswer k t xs .segments)
+unfolding mapAnswer
 answer-count zero t xs = refl
 answer-count (suc k) t xs = refl
 
-answer-refused : (k t : ℕ) (xs : List Segment) → (k ≡ 0 → ⊥) → answer k t xs .segments ≡ []
-unfolding answer
+answer-refused : (k t : ℕ) (xs : List Segment) → (k ≡ 0 → ⊥) → mapAnswer k t xs .segments ≡ []
+unfolding mapAnswer
 answer-refused zero t xs h = absurd (h refl)
 answer-refused (suc k) t xs h = refl
 
@@ -260,17 +260,17 @@ module _ (sheet list : List ℕ) (d lent : ℕ) (made : mapNumber sheet list d l
         ranges = f .1;
       }
 
-  answer-made : mapOf sheet list d lent ≡ answer 0 (timescaleOf sheet) (segmentsIn sheet 0 (snappedOf sheet list d))
+  answer-made : mapOf sheet list d lent ≡ mapAnswer 0 (timescaleOf sheet) (segmentsIn sheet 0 (snappedOf sheet list d))
   unfolding mapOf
-  answer-made = ap (λ (k : ℕ). answer k (timescaleOf sheet) (segmentsIn sheet 0 (snappedOf sheet list d))) made
+  answer-made = ap (λ (k : ℕ). mapAnswer k (timescaleOf sheet) (segmentsIn sheet 0 (snappedOf sheet list d))) made
 
   -- its timescale is the sheet's, and its segments are those of the snapped ranges
   pub made-timescale : mapOf sheet list d lent .timescale ≡ timescaleOf sheet
-  unfolding answer
+  unfolding mapAnswer
   made-timescale = ap (λ (m : Map). m .timescale) answer-made
 
   pub made-segments : mapOf sheet list d lent .segments ≡ segmentsIn sheet 0 (snappedOf sheet list d)
-  unfolding answer
+  unfolding mapAnswer
   made-segments = ap (λ (m : Map). m .segments) answer-made
 
   -- as many as the list has ranges, and so at most 1,024

@@ -15,7 +15,7 @@ use Rattle.sheet.specs.declared.answer.Head.{Head}
 use Rattle.sheet.specs.declared.answer.Sheet.{Sheet}
 use Rattle.sheet.specs.declared.answer.Sheet.the-variants.{Sound, Refused}
 use Rattle.sheet.proofs.SheetLaws.{sound-head, sound-answer, refused-answer}
-use Rattle.trim.specs.TrimList.{listNumber, rangesOf, rangeCount, parseOf, placesOf}
+use Rattle.trim.specs.TrimList.{listNumber, rangesOf, rangeCount, parseOf, rangePlaces}
 use Rattle.trim.specs.declared.list.Parsed.{Parsed}
 use Rattle.trim.proofs.RangeLaws.{parse-number, parse-lent, range-count-most, ranges-length, answered-count, places-front}
 use Rattle.plan.specs.Snap.{snapAll, overlapsFault}
@@ -24,29 +24,29 @@ use Rattle.segmap.specs.declared.segment.Segment.{Segment}
 use Rattle.segmap.specs.declared.whole.Made.{Made}
 use Rattle.segmap.specs.Segment.{flatOf}
 use Rattle.segmap.specs.Build.{rangeTicks, rangesFault, segmentsIn}
-use Rattle.segmap.specs.Map.{rangesFor, snappedOf, mapNumber, answer, mapOf, made, madeOf}
+use Rattle.segmap.specs.Map.{rangesFor, snappedOf, mapNumber, mapAnswer, mapOf, made, madeOf}
 
 -- ---- snapped ranges tested: f is the overlap's number and g that of the ranges
-pub keep-none : (a b f g : ℕ) → f ≡ a → f ≡ 0 → g ≡ b → g ≡ 0 → 0 ≡ a orElse b
-keep-none a b f g e z q y = else-next a b f 0 e z (sym y ∙ q)
+pub ranges-kept : (a b f g : ℕ) → f ≡ a → f ≡ 0 → g ≡ b → g ≡ 0 → 0 ≡ a orElse b
+ranges-kept a b f g e z q y = else-next a b f 0 e z (sym y ∙ q)
 
 -- ---- an answer by its number
-answer-refused : (k t : ℕ) (xs : List Segment) → (k ≡ 0 → ⊥) → madeOf (answer k t xs) ≡ made k 0 0
-unfolding answer madeOf
+answer-refused : (k t : ℕ) (xs : List Segment) → (k ≡ 0 → ⊥) → madeOf (mapAnswer k t xs) ≡ made k 0 0
+unfolding mapAnswer madeOf
 answer-refused zero t xs h = absurd (h refl)
 answer-refused (suc k) t xs h = refl
 
-refused-none : (k t : ℕ) (xs : List Segment) → (k ≡ 0 → ⊥) → flatOf (answer k t xs .segments) ≡ []
-unfolding answer flatOf
+refused-none : (k t : ℕ) (xs : List Segment) → (k ≡ 0 → ⊥) → flatOf (mapAnswer k t xs .segments) ≡ []
+unfolding mapAnswer flatOf
 refused-none zero t xs h = absurd (h refl)
 refused-none (suc k) t xs h = refl
 
-answer-made : (k t : ℕ) (xs : List Segment) → k ≡ 0 → madeOf (answer k t xs) ≡ made 0 t (length xs)
-unfolding answer madeOf
+answer-made : (k t : ℕ) (xs : List Segment) → k ≡ 0 → madeOf (mapAnswer k t xs) ≡ made 0 t (length xs)
+unfolding mapAnswer madeOf
 answer-made k t xs e = rw e
 
-answer-segments : (k t : ℕ) (xs : List Segment) → k ≡ 0 → answer k t xs .segments ≡ xs
-unfolding answer
+answer-segments : (k t : ℕ) (xs : List Segment) → k ≡ 0 → mapAnswer k t xs .segments ≡ xs
+unfolding mapAnswer
 answer-segments k t xs e = rw e
 
 module _ (s list : List ℕ) (d lent : ℕ) where
@@ -129,7 +129,7 @@ module _ (list l : List ℕ) (p : Parsed) (e : p ≡ parseOf list (length l)) (p
     count-few = omega (arith, list-count, range-count-most list list-zero)
 
     -- the ranges that were read, snapped in place
-    pub snapped-is : (s : List ℕ) (n d : ℕ) (m w : List ℕ) → n ≡ framesOf s → m ≡ placesOf list l → w ≡ put (snapAll s n d (take (2 * p .count) m)) m
+    pub snapped-is : (s : List ℕ) (n d : ℕ) (m w : List ℕ) → n ≡ framesOf s → m ≡ rangePlaces list l → w ≡ put (snapAll s n d (take (2 * p .count) m)) m
         → take (2 * p .count) w ≡ snappedOf s list d
     unfolding snappedOf rangesFor
     snapped-is s n d m w en em ew =
@@ -172,7 +172,7 @@ module _ (s list : List ℕ) (d n lent : ℕ) (l m w : List ℕ) (p : Parsed) (s
     list-map x = refused-map s list d lent (p .number) number-list h x
 
   -- the list is read; g is the number of its snapped ranges
-  module _ (z : p .number ≡ 0) (em : m ≡ placesOf list l) (ew : w ≡ put (snapAll s n d (take (2 * p .count) m)) m) (g : ℕ)
+  module _ (z : p .number ≡ 0) (em : m ≡ rangePlaces list l) (ew : w ≡ put (snapAll s n d (take (2 * p .count) m)) m) (g : ℕ)
       (eg : g ≡ overlapsFault 0 (take (2 * p .count) w) orElse rangesFault s n (take (2 * p .count) w)) where
     snapped : take (2 * p .count) w ≡ snappedOf s list d
     snapped = snapped-is list l p e places z s n d m w en em ew

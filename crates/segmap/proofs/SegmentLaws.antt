@@ -17,9 +17,9 @@ pub end-past : (a d : ℕ) → mostTicks < a → true ≡ endBad a d
 unfolding endBad
 end-past a d h = sym (lt-ltb mostTicks (a + d) (omega arith))
 
-pub end-within : (a d : ℕ) → a ≤ mostTicks → ltb (mostTicks - a) d ≡ endBad a d
+pub end-tested : (a d : ℕ) → a ≤ mostTicks → ltb (mostTicks - a) d ≡ endBad a d
 unfolding endBad
-end-within a d h = go (ltb (mostTicks - a) d) refl
+end-tested a d h = go (ltb (mostTicks - a) d) refl
   where
     go : (t : Bool) → ltb (mostTicks - a) d ≡ t → t ≡ ltb mostTicks (a + d)
     go true e = sym (lt-ltb mostTicks (a + d) (omega (arith, ltb-true (mostTicks - a) d e)))
@@ -78,9 +78,9 @@ pub left-many : (m : List ℕ) (r : ℕ) → r ≡ length m % 6 → r ≡ 0 → 
 unfolding mapBad
 left-many m r e z h = yes! _ (eq-eqb (length m % 6) 0 (sym e ∙ z)) (yes! _ (lt-ltb (6 * mostSegments) (length m) h) refl)
 
-pub left-start : (m : List ℕ) (r : ℕ) → r ≡ length m % 6 → r ≡ 0 → length m ≤ 6 * mostSegments → Left m m
+pub segments-start : (m : List ℕ) (r : ℕ) → r ≡ length m % 6 → r ≡ 0 → length m ≤ 6 * mostSegments → Left m m
 unfolding mapBad
-left-start m r e z h =
+segments-start m r e z h =
     record {
       whole = sym e ∙ z;
       answer = sym (yes! _ (eq-eqb (length m % 6) 0 (sym e ∙ z)) (no! _ (le-ltb (6 * mostSegments) (length m) h) refl));

@@ -39,12 +39,12 @@ pub record Map : Type 0 where
   pub segments : List Segment
 
 -- a number, and where it is 0 the timescale and the segments; a refusal has none
-unfoldable pub answer : (number timescale : ℕ) → List Segment → Map
-answer zero t xs = record { number = 0; timescale = t; count = length xs; segments = xs }
-answer (suc k) t xs = record { number = suc k; timescale = 0; count = 0; segments = [] }
+unfoldable pub mapAnswer : (number timescale : ℕ) → List Segment → Map
+mapAnswer zero t xs = record { number = 0; timescale = t; count = length xs; segments = xs }
+mapAnswer (suc k) t xs = record { number = suc k; timescale = 0; count = 0; segments = [] }
 
 unfoldable pub mapOf : (sheet list : List ℕ) (direction lent : ℕ) → Map
-mapOf sheet list d lent = answer (mapNumber sheet list d lent) (timescaleOf sheet) (segmentsIn sheet 0 (snappedOf sheet list d))
+mapOf sheet list d lent = mapAnswer (mapNumber sheet list d lent) (timescaleOf sheet) (segmentsIn sheet 0 (snappedOf sheet list d))
 
 -- what the call returns of it
 abbrev pub made : (number timescale count : ℕ) → Made

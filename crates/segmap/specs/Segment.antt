@@ -11,8 +11,8 @@ use Rattle.segmap.specs.declared.segment.Segment.{Segment}
 abbrev pub sourceOf : Segment → ℕ
 sourceOf x = x .«source_start_dts»
 
-abbrev pub outputOf : Segment → ℕ
-outputOf x = x .«output_start»
+abbrev pub outputStartOf : Segment → ℕ
+outputStartOf x = x .«output_start»
 
 abbrev pub sourceEnd : Segment → ℕ
 sourceEnd x = x .«source_start_dts» + x .duration

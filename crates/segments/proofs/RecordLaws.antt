@@ -41,9 +41,9 @@ pub hit-next : (l : List Segment) (i a b : ℕ) → i < length l → meets (getD
 unfolding findFrom
 hit-next l i a b h t = rw (add-one i, drop-cons l i noSegment h, t)
 
-pub hit-none : (l : List Segment) (i a b : ℕ) → length l ≤ i → i ≤ length l → hitOf (findFrom i (drop i l) a b) ≡ Miss
+pub record-miss : (l : List Segment) (i a b : ℕ) → length l ≤ i → i ≤ length l → hitOf (findFrom i (drop i l) a b) ≡ Miss
 unfolding findFrom
-hit-none l i a b h k = let e : i ≡ length l = omega arith in rw (e, drop-length)
+record-miss l i a b h k = let e : i ≡ length l = omega arith in rw (e, drop-length)
 
 -- ---- six numbers at a place, two by two
 put-front : (l : List ℕ) (i : ℕ) → i ≤ length l → l ≡ put (take i l) l

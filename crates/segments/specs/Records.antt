@@ -5,7 +5,7 @@ use lib.Dec.{leb}
 use lib.ListN.{length, drop, getD}
 use Rattle.base.specs.Refusal.{faultUnless}
 use Rattle.segmap.specs.declared.segment.Segment.{Segment}
-use Rattle.segmap.specs.Segment.{sourceOf, outputOf, segment}
+use Rattle.segmap.specs.Segment.{sourceOf, outputStartOf, segment}
 use Rattle.segmap.specs.Map.{Map, mapOf}
 use Rattle.event.specs.declared.meeting.Hit.{Hit}
 use Rattle.event.specs.declared.meeting.Hit.the-variants.{At}
@@ -30,7 +30,7 @@ noSegment = segment 0 0 0 0 0 0
 -- a segment in the widths of a record: frames and their count of 32 bits
 abbrev pub narrow : Segment → Segment
 narrow x =
-    segment (x .«source_start_frame» % 4294967296) (x .«source_end_frame» % 4294967296) (sourceOf x) (x .«frame_count» % 4294967296) (outputOf x) (x .duration)
+    segment (x .«source_start_frame» % 4294967296) (x .«source_end_frame» % 4294967296) (sourceOf x) (x .«frame_count» % 4294967296) (outputStartOf x) (x .duration)
 
 unfoldable pub narrowed : List Segment → List Segment
 narrowed [] = []
@@ -42,4 +42,4 @@ segmentAt l i = narrow (segment (getD l i 0) (getD l (i + 1) 0) (getD l (i + 2) 
 
 -- the answer of a segment that is met, given the very next one, or zeros
 abbrev pub hitAt : (place : ℕ) (x next : Segment) → Hit
-hitAt i x next = At record { place = i; source = sourceOf x; output = outputOf x; duration = x .duration; later = sourceOf next; span = next .duration }
+hitAt i x next = At record { place = i; source = sourceOf x; output = outputStartOf x; duration = x .duration; later = sourceOf next; span = next .duration }

@@ -6,9 +6,10 @@ use Prim.Native.Nat.{ℕ, _+_, _-_, _≤_}
 use native.Mathlib.Omega.{arith}
 use lib.Dec.{eqb}
 use lib.ListN.{length, take, drop, set, length-append, length-drop}
-use lib.Seq.{take-all, drop-drop, drop-append-seam, length-take-le}
+use lib.Seq.{drop-drop, drop-append-seam, length-take-le}
 use borrow.Author.Tests.{eq-eqb, ne-eqb}
 use Rattle.base.specs.Put.{put, putAt}
+use Rattle.base.proofs.PartLaws.{rest-all}
 use Rattle.base.proofs.PutLaws.{put-nil, put-two, put-snoc, put-append, tail-back, putAt-nil, putAt-zero}
 use Rattle.text.specs.Find.{starts}
 use Rattle.event.specs.declared.setting.Config.{Config}
@@ -23,10 +24,7 @@ use Rattle.kinds.specs.Takes.{State, takes, machineOf}
 use Rattle.session.specs.declared.taking.Taken.{Taken}
 use Rattle.session.specs.Taken.{partsOf, Done}
 use Rattle.session.specs.Stand.{bomSize}
-use Rattle.session.proofs.TakenLaws.{fault-some}
-
-pub rest-all : (a : ℕ) (l : List ℕ) → take (length l - a) (drop a l) ≡ drop a l
-rest-all a l = take-all (length l - a) (drop a l) (rw length-drop (omega arith))
+use Rattle.session.proofs.TakenLaws.{fault-numbered}
 
 -- ---- whether a line begins with one
 pub bom-stands : (b : Bool) (l : List ℕ) → b ≡ starts (239 ∷ 187 ∷ 191 ∷ []) l → b ≡ hasBom l
@@ -175,7 +173,7 @@ module _ (c : Config) (m : List ℕ) where
 
     bom-said : (l : List ℕ) (x : Says State) (z : List ℕ) → Done c m t (drop 3 l) x q r (tail 3) y w w′ → r .number ≡ 0 → r .skip ≡ 0 → 3 ≤ length out → z ≡ put bom (back 3)
         → Done c m t l (withBom x) q (behindLine r) out z w w′
-    bom-said l (faulty f) z d e k h p = absurd (fault-some f (sym (d .number) ∙ e))
+    bom-said l (faulty f) z d e k h p = absurd (fault-numbered f (sym (d .number) ∙ e))
     bom-said l (says u ps) z d e k h p =
         record {
           number = refl;

@@ -42,7 +42,7 @@ use Rattle.session.specs.declared.calling.Opened.{Opened}
 use Rattle.session.specs.declared.running.Going.{Going}
 use Rattle.session.specs.Taken.{Ready, Below}
 use Rattle.session.specs.Stand.{Holds, Shows, Opening, resumeAt}
-use Rattle.session.specs.Answer.{feedCall, finishCall, answerOf, gateOf, gateNumber, lengthsBad, refusalOf, nextBy, nextOf, Answered, endedSession, unchangedFed, endedFed, heldFed, beginAt, OpenAnswered, openOf}
+use Rattle.session.specs.Answer.{feedCall, finishCall, answerOf, sessionGate, gateNumber, lengthsBad, refusalOf, nextBy, nextOf, Answered, endedSession, unchangedFed, endedFed, heldFed, beginAt, OpenAnswered, openOf}
 
 -- ---- the gate
 pub gate-passed : (f e m a : Bool) → gateNumber (gate f e m a) ≡ 0 → (f ≡ false) × (e ≡ false) × (m ≡ false) × (a ≡ false)
@@ -76,9 +76,9 @@ pub record Passed (s : Session) (map : List ℕ) (piece out places : ℕ) : Type
   pub places-fit : leastPlaces ≤ places
   pub total : s .taken + piece ≤ mostTaken
 
-pub passed : (s : Session) (map : List ℕ) (piece out places : ℕ) → refusalOf s map piece out places ≡ 0 → Passed s map piece out places
+pub not-refused : (s : Session) (map : List ℕ) (piece out places : ℕ) → refusalOf s map piece out places ≡ 0 → Passed s map piece out places
 unfolding refusalOf
-passed s map piece out places e =
+not-refused s map piece out places e =
     let g = gate-passed (foreignOf s) (s .ended) (mapBad map) (lengthsBad (s .taken) piece out places) e in
     let a = or-right (ltb mostPiece piece) _ (g .3) in
     let b = or-right (ltb out leastOutput) _ a in
@@ -130,8 +130,8 @@ passed-opening s map piece out places r l p e =
     })
 
 -- ---- the answer by the gate
-pub answer-by : (s : Session) (x : Call) → answerOf s x ≡ respond kit (gateOf s x) (view s) x
-unfolding answerOf gateOf foreignOf
+pub answer-by : (s : Session) (x : Call) → answerOf s x ≡ respond kit (sessionGate s x) (view s) x
+unfolding answerOf sessionGate foreignOf
 answer-by s x = refl
 
 pub record By (g : Gate) (s : Session) (x : Call) (a : model.Answer Columns) (r : Fed) (out out′ places places′ : List ℕ) : Type 0 where
@@ -142,7 +142,7 @@ pub record By (g : Gate) (s : Session) (x : Call) (a : model.Answer Columns) (r 
   pub text : out′ ≡ put (outputOf (a .emits)) out
   pub warnings : places′ ≡ put (placesOf (warningsOf (a .emits))) places
 
-by-gate : (s : Session) (x : Call) (r : Fed) (out out′ places places′ : List ℕ) (g : Gate) → gateOf s x ≡ g
+by-gate : (s : Session) (x : Call) (r : Fed) (out out′ places places′ : List ℕ) (g : Gate) → sessionGate s x ≡ g
     → By g s x (respond kit g (view s) x) r out out′ places places′ → Answered s x r out out′ places places′
 unfolding nextOf
 by-gate s x r out out′ places places′ g e b =
@@ -173,22 +173,22 @@ no-warnings : 0 ≡ length (placesOf (warningsOf []))
 unfolding warningsOf placesOf
 no-warnings = refl
 
-answered-refused : (s : Session) (x : Call) (out places : List ℕ) (n : ℕ) (r : Fed) → n ≡ gateNumber (gateOf s x) → (n ≡ 0 → ⊥) → r ≡ unchangedFed n s
+answered-refused : (s : Session) (x : Call) (out places : List ℕ) (n : ℕ) (r : Fed) → n ≡ gateNumber (sessionGate s x) → (n ≡ 0 → ⊥) → r ≡ unchangedFed n s
     → Answered s x r out out places places
-answered-refused s x out places n r e z f = subst (λ (y : Fed). Answered s x y out out places places) (sym f) (go (gateOf s x) refl)
+answered-refused s x out places n r e z f = subst (λ (y : Fed). Answered s x y out out places places) (sym f) (go (sessionGate s x) refl)
   where
-    go : (g : Gate) → gateOf s x ≡ g → Answered s x (unchangedFed n s) out out places places
+    go : (g : Gate) → sessionGate s x ≡ g → Answered s x (unchangedFed n s) out out places places
     go (refuse k) q =
         by-gate s x _ out out places places (refuse k) q
         (record { number = e ∙ ap gateNumber q; written = no-output; warned = no-warnings; session = refl; text = nothing-written out; warnings = nothing-warned places })
     go admit q = absurd (z (e ∙ ap gateNumber q))
 
-feed-gate : (s : Session) (map piece : List ℕ) (o w : ℕ) → refusalOf s map (length piece) o w ≡ gateNumber (gateOf s (feedCall map piece o w))
-unfolding refusalOf gateOf
+feed-gate : (s : Session) (map piece : List ℕ) (o w : ℕ) → refusalOf s map (length piece) o w ≡ gateNumber (sessionGate s (feedCall map piece o w))
+unfolding refusalOf sessionGate
 feed-gate s map piece o w = refl
 
-finish-gate : (s : Session) (map : List ℕ) (o w : ℕ) → refusalOf s map 0 o w ≡ gateNumber (gateOf s (finishCall map o w))
-unfolding refusalOf gateOf
+finish-gate : (s : Session) (map : List ℕ) (o w : ℕ) → refusalOf s map 0 o w ≡ gateNumber (sessionGate s (finishCall map o w))
+unfolding refusalOf sessionGate
 finish-gate s map o w = refl
 
 pub feed-refused : (s : Session) (map piece out places : List ℕ) (n : ℕ) (r : Fed) → n ≡ refusalOf s map (length piece) (length out) (length places) → (n ≡ 0 → ⊥)
@@ -201,8 +201,8 @@ pub finish-refused : (s : Session) (map out places : List ℕ) (n : ℕ) (r : Fe
 finish-refused s map out places n r e z f =
     answered-refused s (finishCall map (length out) (length places)) out places n r (e ∙ finish-gate s map (length out) (length places)) z f
 
-feed-admits : (s : Session) (map piece : List ℕ) (o w : ℕ) → Passed s map (length piece) o w → gateOf s (feedCall map piece o w) ≡ admit
-unfolding gateOf
+feed-admits : (s : Session) (map piece : List ℕ) (o w : ℕ) → Passed s map (length piece) o w → sessionGate s (feedCall map piece o w) ≡ admit
+unfolding sessionGate
 feed-admits s map piece o w p =
     let a = p .not-foreign in
     let b = p .not-ended in
@@ -210,8 +210,8 @@ feed-admits s map piece o w p =
     let d = p .lengths in
     rw (a, b, c, d)
 
-finish-admits : (s : Session) (map : List ℕ) (o w : ℕ) → Passed s map 0 o w → gateOf s (finishCall map o w) ≡ admit
-unfolding gateOf
+finish-admits : (s : Session) (map : List ℕ) (o w : ℕ) → Passed s map 0 o w → sessionGate s (finishCall map o w) ≡ admit
+unfolding sessionGate
 finish-admits s map o w p =
     let a = p .not-foreign in
     let b = p .not-ended in

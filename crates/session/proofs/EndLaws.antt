@@ -13,7 +13,7 @@ use Rattle.base.specs.Put.{put, putAt}
 use Rattle.base.proofs.Laws.{and-right}
 use Rattle.base.proofs.PutLaws.{put-nil, put-append, tail-back, putAt-nil}
 use Rattle.text.specs.Find.{equals}
-use Rattle.text.specs.Utf8.{utf8}
+use Rattle.chars.specs.Utf8.{utf8}
 use Rattle.text.specs.Line.{concat, linesOf, lineCount, hasLf}
 use Rattle.time.specs.Kind.{kindBad}
 use Rattle.event.specs.declared.setting.Config.{Config}
@@ -48,13 +48,13 @@ use Rattle.session.proofs.StandLaws.{drop-take, lent, back, wrote-more,
 use Rattle.session.proofs.RunLaws.{counts-grown, fit-parsed, places-none, s₀, begun, begin-sizes, begin-native, begin-shows, L}
 
 -- ---- what a finish says in each kind
-pub ends-ass : (kind : ℕ) (s : State) (n : ℕ) → kind ≡ 0 → ends kind s n ≡ says s []
+pub finish-ass : (kind : ℕ) (s : State) (n : ℕ) → kind ≡ 0 → ends kind s n ≡ says s []
 unfolding ends
-ends-ass kind s n e = rw (eq-eqb kind 0 e)
+finish-ass kind s n e = rw (eq-eqb kind 0 e)
 
-pub ends-srt : (kind : ℕ) (s : State) (n : ℕ) → (kind ≡ 0 → ⊥) → ends kind s n ≡ closes srt s n (s .block) []
+pub finish-srt : (kind : ℕ) (s : State) (n : ℕ) → (kind ≡ 0 → ⊥) → ends kind s n ≡ closes srt s n (s .block) []
 unfolding ends
-ends-srt kind s n e = rw (ne-eqb kind 0 e)
+finish-srt kind s n e = rw (ne-eqb kind 0 e)
 
 module _ (c : Config) (m : List ℕ) (t : Counts) (e : Ended) (out y places z : List ℕ) where
   block-ended : (s : State) (x : BlockSays) → Ends c m (ofBlock blankState [] x) t e out y places z → Ends c m (ofBlock s [] x) t e out y places z
@@ -71,7 +71,7 @@ module _ (c : Config) (m : List ℕ) (t : Counts) (e : Ended) (out y places z : 
       → Ends c m (closes srt blankState n (linesOf bytes) []) t e out y places z → Ends c m (ends kind s n) t e out y places z
   block-ends kind s n bytes k p q b =
       let l : linesOf bytes ≡ s .block = ap linesOf q ∙ subst (λ (a : Bool). Parsed a (s .block)) (ne-eqb kind 0 k) p in
-      subst (λ (x : Says State). Ends c m x t e out y places z) (sym (ends-srt kind s n k))
+      subst (λ (x : Says State). Ends c m x t e out y places z) (sym (finish-srt kind s n k))
       (lines-ended s n (s .block) (subst (λ (ls : List (List ℕ)). Ends c m (closes srt blankState n ls []) t e out y places z) l b))
 
 -- ---- the end of the block
@@ -253,9 +253,9 @@ bom-leaves : (P : State → Type 0) (x : Says State) → Leaves P x → Leaves P
 bom-leaves P (faulty f) o = tt
 bom-leaves P (says t ps) o = o
 
-pub line-last : (kind : ℕ) → kindBad kind ≡ false → (s : State) (n : ℕ) (l : List ℕ) → Fit kind s → hasLf l ≡ false
+pub last-line : (kind : ℕ) → kindBad kind ≡ false → (s : State) (n : ℕ) (l : List ℕ) → Fit kind s → hasLf l ≡ false
     → Leaves (λ (t : State). Parsed (eqb kind 0) (t .block)) (takeLine (machineOf kind) s n l)
-line-last kind e s n l f h = go (eqb n 0 && hasBom l) refl
+last-line kind e s n l f h = go (eqb n 0 && hasBom l) refl
   where
     go : (b : Bool) → (eqb n 0 && hasBom l) ≡ b → Leaves (λ (t : State). Parsed (eqb kind 0) (t .block)) (lineWith (machineOf kind) b s n l)
     go true q =
@@ -400,7 +400,7 @@ module _ (c : Config) (m : List ℕ) (at : Going) (held o w : List ℕ) (d : Rea
     finish-last b l r h′ o₁ w₁ o′ w′ sh e g =
         subst (λ (t : Run State). Shows c m (at .counts) t o w r h′ o′ w′) (is-last b)
         (passed-run (takeLine M₀ state (at .lines) rest) l r h′ o₁ w₁ o′ w′
-        (line-last kind (d .kind-known) state (at .lines) rest (sane .holds .fit) (sane .holds .open-line)) sh e g)
+        (last-line kind (d .kind-known) state (at .lines) rest (sane .holds .fit) (sane .holds .open-line)) sh e g)
 
   abbrev L₀ : Lawful kit (c .kind)
   L₀ = L c m at held (length o) (length w) d p

@@ -27,7 +27,7 @@ use Rattle.kinds.specs.Takes.{State}
 use Rattle.kinds.proofs.KindLaws.{concat-snoc}
 use Rattle.session.specs.declared.taking.Taken.{Taken}
 use Rattle.session.specs.declared.running.Going.{Going}
-use Rattle.session.specs.Taken.{after, Wrote, Done, Parsed}
+use Rattle.session.specs.Taken.{stateAfter, Wrote, Done, Parsed}
 use Rattle.session.specs.Stand.{Holds, Shows, Room, ByteRoom, ParsedIn, stoppedAt, holdingTo, linedTo}
 
 -- ---- parts of the held bytes
@@ -151,7 +151,7 @@ module _ (c : Config) (m : List ℕ) (M : Machine State) (t : Counts) (s : State
 
   -- the line passed, and held′ holds the block after it
   pass-by : (x : Says State) (k : List ℕ) (r : Going) (held′ : List ℕ) (e : ℕ) → LineDone k x → told .number ≡ 0
-      → r ≡ linedTo at told e → e ≡ length (concat (after s x .block)) → take e held′ ≡ concat (after s x .block)
+      → r ≡ linedTo at told e → e ≡ length (concat (stateAfter s x .block)) → take e held′ ≡ concat (stateAfter s x .block)
       → Shows c m t (lineEnd M n ps x) o w r held′ (back (at .written) out y) (back (at .warned) places z)
   pass-by (faulty g) k r held′ e d f p a b = absurd (eqb-false (faultNumber g) 0 (fault-number g) (sym (d .number) ∙ f))
   pass-by (says u new) k r held′ e d f p a b =
@@ -185,7 +185,7 @@ module _ (c : Config) (m : List ℕ) (M : Machine State) (t : Counts) (s : State
   pub end-empty : (r : Going) → LineTaken → told .number ≡ 0 → told .added ≡ false → r ≡ linedTo at told 0
       → Shows c m t (lineEnd M n ps (takeLine M s n l)) o w r held (back (at .written) out y) (back (at .warned) places z)
   end-empty r d e a f =
-      let b : after s (takeLine M s n l) .block ≡ [] = line-taken d .block e ∙ ap (λ (v : Bool). cond v (s .block ++ (drop (told .skip) l ∷ [])) []) a in
+      let b : stateAfter s (takeLine M s n l) .block ≡ [] = line-taken d .block e ∙ ap (λ (v : Bool). cond v (s .block ++ (drop (told .skip) l ∷ [])) []) a in
       pass-by (takeLine M s n l) l r held 0 (line-taken d) e f (ap (λ (v : List (List ℕ)). length (concat v)) (sym b)) (ap concat (sym b))
 
   pub end-added : (r : Going) (held′ : List ℕ) → LineTaken → told .number ≡ 0 → told .added ≡ true → told .skip ≤ length (take (at .held) held) - at .start
@@ -194,9 +194,9 @@ module _ (c : Config) (m : List ℕ) (M : Machine State) (t : Counts) (s : State
       → r ≡ linedTo at told (at .held - told .skip)
       → Shows c m t (lineEnd M n ps (takeLine M s n l)) o w r held′ (back (at .written) out y) (back (at .warned) places z)
   end-added r held′ d e a small order room g f =
-      let b : after s (takeLine M s n l) .block ≡ s .block ++ (drop (told .skip) l ∷ []) =
+      let b : stateAfter s (takeLine M s n l) .block ≡ s .block ++ (drop (told .skip) l ∷ []) =
       line-taken d .block e ∙ ap (λ (v : Bool). cond v (s .block ++ (drop (told .skip) l ∷ [])) []) a in
-      let b′ : concat (after s (takeLine M s n l) .block) ≡ concat (s .block) ++ drop (told .skip) l = ap concat b ∙ concat-snoc (s .block) (drop (told .skip) l) in
+      let b′ : concat (stateAfter s (takeLine M s n l) .block) ≡ concat (s .block) ++ drop (told .skip) l = ap concat b ∙ concat-snoc (s .block) (drop (told .skip) l) in
       let size : length (take (at .held) held) ≡ at .held = length-take-le (at .held) held room in
       let a1 : at .held - told .skip ≡ at .start + (at .held - at .start - told .skip) = omega arith in
       let x1 : take (at .start) held ≡ concat (s .block) = sym (take-take (at .start) (at .held) held order) ∙ held-block s n l at held (sh .holds) in

@@ -11,7 +11,7 @@ use borrow.Author.Tests.{le-leb, lt-leb, eq-eqb, ne-eqb}
 use Rattle.base.specs.Limits.{mostBlock}
 use Rattle.base.specs.Put.{put, placedAt, placeAfter}
 use Rattle.base.proofs.PutLaws.{put-nil, after-yes, then-placed}
-use Rattle.text.specs.Utf8.{utf8}
+use Rattle.chars.specs.Utf8.{utf8}
 use Rattle.text.specs.Line.{concat, linesOf, lineCount, lineLength}
 use Rattle.text.proofs.LineLaws.{line-some, lines-cut, lines-end}
 use Rattle.segmap.specs.Segment.{segmentsOf}
@@ -26,11 +26,11 @@ use Rattle.event.specs.Told.{Answer, refusal, answered, countedOf, Tells}
 use Rattle.event.proofs.FineLaws.{Set}
 use Rattle.assline.specs.declared.layout.Columns.{Columns}
 use Rattle.ass.specs.Line.{LineSays, lineSays, faulty as lineFaulty, says as lineSaid}
-use Rattle.ass.specs.Answer.{lineIn, columnsNext, columnsAfter, answerOf as lineAnswer}
+use Rattle.ass.specs.Answer.{lineIn, columnsNext, columnsAfter, lineAnswer as lineAnswer}
 use Rattle.ass.proofs.LineFine.{line-fine, columns-fine}
 use Rattle.block.specs.Style.{srt, blankIn}
 use Rattle.block.specs.Block.{BlockSays, blockSays, faulty as blockFaulty, says as blockSaid}
-use Rattle.block.specs.Answer.{blockIn, answerOf as blockAnswer}
+use Rattle.block.specs.Answer.{blockIn, blockAnswer as blockAnswer}
 use Rattle.block.proofs.FineBlock.{block-fine}
 use Rattle.block.proofs.Fits.{block-in-fits}
 use Rattle.machine.specs.declared.counting.Counts.{Counts}
@@ -59,9 +59,9 @@ module _ (t : Counts) (k : Counted) where
   count-clipped e = rw (e, add-one)
 
 -- ---- the lines of a block, counted
-pub lines-more : (s t u : List ℕ) (n k : ℕ) → lineCount (linesOf s) ≡ n + lineCount (linesOf t) → 0 < length t → k ≡ lineLength t → u ≡ drop k t
+pub count-more : (s t u : List ℕ) (n k : ℕ) → lineCount (linesOf s) ≡ n + lineCount (linesOf t) → 0 < length t → k ≡ lineLength t → u ≡ drop k t
     → lineCount (linesOf s) ≡ n + 1 + lineCount (linesOf u)
-lines-more s t u n k h p e f =
+count-more s t u n k h p e f =
     let g : lineCount (linesOf t) ≡ suc (lineCount (linesOf u)) = rw (lines-cut t p, f, e) in
     omega arith
 
@@ -72,8 +72,8 @@ pub lines-over : (s t : List ℕ) (n : ℕ) → lineCount (linesOf s) ≡ n + li
 lines-over s t n h p = let g : lineCount (linesOf t) ≡ 0 = rw (lines-end t p) in omega arith
 
 -- ---- what is told of a part
-pub fault-some : (f : Fault) → faultNumber f ≡ 0 → ⊥
-fault-some f e = true≢false (sym (eq-eqb (faultNumber f) 0 e) ∙ fault-number f)
+pub fault-numbered : (f : Fault) → faultNumber f ≡ 0 → ⊥
+fault-numbered f e = true≢false (sym (eq-eqb (faultNumber f) 0 e) ∙ fault-number f)
 
 counted-same : (x : Caption) (t : Counts) → countBy (countedOf x) t ≡ count x t
 counted-same none t = refl
@@ -156,7 +156,7 @@ module _ (c : Config) (m : List ℕ) where
   fault-done : (s : State) (l : List ℕ) (t : Counts) (k : Columns) (f : Fault) (j : ℕ) (r : Taken) (o o′ w w′ : List ℕ) → k ≡ s .columns → j ≡ faultNumber f
       → r ≡ quietLine j false t k → Wrote c m [] 0 0 o o′ w w′ → Done c m s l (faulty f) t r o o′ w w′
   fault-done s l t k f j r o o′ w w′ a e q h =
-      rw (q, e) (record { number = refl; columns = a; counts = counts-none t; wrote = h; block = λ z. absurd (fault-some f z) })
+      rw (q, e) (record { number = refl; columns = a; counts = counts-none t; wrote = h; block = λ z. absurd (fault-numbered f z) })
 
   set-of : Ready c m → Set c
   set-of d = record { kind-known = d .kind-known; timescale-good = d .timescale-good }
@@ -192,7 +192,7 @@ module _ (c : Config) (m : List ℕ) where
     line-said : (s : State) (y : LineSays) (x : Told) (v : Columns) (q : Counts) (o o′ w w′ : List ℕ) → s .block ≡ [] → Tells (lineAnswer c (segmentsOf m) y) x o o′ w w′
         → x .number ≡ 0 → v ≡ columnsAfter (s .columns) y → q ≡ countBy (x .counted) t
         → Done c m s l (ofLine s y) t (record { number = 0; skip = 0; added = false; counts = q; columns = v; written = x .written; warned = x .warned }) o o′ w w′
-    line-said s (lineFaulty f) x v q o o′ w w′ g b z a e = absurd (fault-some f (sym (b .number) ∙ z))
+    line-said s (lineFaulty f) x v q o o′ w w′ g b z a e = absurd (fault-numbered f (sym (b .number) ∙ z))
     line-said s (lineSaid d p) x v q o o′ w w′ g b z a e =
         record {
           number = refl;
@@ -239,7 +239,7 @@ module _ (c : Config) (m : List ℕ) where
 
     block-said : (y : BlockSays) (x : Told) (q : Counts) (o o′ w w′ : List ℕ) → Tells (blockAnswer c (segmentsOf m) y) x o o′ w w′ → x .number ≡ 0 → q ≡ countBy (x .counted) t
         → Ends c m (ofBlock blankState [] y) t (record { number = 0; counts = q; written = x .written; warned = x .warned }) o o′ w w′
-    block-said (blockFaulty f) x q o o′ w w′ g z e = absurd (fault-some f (sym (g .number) ∙ z))
+    block-said (blockFaulty f) x q o o′ w w′ g z e = absurd (fault-numbered f (sym (g .number) ∙ z))
     block-said (blockSaid p) x q o o′ w w′ g z e =
         record { number = refl; counts = e ∙ part-counted p x t o o′ w w′ g; wrote = part-wrote p x o o′ w w′ g }
 
@@ -343,7 +343,7 @@ module _ (c : Config) (m : List ℕ) where
     blank-said s (x ∷ ls) e j o o′ y w w′ a g z r p q = go (blockSays srt (suc n - lineCount (x ∷ ls)) (x ∷ ls)) g
       where
         go : (b : BlockSays) → Ends c m (ofBlock blankState [] b) t e o o′ w w′ → Done c m s l (ofBlock s (stays l ∷ []) b) t (blankLine k e j) o y w w′
-        go (blockFaulty f) g = absurd (fault-some f (sym (g .number) ∙ z))
+        go (blockFaulty f) g = absurd (fault-numbered f (sym (g .number) ∙ z))
         go (blockSaid v) g =
             record {
               number = refl;

@@ -38,8 +38,8 @@ unfoldable pub answerOf : Session → Call → model.Answer Columns
 answerOf s x = answer kit (view s) x
 
 -- ---- refusals: 17, 18, 15, 16 in this order
-unfoldable pub gateOf : Session → Call → Gate
-gateOf s x = gate (foreignOf s) (s .ended) (mapBad (lentOf x .map)) (argumentBad (s .taken) x)
+unfoldable pub sessionGate : Session → Call → Gate
+sessionGate s x = gate (foreignOf s) (s .ended) (mapBad (lentOf x .map)) (argumentBad (s .taken) x)
 
 abbrev pub gateNumber : Gate → ℕ
 gateNumber (refuse k) = k
@@ -62,7 +62,7 @@ nextBy admit s (feed l (b ∷ p)) t = stored t
 nextBy admit s (finish l) t = stored t
 
 unfoldable pub nextOf : Session → Call → Session
-nextOf s x = nextBy (gateOf s x) s x (answerOf s x .session)
+nextOf s x = nextBy (sessionGate s x) s x (answerOf s x .session)
 
 -- ---- feed and finish: bytes and places past what was written are as they were
 pub record Answered (s : Session) (x : Call) (r : Fed) (out out′ places places′ : List ℕ) : Type 0 where

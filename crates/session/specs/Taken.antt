@@ -24,17 +24,17 @@ use Rattle.session.specs.declared.taking.Taken.{Taken}
 use Rattle.session.specs.declared.taking.Ended.{Ended}
 
 -- ---- a line's answer: its number, its parts, and the state after it (as it was where the line is faulty)
-abbrev pub numberOf : Says State → ℕ
-numberOf (faulty f) = faultNumber f
-numberOf (says s ps) = 0
+abbrev pub saysNumber : Says State → ℕ
+saysNumber (faulty f) = faultNumber f
+saysNumber (says s ps) = 0
 
 abbrev pub partsOf : Says State → List Part
 partsOf (faulty f) = []
 partsOf (says s ps) = ps
 
-abbrev pub after : State → Says State → State
-after s (faulty f) = s
-after s (says t ps) = t
+abbrev pub stateAfter : State → Says State → State
+stateAfter s (faulty f) = s
+stateAfter s (says t ps) = t
 
 -- kind, timescale and map that 17 and 15 let through
 pub record Ready (c : Config) (map : List ℕ) : Type 0 where
@@ -84,14 +84,14 @@ module _ (c : Config) (m : List ℕ) where
 
   -- the end of a block; a fault writes nothing and counts nothing
   pub record Ends (x : Says State) (t : Counts) (r : Ended) (out out′ places places′ : List ℕ) : Type 0 where
-    pub number : r .number ≡ numberOf x
+    pub number : r .number ≡ saysNumber x
     pub counts : r .counts ≡ countAll t (emitted c m (partsOf x))
     pub wrote : Wrote (partsOf x) (r .written) (r .warned) out out′ places places′
 
   -- the line l, read in the state s, gave x; `added`: it joins the open block, else no block is open afterwards
   pub record Done (s : State) (l : List ℕ) (x : Says State) (t : Counts) (r : Taken) (out out′ places places′ : List ℕ) : Type 0 where
-    pub number : r .number ≡ numberOf x
-    pub columns : r .columns ≡ after s x .columns
+    pub number : r .number ≡ saysNumber x
+    pub columns : r .columns ≡ stateAfter s x .columns
     pub counts : r .counts ≡ countAll t (emitted c m (partsOf x))
     pub wrote : Wrote (partsOf x) (r .written) (r .warned) out out′ places places′
-    pub block : r .number ≡ 0 → after s x .block ≡ cond (r .added) (s .block ++ (drop (r .skip) l ∷ [])) []
+    pub block : r .number ≡ 0 → stateAfter s x .block ≡ cond (r .added) (s .block ++ (drop (r .skip) l ∷ [])) []

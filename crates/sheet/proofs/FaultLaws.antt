@@ -13,7 +13,7 @@ use Rattle.base.proofs.RefusalLaws.{unless-held, unless-failed, else-none, else
 use Rattle.base.proofs.Laws.{lt-via, le-via, yes!, no! }
 use Rattle.blocks.specs.Block.{wordAt, blockHolds}
 use Rattle.sheet.specs.Sheet.{timescaleOf, framesOf, rateNumOf, rateDenOf, spareFault, headFault, recordWord, decodeOf, syncOf, durationOf, recordFault, checkFault, blockFault, recordBlocks, sheetFault}
-use Rattle.sheet.specs.Sheet.{headOf, answer, sheetOf}
+use Rattle.sheet.specs.Sheet.{headOf, sheetAnswer, sheetOf}
 use Rattle.sheet.specs.declared.answer.Head.{Head}
 use Rattle.sheet.specs.declared.answer.Sheet.the-variants.{Sound, Refused}
 
@@ -166,8 +166,8 @@ module _ (s : List ℕ) (some : 0 < length s) (whole : length s % 512 ≡ 0) (c 
           (q ∙ ap (λ (x : ℕ). firstOf (blockFault s x) 1 (recordBlocks x)) en))))
 
 -- ---- the answer
-refused-by : (k r : ℕ) (h : Head) → r ≡ k → (r ≡ 0 → ⊥) → Refused r ≡ answer k h
-unfolding answer
+refused-by : (k r : ℕ) (h : Head) → r ≡ k → (r ≡ 0 → ⊥) → Refused r ≡ sheetAnswer k h
+unfolding sheetAnswer
 refused-by zero r h e n = absurd (n e)
 refused-by (suc k) r h e n = ap Refused e
 
@@ -175,8 +175,8 @@ pub answer-refused : (s : List ℕ) (r : ℕ) → r ≡ sheetFault s → (r ≡ 
 unfolding sheetOf
 answer-refused s r e n = refused-by _ r _ e n
 
-sound-by : (k r : ℕ) (h : Head) → r ≡ k → r ≡ 0 → Sound h ≡ answer k h
-unfolding answer
+sound-by : (k r : ℕ) (h : Head) → r ≡ k → r ≡ 0 → Sound h ≡ sheetAnswer k h
+unfolding sheetAnswer
 sound-by k r h e z = rw (← e, z)
 
 pub answer-sound : (s : List ℕ) (r t n a b : ℕ) → r ≡ sheetFault s → r ≡ 0 → t ≡ timescaleOf s → n ≡ framesOf s → a ≡ rateNumOf s → b ≡ rateDenOf s

@@ -13,7 +13,7 @@ use Rattle.base.specs.Refusal.{_orElse_, faultUnless, firstOf}
 use Rattle.base.proofs.RefusalLaws.{held, else-zero, first-zero}
 use Rattle.blocks.proofs.WordLaws.{word-below}
 use Rattle.sheet.specs.Sheet.{timescaleOf, framesOf, rateNumOf, rateDenOf, decodeOf, durationOf, sheetFault, sheetOf, numberOf, valuesOf}
-use Rattle.sheet.specs.Sheet.{spareFault, headFault, recordWord, recordFault, checkFault, blockFault, recordBlocks, headOf, answer}
+use Rattle.sheet.specs.Sheet.{spareFault, headFault, recordWord, recordFault, checkFault, blockFault, recordBlocks, headOf, sheetAnswer}
 use Rattle.sheet.specs.declared.answer.Head.{Head}
 use Rattle.sheet.specs.declared.answer.Sheet.{Sheet}
 use Rattle.sheet.specs.declared.answer.Sheet.the-variants.{Sound, Refused}
@@ -143,8 +143,8 @@ sheet-numbers s =
 
 -- ---- the answer of `check`
 -- its number is the first fault
-number-by : (k : ℕ) (h : Head) → numberOf (answer k h) ≡ k
-unfolding answer
+number-by : (k : ℕ) (h : Head) → numberOf (sheetAnswer k h) ≡ k
+unfolding sheetAnswer
 number-by zero h = refl
 number-by (suc k) h = refl
 
@@ -154,7 +154,7 @@ number-is s = number-by _ _
 
 -- its values are the head's where it is 0
 pub values-are : (s : List ℕ) → sheetFault s ≡ 0 → valuesOf (sheetOf s) ≡ timescaleOf s ∷ framesOf s ∷ rateNumOf s ∷ rateDenOf s ∷ []
-unfolding sheetOf headOf answer
+unfolding sheetOf headOf sheetAnswer
 values-are s e = rw e
 
 -- what a caller learns from `Sound h`
@@ -165,8 +165,8 @@ pub record Answered (s : List ℕ) (h : Head) : Type 0 where
   pub num-is : h .«rate_num» ≡ rateNumOf s
   pub den-is : h .«rate_den» ≡ rateDenOf s
 
-sound-by : (k : ℕ) (g h : Head) → answer k g ≡ Sound h → (k ≡ 0) × (h ≡ g)
-unfolding answer
+sound-by : (k : ℕ) (g h : Head) → sheetAnswer k g ≡ Sound h → (k ≡ 0) × (h ≡ g)
+unfolding sheetAnswer
 sound-by zero g h e = (refl, cc)
 sound-by (suc k) g h e =
     let z : _≡_ {A = ℕ} 0 1 = cc in
@@ -185,8 +185,8 @@ sound-answer s h a e f =
     }
 
 -- and from `Refused j`
-refused-by : (k j : ℕ) (g : Head) → answer k g ≡ Refused j → (j ≡ k) × (j ≡ 0 → ⊥)
-unfolding answer
+refused-by : (k j : ℕ) (g : Head) → sheetAnswer k g ≡ Refused j → (j ≡ k) × (j ≡ 0 → ⊥)
+unfolding sheetAnswer
 refused-by zero j g e =
     let z : _≡_ {A = ℕ} 0 1 = cc in
     absurd (omega arith)

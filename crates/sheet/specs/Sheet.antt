@@ -98,12 +98,12 @@ unfoldable pub headOf : List ℕ → Head
 headOf s = record { timescale = timescaleOf s; frames = framesOf s; «rate_num» = rateNumOf s; «rate_den» = rateDenOf s }
 
 -- the answer: the head where there is no fault, else the fault
-unfoldable pub answer : ℕ → Head → Sheet
-answer zero h = Sound h
-answer (suc k) h = Refused (suc k)
+unfoldable pub sheetAnswer : ℕ → Head → Sheet
+sheetAnswer zero h = Sound h
+sheetAnswer (suc k) h = Refused (suc k)
 
 unfoldable pub sheetOf : List ℕ → Sheet
-sheetOf s = answer (sheetFault s) (headOf s)
+sheetOf s = sheetAnswer (sheetFault s) (headOf s)
 
 -- an answer's number in document 01's table, and its values
 abbrev pub numberOf : Sheet → ℕ

@@ -7,14 +7,14 @@ use lib.ListN.{set, take}
 use Rattle.base.specs.Refusal.{_orElse_, faultUnless, firstOf}
 use Rattle.blocks.specs.Block.{wordAt, sumWords, blockHolds}
 use Rattle.sheet.specs.Sheet.{timescaleOf, framesOf, rateNumOf, rateDenOf, spareFault, headFault, recordWord, decodeOf, syncOf, durationOf}
-use Rattle.sheet.specs.Sheet.{recordFault, checkFault, blockFault, recordBlocks, sheetFault, headOf, answer, sheetOf, numberOf}
+use Rattle.sheet.specs.Sheet.{recordFault, checkFault, blockFault, recordBlocks, sheetFault, headOf, sheetAnswer, sheetOf, numberOf}
 use Rattle.sheet.proofs.SheetLaws.{number-is}
 use Rattle.sheet.specs.declared.answer.Sheet.the-variants.{Sound}
-use Rattle.sheet_vectors.specs.Small.{blockOf, syncFrame, smallRecords, sheetWith, smallSheet}
+use Rattle.sheet_vectors.specs.Small.{checkedBlock, syncFrame, smallRecords, sheetWith, smallSheet}
 
 -- the small sheet is sound, with its head
 pub small-sound : sheetOf smallSheet ≡ Sound (record { timescale = 30000; frames = 10; «rate_num» = 30000; «rate_den» = 1001 })
-unfolding smallSheet sheetOf answer headOf sheetFault checkFault blockHolds headFault blockFault recordFault recordWord decodeOf recordBlocks spareFault timescaleOf framesOf rateNumOf rateDenOf sumWords wordAt firstOf faultUnless _orElse_
+unfolding smallSheet sheetOf sheetAnswer headOf sheetFault checkFault blockHolds headFault blockFault recordFault recordWord decodeOf recordBlocks spareFault timescaleOf framesOf rateNumOf rateDenOf sumWords wordAt firstOf faultUnless _orElse_
 small-sound = refl
 
 pub small-fault : sheetFault smallSheet ≡ 0
@@ -59,7 +59,7 @@ pub refused-head :
     map sheetFault
     (sheetWith 1000001 64 smallRecords
     ∷ sheetWith 30000 0 smallRecords
-    ∷ (blockOf (0 ∷ 30000 ∷ 10 ∷ 30000 ∷ 1001 ∷ 1 ∷ []) ++ blockOf (1 ∷ smallRecords))
+    ∷ (checkedBlock (0 ∷ 30000 ∷ 10 ∷ 30000 ∷ 1001 ∷ 1 ∷ []) ++ checkedBlock (1 ∷ smallRecords))
     ∷ [])
     ≡ 13 ∷ 13 ∷ 13 ∷ []
 unfolding smallSheet sheetFault checkFault blockHolds headFault blockFault recordFault recordWord decodeOf recordBlocks spareFault timescaleOf framesOf sumWords wordAt firstOf faultUnless _orElse_

@@ -8,13 +8,13 @@ abbrev pub bytesOf : List ℕ → List ℕ
 bytesOf [] = []
 bytesOf (w ∷ ws) = (w % 256) ∷ (w / 256 % 256) ∷ (w / 65536 % 256) ∷ (w / 16777216) ∷ bytesOf ws
 
-abbrev pub total : List ℕ → ℕ
-total [] = 0
-total (w ∷ ws) = w + total ws
+abbrev pub wordSum : List ℕ → ℕ
+wordSum [] = 0
+wordSum (w ∷ ws) = w + wordSum ws
 
 -- a block of the words ws, at most 127, filled up with zeros, and its check
-abbrev pub blockOf : List ℕ → List ℕ
-blockOf ws = bytesOf (ws ++ replicate (127 - length ws) 0 ++ (total ws % 2 ^ 32) ∷ [])
+abbrev pub checkedBlock : List ℕ → List ℕ
+checkedBlock ws = bytesOf (ws ++ replicate (127 - length ws) 0 ++ (wordSum ws % 2 ^ 32) ∷ [])
 
 -- a record: the first word, and the duration
 abbrev pub syncFrame : ℕ → List ℕ
@@ -28,7 +28,7 @@ smallRecords = syncFrame 0 ++ frame 1 ++ frame 2 ++ syncFrame 3 ++ frame 4 ++ fr
 
 -- a sheet of two blocks: timescale t, frame count n, and the words of the records
 abbrev pub sheetWith : ℕ → ℕ → List ℕ → List ℕ
-sheetWith t n rs = blockOf (0 ∷ t ∷ n ∷ 30000 ∷ 1001 ∷ []) ++ blockOf (1 ∷ rs)
+sheetWith t n rs = checkedBlock (0 ∷ t ∷ n ∷ 30000 ∷ 1001 ∷ []) ++ checkedBlock (1 ∷ rs)
 
 unfoldable pub smallSheet : List ℕ
 smallSheet = sheetWith 30000 10 smallRecords

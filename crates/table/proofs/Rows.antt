@@ -6,16 +6,16 @@ use Prim.Native.Nat.{ℕ}
 use Prim.Native.String.{String}
 use Rattle.base.specs.Ascii.{ascii}
 use Rattle.base.specs.Part.{last}
-use Rattle.text.specs.Utf8.{leadLen, secondLow, secondHigh, tail, widthBy, charWidth, codeBy, codeHead}
-use Rattle.text.specs.White.{whiteHigh, white, whiteHead, endsWhite, whiteTail, headFrom, keepFrom, trimHead, trimTail, trim}
+use Rattle.chars.specs.Utf8.{leadLen, secondLow, secondHigh, tail, widthBy, charWidth, codeBy, codeHead}
+use Rattle.chars.specs.White.{whiteHigh, white, whiteHead, endsWhite, whiteTail, headFrom, keepFrom, trimHead, trimTail, trim}
 use Rattle.text.specs.Find.{starts, equals, first, contains, upTo, past}
 use Rattle.text.specs.Piece.{piecesFrom, pieces}
 use Rattle.text.specs.Number.{digit, digits, valueFrom, natural, unsigned, number}
 use Rattle.text.specs.Line.{linesOf, textOf, terminatorLength, terminatorOf}
 use Rattle.time.specs.Kind.{kindBad, unitsOf, markOf, fractionDigits, hourDigits}
 use Rattle.time.specs.Convert.{ticksOf, startUnits, endUnits, scaledUp}
-use Rattle.time.specs.Read.{timeWith, timeIn}
-use Rattle.time.specs.Write.{pad, widthUnder, width, textWith, timeText}
+use Rattle.stamp.specs.Read.{timeWith, timeIn}
+use Rattle.stamp.specs.Write.{pad, widthUnder, width, textWith, timeText}
 use Rattle.segmap.specs.declared.segment.Segment.{Segment}
 use Rattle.segmap.specs.Segment.{segment}
 use Rattle.event.specs.Hit.{meetsParts, findFrom, lostRule}
@@ -29,7 +29,7 @@ use Rattle.assline.specs.Section.{bracketed, inside}
 use Rattle.assline.specs.Frame.{pieceAt, fieldPieces}
 use Rattle.ass.specs.Line.{LineSays, faulty, says, captionSays, wordSays, textSays, lineSays}
 use Rattle.block.specs.Style.{srtEnd, srt}
-use Rattle.block.specs.Block.{timingOf, afterArrow, blockFrame, blockCue, lineSays as blockLineSays, blockSays, says as blockSaid}
+use Rattle.block.specs.Block.{timingOf, afterArrow, blockFrame, blockCue, timingLineSays as blockLineSays, blockSays, says as blockSaid}
 use Rattle.table.specs.Example.{theSegments, setting}
 use Rattle.table.proofs.TheMap.{segments-is}
 

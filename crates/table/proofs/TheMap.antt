@@ -6,8 +6,8 @@ use Prim.Native.Nat.{ℕ}
 use Rattle.base.specs.Refusal.{_orElse_, faultUnless}
 use Rattle.base.specs.Width.{byWidth}
 use Rattle.base.specs.Part.{last}
-use Rattle.text.specs.Utf8.{leadLen, secondLow, secondHigh, tail, widthBy, charWidth, utf8From, utf8, codeBy, codeHead}
-use Rattle.text.specs.White.{whiteHigh, white, whiteHead, endsWhite, whiteTail, headFrom, keepFrom, trimHead, trimTail, trim}
+use Rattle.chars.specs.Utf8.{leadLen, secondLow, secondHigh, tail, widthBy, charWidth, utf8From, utf8, codeBy, codeHead}
+use Rattle.chars.specs.White.{whiteHigh, white, whiteHead, endsWhite, whiteTail, headFrom, keepFrom, trimHead, trimTail, trim}
 use Rattle.text.specs.Find.{starts, first}
 use Rattle.text.specs.Piece.{piecesFrom, pieces}
 use Rattle.text.specs.Number.{digit, digits, valueFrom, natural, unsigned, number}
@@ -16,17 +16,17 @@ use Rattle.blocks.specs.Block.{wordAt}
 use Rattle.sheet.specs.Sheet.{recordWord, decodeOf, syncOf, durationOf, framesOf, timescaleOf}
 use Rattle.sheet_vectors.specs.Small.{smallSheet}
 use Rattle.sheet_vectors.proofs.Vectors.{small-fault, small-timescale, small-frames}
-use Rattle.trim.specs.Token.{rangeOf, boundsOf, pairOf, closedOf, tokenOf, after, stepOf, tokenNumber, tokenRange, tokenEnd}
+use Rattle.trim.specs.Token.{rangeOf, boundsOf, pairOf, closedOf, tokenOf, behindEnd, stepOf, tokenNumber, tokenRange, tokenEnd}
 use Rattle.trim.specs.TrimList.{tokensOf, tokensNumber, rangesIn, headNumber, listNumber, rangesOf}
 use Rattle.plan.specs.Snap.{lastBelow, firstFrom, floorSync, ceilSync, snapStart, snapEnd, snapAll, overlapsFault}
 use Rattle.segmap.specs.declared.segment.Segment.{Segment}
 use Rattle.segmap.specs.Segment.{segment}
 use Rattle.segmap.specs.Build.{ticksFrom, sourceStart, rangeTicks, rangeFault, rangesFault, segmentIn, segmentsIn}
-use Rattle.segmap.specs.Map.{rangesFor, snappedOf, mapNumber, Map, answer, mapOf}
+use Rattle.segmap.specs.Map.{rangesFor, snappedOf, mapNumber, Map, mapAnswer, mapOf}
 use Rattle.table.specs.Example.{theList, theMap, theSegments}
 
 list-number : listNumber theList ≡ 0
-unfolding listNumber headNumber tokensNumber tokensOf pieces piecesFrom starts stepOf after tokenOf closedOf pairOf boundsOf rangeOf tokenNumber tokenEnd number natural digits digit valueFrom unsigned blank trim trimTail trimHead keepFrom headFrom whiteTail endsWhite last whiteHead white whiteHigh utf8 utf8From codeHead codeBy charWidth widthBy leadLen secondLow secondHigh tail faultUnless _orElse_
+unfolding listNumber headNumber tokensNumber tokensOf pieces piecesFrom starts stepOf behindEnd tokenOf closedOf pairOf boundsOf rangeOf tokenNumber tokenEnd number natural digits digit valueFrom unsigned blank trim trimTail trimHead keepFrom headFrom whiteTail endsWhite last whiteHead white whiteHigh utf8 utf8From codeHead codeBy charWidth widthBy leadLen secondLow secondHigh tail faultUnless _orElse_
 list-number = refl
 
 list-ranges : rangesOf theList ≡ 0 ∷ 3 ∷ 6 ∷ 9 ∷ []
@@ -62,7 +62,7 @@ number-is = rw (small-fault, list-number, snapped-is, small-frames, overlap-none
 
 -- all that `mapper` prints
 pub map-is : theMap ≡ record { number = 0; timescale = 30000; count = 2; segments = segment 0 3 0 3 0 3003 ∷ segment 6 10 6006 4 3003 4004 ∷ [] }
-unfolding mapOf answer
+unfolding mapOf mapAnswer
 map-is = rw (number-is, small-timescale, snapped-is, segments-are)
 
 pub segments-is : theSegments ≡ segment 0 3 0 3 0 3003 ∷ segment 6 10 6006 4 3003 4004 ∷ []

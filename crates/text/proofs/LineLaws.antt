@@ -13,7 +13,7 @@ use lib.ListN.{length, take, drop, getD, length-drop, length-take, length-append
 use mathlib.Core.Bool.{true≢false}
 use Rattle.base.specs.Width.{byWidth}
 use Rattle.base.proofs.Laws.{yes!, no! }
-use Rattle.text.specs.White.{whiteHead, headFrom, keepFrom, trimHead, trimTail, trim}
+use Rattle.chars.specs.White.{whiteHead, headFrom, keepFrom, trimHead, trimTail, trim}
 use Rattle.text.specs.declared.decimal.Number.{Number}
 use Rattle.text.specs.declared.decimal.Number.the-variants.{Value, Bad}
 use Rattle.text.specs.Number.{digits, valueFrom, natural, unsigned, number}
@@ -221,3 +221,7 @@ pub lines-back : (ls : List (List ℕ)) (r : List ℕ) → Finished ls → lines
 lines-back [] r f = refl
 lines-back (l ∷ ls) r f =
     ap linesOf (append-assoc l (concat ls) r) ∙ line-then l (concat ls ++ r) (f .0) ∙ ap (λ (x : List (List ℕ)). l ∷ x) (lines-back ls r (f .1))
+
+-- what is left behind a line is shorter
+pub line-less : (t u : List ℕ) (n : ℕ) → n ≡ lineLength t → 0 < length t → u ≡ drop n t → length u < length t
+line-less t u n e h d = let a = line-some t h in subst (λ (x : List ℕ). length x < length t) (sym d) (simp length-drop (omega arith))

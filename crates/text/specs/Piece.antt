@@ -15,3 +15,7 @@ piecesFrom p (b ∷ s) zero = cond (starts p (b ∷ s)) ([] ∷ piecesFrom p s (
 -- the pieces of s between the places where p stands (p not empty): one more than these, so at least one
 unfoldable pub pieces : List ℕ → List ℕ → List (List ℕ)
 pieces p s = piecesFrom p s 0
+
+-- `,`, which parts columns, fields and the two numbers of a trim
+abbrev pub comma : List ℕ
+comma = 44 ∷ []

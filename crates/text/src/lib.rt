@@ -1,11 +1,11 @@
+// Patterns, decimal numbers and lines of a text.
 mod decimal;
 mod line;
 mod pattern;
-mod utf8;
-mod white;
 
 pub use decimal::Number;
 pub use decimal::number_to;
+pub use line::is_blank;
 pub use line::line_length;
 pub use line::terminator_of;
 pub use line::text_of;
@@ -15,12 +15,3 @@ pub use pattern::has;
 pub use pattern::past;
 pub use pattern::starts_with;
 pub use pattern::up_to;
-pub use utf8::char_width;
-pub use utf8::is_tail;
-pub use utf8::is_utf8;
-pub use white::is_blank;
-pub use white::trim_head;
-pub use white::trim_tail;
-pub use white::trimmed;
-pub use white::white_head;
-pub use white::white_tail;

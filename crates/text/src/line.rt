@@ -1,6 +1,6 @@
 // Lines and their terminators.
 ghost use mathlib.Core.Path.{_≡_};
-ghost use Rattle.text.specs.Line.{lineLength, terminatorLength, textOf, terminatorOf};
+ghost use Rattle.text.specs.Line.{lineLength, terminatorLength, textOf, terminatorOf, blank};
 
 // How many bytes the first line of `s` has, with its LF.
 pub fn line_length(s: &[u8]) -> usize
@@ -42,4 +42,11 @@ pub fn terminator_of(l: &[u8]) -> &[u8]
     ensures { λ r. ⌜ now r ≡ terminatorOf (now (l .entry)) ⌝ }
 {
     base::rest(l, base::less(l.len(), terminator_length(l)))
+}
+
+// Whether `l`, trimmed, is empty.
+pub fn is_blank(l: &[u8]) -> bool
+    ensures { λ r. ⌜ r ≡ blank (now (l .entry)) ⌝ }
+{
+    chars::trim_head(l).len() == 0
 }

@@ -1,19 +1,9 @@
 -- Worked examples, by computation.
-use Prim.Native.Nat.{ℕ, _+_, _-_, _^_}
-use Rattle.base.specs.Ascii.{ascii}
+use Prim.Native.Nat.{_+_, _-_, _^_}
 use mathlib.Core.Path.{_≡_, refl}
-use mathlib.Core.List.{List}
-use Rattle.base.specs.Part.{last}
 use Rattle.base.specs.Refusal.{_orElse_, faultUnless}
-use Rattle.text.specs.Utf8.{leadLen, secondLow, secondHigh, tail, widthBy, charWidth, codeBy, codeHead}
-use Rattle.text.specs.White.{whiteHigh, white, whiteHead, endsWhite, whiteTail, headFrom, keepFrom, trimHead, trimTail, trim}
-use Rattle.text.specs.Find.{starts, first, upTo, past}
-use Rattle.text.specs.Number.{digit, digits, valueFrom, natural, unsigned, number}
-use Rattle.time.specs.declared.read.Time.the-variants.{At}
-use Rattle.time.specs.Kind.{kindBad, unitsOf, markOf, fractionDigits, hourDigits}
+use Rattle.time.specs.Kind.{kindBad}
 use Rattle.time.specs.Convert.{scaledUp, ticksOf, startUnits, endUnits, timescaleBad, settingNumber, unitsNumber, ticksNumber, convertedTo}
-use Rattle.time.specs.Read.{timeWith, timeIn, timeNumber, timeUnits, timeMark}
-use Rattle.time.specs.Write.{pad, widthUnder, width, textWith, timeText}
 
 -- ---- conversions: T = 30000, a stretch (source 0, output 0) of 3003 ticks, and one (source 6006, output 3003)
 -- 21–25 hundredths through the second: 10–15
@@ -38,52 +28,3 @@ ticks-limits = (refl, refl, refl)
 refused-value : (convertedTo (unitsNumber 2 1000 5) 7 .value ≡ 0) × (convertedTo (unitsNumber 1 1000 5) 7 .value ≡ 7)
 unfolding convertedTo unitsNumber settingNumber timescaleBad kindBad faultUnless _orElse_
 refused-value = (refl, refl)
-
--- ---- times read
-read-ass : (timeIn 0 (ascii "0:59:59.99") ≡ At 359999 46)
-    × (timeIn 0 (ascii "9999:59:59.99") ≡ At 3599999999 46)
-    × (timeIn 0 (ascii "0:00:00.5") ≡ At 5 46)
-    × (timeIn 0 (ascii "+1:2:+03.000005") ≡ At 372305 46)
-    × (timeIn 0 (ascii " \t0:0:1.0  ") ≡ At 100 46)
-unfolding timeIn timeWith kindBad unitsOf markOf trim trimHead trimTail headFrom keepFrom whiteTail endsWhite whiteHead white whiteHigh codeHead codeBy charWidth widthBy leadLen secondLow secondHigh tail last upTo past first starts number natural unsigned digits digit valueFrom
-read-ass = (refl, refl, refl, refl, refl)
-
-read-srt : (timeIn 1 (ascii "00:00:01,500") ≡ At 1500 44)
-    × (timeIn 1 (ascii "100:00:00,45") ≡ At 360000045 44)
-    × (timeIn 1 (ascii "0:0:0,5") ≡ At 5 44)
-unfolding timeIn timeWith kindBad unitsOf markOf trim trimHead trimTail headFrom keepFrom whiteTail endsWhite whiteHead white whiteHigh codeHead codeBy charWidth widthBy leadLen secondLow secondHigh tail last upTo past first starts number natural unsigned digits digit valueFrom
-read-srt = (refl, refl, refl)
-
--- each part past its limit, a missing part, white space inside, the other kind's mark, and no such kind
-read-bad : (timeNumber (timeIn 0 (ascii "0:60:00.00")) ≡ 22)
-    × (timeNumber (timeIn 0 (ascii "0:00:60.00")) ≡ 22)
-    × (timeNumber (timeIn 0 (ascii "10000:00:00.00")) ≡ 22)
-    × (timeNumber (timeIn 0 (ascii "0:00:00.100")) ≡ 22)
-    × (timeNumber (timeIn 1 (ascii "00:00:00,1000")) ≡ 22)
-    × (timeNumber (timeIn 0 (ascii "0:+:00.00")) ≡ 22)
-    × (timeNumber (timeIn 0 (ascii "0:00.00")) ≡ 22)
-    × (timeNumber (timeIn 0 (ascii "0:00:00")) ≡ 22)
-    × (timeNumber (timeIn 0 (ascii "0: 1:00.00")) ≡ 22)
-    × (timeNumber (timeIn 0 (ascii "")) ≡ 22)
-    × (timeNumber (timeIn 1 (ascii "00:00:01.500")) ≡ 22)
-    × (timeNumber (timeIn 0 (ascii "0:00:01,50")) ≡ 22)
-    × (timeNumber (timeIn 2 (ascii "00:00:01.500")) ≡ 22)
-unfolding timeIn timeWith kindBad unitsOf markOf trim trimHead trimTail headFrom keepFrom whiteTail endsWhite whiteHead white whiteHigh codeHead codeBy charWidth widthBy leadLen secondLow secondHigh tail last upTo past first starts number natural unsigned digits digit valueFrom
-read-bad = (refl, refl, refl, refl, refl, refl, refl, refl, refl, refl, refl, refl, refl)
-
-read-values : (timeNumber (timeIn 0 (ascii "0:00:00.21")) ≡ 0)
-    × (timeUnits (timeIn 0 (ascii "0:00:00.21")) ≡ 21)
-    × (timeMark (timeIn 0 (ascii "0:00:00.21")) ≡ 46)
-unfolding timeIn timeWith kindBad unitsOf markOf trim trimHead trimTail headFrom keepFrom whiteTail endsWhite whiteHead white whiteHigh codeHead codeBy charWidth widthBy leadLen secondLow secondHigh tail last upTo past first starts number natural unsigned digits digit valueFrom
-read-values = (refl, refl, refl)
-
--- ---- times written
-
-written : (timeText 0 46 359999 ≡ ascii "0:59:59.99")
-    × (timeText 0 46 0 ≡ ascii "0:00:00.00")
-    × (timeText 0 46 3600000000 ≡ ascii "10000:00:00.00")
-    × (timeText 1 44 45296789 ≡ ascii "12:34:56,789")
-    × (timeText 1 44 5 ≡ ascii "00:00:00,005")
-    × (timeText 1 46 1500 ≡ ascii "00:00:01.500")
-unfolding timeText textWith kindBad unitsOf fractionDigits hourDigits width widthUnder pad
-written = (refl, refl, refl, refl, refl, refl)

@@ -1,6 +1,4 @@
--- Caption times: the kinds, units and ticks, how far a written time may lie from where it belongs, and times as text.
+-- Caption times: the kinds, units and ticks, how far a written time may lie from where it belongs.
 pub mod Kind
 pub mod Convert
 pub mod Near
-pub mod Read
-pub mod Write

@@ -1,8 +1,6 @@
-// Caption times of each kind: conversions between units (U to the second) and ticks (T to the second), and times as text.
+// Caption times of each kind: conversions between units (U to the second) and ticks (T to the second).
 mod convert;
 mod kind;
-mod read;
-mod write;
 
 pub use convert::Converted;
 pub use convert::core_end;
@@ -14,10 +12,8 @@ pub use convert::ticks_to_units_floor;
 pub use convert::timescale_bad;
 pub use convert::units_number;
 pub use convert::units_to_ticks;
+pub use kind::fraction_digits;
+pub use kind::hour_digits;
 pub use kind::kind_bad;
 pub use kind::mark_of;
 pub use kind::units_of;
-pub use read::Time;
-pub use read::read_time;
-pub use write::write_time;
-pub use write::write_time_at;

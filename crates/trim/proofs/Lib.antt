@@ -1,3 +1,4 @@
+pub mod MarkLaws
 pub mod TokenLaws
 pub mod TokensLaws
 pub mod RangeLaws

@@ -14,10 +14,10 @@ use Rattle.base.specs.Put.{put}
 use Rattle.base.proofs.Laws.{yes!, no! }
 use Rattle.base.proofs.RefusalLaws.{else-zero, else-none, held, unless-held}
 use Rattle.base.proofs.PutLaws.{take-put}
-use Rattle.text.specs.Utf8.{utf8}
+use Rattle.chars.specs.Utf8.{utf8}
 use Rattle.text.specs.Line.{blank}
 use Rattle.trim.specs.declared.list.Parsed.{Parsed}
-use Rattle.trim.specs.TrimList.{tokensOf, tokensNumber, headNumber, listNumber, rangeCount, rangesOf, parsed, answered, parseNumber, parseOf, placesOf}
+use Rattle.trim.specs.TrimList.{tokensOf, tokensNumber, headNumber, listNumber, rangeCount, rangesOf, parsed, listAnswer, parseNumber, parseOf, rangePlaces}
 use Rattle.trim.proofs.TokensLaws.{Ascending, zero-taken, number-table, tokens-one}
 
 -- ---- the numbers
@@ -134,22 +134,22 @@ unfolding parseNumber faultUnless _orElse_
 parse-short s lent h = rw (lt-leb mostPlaces lent h)
 
 pub parse-number : (s : List ℕ) (lent : ℕ) → parseOf s lent .number ≡ parseNumber s lent
-unfolding parseOf answered
+unfolding parseOf listAnswer
 parse-number s lent = refl
 
-pub answered-count : (s : List ℕ) (n : ℕ) → n ≡ 0 → answered n s .count ≡ rangeCount s
-unfolding answered
+pub answered-count : (s : List ℕ) (n : ℕ) → n ≡ 0 → listAnswer n s .count ≡ rangeCount s
+unfolding listAnswer
 answered-count s n e = sym (yes! _ (eq-eqb n 0 e) refl)
 
-pub places-written : (s l : List ℕ) → mostPlaces ≤ length l → listNumber s ≡ 0 → placesOf s l ≡ put (rangesOf s) l
-unfolding placesOf
+pub places-written : (s l : List ℕ) → mostPlaces ≤ length l → listNumber s ≡ 0 → rangePlaces s l ≡ put (rangesOf s) l
+unfolding rangePlaces
 places-written s l h z = sym (yes! _ (eq-eqb _ 0 (parse-lent s (length l) h ∙ z)) refl)
 
-pub places-kept : (s l : List ℕ) → (parseNumber s (length l) ≡ 0 → ⊥) → placesOf s l ≡ l
-unfolding placesOf
+pub places-kept : (s l : List ℕ) → (parseNumber s (length l) ≡ 0 → ⊥) → rangePlaces s l ≡ l
+unfolding rangePlaces
 places-kept s l h = sym (no! _ (ne-eqb _ 0 h) refl)
 
 -- the first numbers of the places are the ranges
-pub places-front : (s l : List ℕ) → mostPlaces ≤ length l → listNumber s ≡ 0 → take (2 * rangeCount s) (placesOf s l) ≡ rangesOf s
+pub places-front : (s l : List ℕ) → mostPlaces ≤ length l → listNumber s ≡ 0 → take (2 * rangeCount s) (rangePlaces s l) ≡ rangesOf s
 places-front s l h z =
-    ap (λ (n : ℕ). take n (placesOf s l)) (sym (ranges-length s z)) ∙ ap (take (length (rangesOf s))) (places-written s l h z) ∙ take-put (rangesOf s) l
+    ap (λ (n : ℕ). take n (rangePlaces s l)) (sym (ranges-length s z)) ∙ ap (take (length (rangesOf s))) (places-written s l h z) ∙ take-put (rangesOf s) l

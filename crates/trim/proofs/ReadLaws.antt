@@ -14,14 +14,14 @@ use Rattle.base.specs.Put.{put}
 use Rattle.base.proofs.Laws.{yes!, no! }
 use Rattle.base.proofs.RefusalLaws.{else-found, else-none}
 use Rattle.base.proofs.PutLaws.{take-put, put-take, sets-put}
-use Rattle.text.specs.Utf8.{utf8}
+use Rattle.chars.specs.Utf8.{utf8}
 use Rattle.text.specs.Line.{blank}
 use Rattle.text.specs.Find.{first}
 use Rattle.trim.specs.declared.token.Token.{Token}
 use Rattle.trim.specs.declared.token.Token.the-variants.{Range, Fault}
 use Rattle.trim.specs.declared.list.Parsed.{Parsed}
 use Rattle.trim.specs.Token.{mark, stepOf}
-use Rattle.trim.specs.TrimList.{tokensOf, tokensNumber, rangesIn, headNumber, listNumber, rangeCount, rangesOf, parsed, answered, parseNumber, parseOf, placesOf}
+use Rattle.trim.specs.TrimList.{tokensOf, tokensNumber, rangesIn, headNumber, listNumber, rangeCount, rangesOf, parsed, listAnswer, parseNumber, parseOf, rangePlaces}
 use Rattle.trim.proofs.TokensLaws.{tokens-turn, tokens-last, tokens-next, tokens-one, fault-some, number-fault, number-range, number-many, number-done, ranges-range, ranges-done, zero-taken}
 use Rattle.trim.proofs.RangeLaws.{ranges-length, range-count-most, parse-lent, parse-short, places-written, places-kept}
 
@@ -44,16 +44,16 @@ module _ (s : List ℕ) where
   head-passed f b h u q v p = rw (le-leb (length s) mostListBytes h, ← u, q, ← v, p)
 
 -- ---- an answer
-answered-fault : (s : List ℕ) (n : ℕ) → (n ≡ 0 → ⊥) → parsed n 0 ≡ answered n s
-unfolding answered
+answered-fault : (s : List ℕ) (n : ℕ) → (n ≡ 0 → ⊥) → parsed n 0 ≡ listAnswer n s
+unfolding listAnswer
 answered-fault s n h = ap (parsed n) (no! _ (ne-eqb n 0 h) refl)
 
-answered-zero : (s : List ℕ) (k : ℕ) → k ≡ rangeCount s → parsed 0 k ≡ answered 0 s
-unfolding answered
+answered-zero : (s : List ℕ) (k : ℕ) → k ≡ rangeCount s → parsed 0 k ≡ listAnswer 0 s
+unfolding listAnswer
 answered-zero s k e = ap (parsed 0) e
 
-answered-number : (s : List ℕ) (n : ℕ) → answered n s .number ≡ n
-unfolding answered
+answered-number : (s : List ℕ) (n : ℕ) → listAnswer n s .number ≡ n
+unfolding listAnswer
 answered-number s n = refl
 
 -- ---- a turn of the loop. The list's number, count and ranges are told by what is left of it
@@ -66,11 +66,11 @@ module _ (s t p : List ℕ) (prev count k : ℕ) (token : Token) (inv : tokensNu
   number-here ts q = inv ∙ ap (λ (l : ℕ). tokensNumber l prev (tokensOf t)) (next-left count h) ∙ ap (tokensNumber (suc (mostTrims - (count + 1))) prev) q
 
   -- a refused token
-  pub read-fault : (n : ℕ) (r : Parsed) → token ≡ Fault n → r ≡ parsed n 0 → r ≡ answered (tokensNumber mostTrims 0 (tokensOf s)) s
+  pub read-fault : (n : ℕ) (r : Parsed) → token ≡ Fault n → r ≡ parsed n 0 → r ≡ listAnswer (tokensNumber mostTrims 0 (tokensOf s)) s
   read-fault n r q g =
       let x : Fault n ≡ stepOf prev p = sym q ∙ f in
       let w : tokensNumber mostTrims 0 (tokensOf s) ≡ n = number-here _ (tokens-turn t p k e d) ∙ number-fault (mostTrims - (count + 1)) prev n p _ x in
-      g ∙ answered-fault s n (fault-some prev n p x) ∙ ap (λ (m : ℕ). answered m s) (sym w)
+      g ∙ answered-fault s n (fault-some prev n p x) ∙ ap (λ (m : ℕ). listAnswer m s) (sym w)
 
   pub fault-unread : (n : ℕ) (r : Parsed) (x y : List ℕ) → token ≡ Fault n → r ≡ parsed n 0 → r .number ≡ 0 → x ≡ y
   fault-unread n r x y q g z = absurd (fault-some prev n p (sym q ∙ f) (sym (ap (λ (u : Parsed). u .number) g) ∙ z))
@@ -84,11 +84,11 @@ module _ (s t p : List ℕ) (prev count k : ℕ) (token : Token) (inv : tokensNu
     number-last : length t ≤ k → tokensNumber mostTrims 0 (tokensOf s) ≡ 0
     number-last l = number-next [] (tokens-last t p k e d l) ∙ number-done (mostTrims - (count + 1)) b
 
-    pub read-last : (r : Parsed) → length (tokensOf s) ≡ count + length (tokensOf t) → length t ≤ k → r ≡ parsed 0 (count + 1) → r ≡ answered (tokensNumber mostTrims 0 (tokensOf s)) s
+    pub read-last : (r : Parsed) → length (tokensOf s) ≡ count + length (tokensOf t) → length t ≤ k → r ≡ parsed 0 (count + 1) → r ≡ listAnswer (tokensNumber mostTrims 0 (tokensOf s)) s
     unfolding rangeCount
     read-last r c l g =
         let w : length (tokensOf t) ≡ 1 = ap length (tokens-last t p k e d l) in
-        g ∙ answered-zero s (count + 1) (omega arith) ∙ ap (λ (m : ℕ). answered m s) (sym (number-last l))
+        g ∙ answered-zero s (count + 1) (omega arith) ∙ ap (λ (m : ℕ). listAnswer m s) (sym (number-last l))
 
     pub number-again : (u : List ℕ) → k < length t → u ≡ drop (k + 2) t → tokensNumber mostTrims 0 (tokensOf s) ≡ tokensNumber (mostTrims - (count + 1)) b (tokensOf u)
     number-again u l g = number-next (tokensOf u) (tokens-next t p u k e d l g)
@@ -123,11 +123,11 @@ module _ (s t p : List ℕ) (prev count k : ℕ) (token : Token) (inv : tokensNu
           sym (sym (sets-put (rangesIn (tokensOf s)) l₀ (omega (arith, w .0, w .1))) ∙ places-next [] (tokens-last t p k e d z) ∙ y)
 
 pub read-many : (s t : List ℕ) (prev count : ℕ) (r : Parsed) → tokensNumber mostTrims 0 (tokensOf s) ≡ tokensNumber (mostTrims - count) prev (tokensOf t) → mostTrims ≤ count → r ≡ parsed 7 0
-    → r ≡ answered (tokensNumber mostTrims 0 (tokensOf s)) s
+    → r ≡ listAnswer (tokensNumber mostTrims 0 (tokensOf s)) s
 read-many s t prev count r inv h g =
     let z : mostTrims - count ≡ 0 = omega arith in
     let w : tokensNumber mostTrims 0 (tokensOf s) ≡ 7 = inv ∙ ap (λ (l : ℕ). tokensNumber l prev (tokensOf t)) z ∙ number-many prev (tokensOf t) (tokens-one t) in
-    g ∙ answered-fault s 7 (λ e. omega arith) ∙ ap (λ (m : ℕ). answered m s) (sym w)
+    g ∙ answered-fault s 7 (λ e. omega arith) ∙ ap (λ (m : ℕ). listAnswer m s) (sym w)
 
 pub many-unread : (r : Parsed) (x y : List ℕ) → r ≡ parsed 7 0 → r .number ≡ 0 → x ≡ y
 many-unread r x y g z = absurd (let n : 7 ≡ 0 = sym (ap (λ (u : Parsed). u .number) g) ∙ z in omega arith)
@@ -136,16 +136,16 @@ pub drop-shorter : (n k : ℕ) (t u : List ℕ) → length t ≤ n → u ≡ dro
 drop-shorter n k t u h e = subst (λ (x : List ℕ). length x ≤ n) (sym e) (simp length-drop (omega arith))
 
 -- ---- the whole list
-pub read-head : (s : List ℕ) (n : ℕ) (r : Parsed) → n ≡ headNumber s → (n ≡ 0 → ⊥) → r ≡ parsed n 0 → r ≡ answered (listNumber s) s
+pub read-head : (s : List ℕ) (n : ℕ) (r : Parsed) → n ≡ headNumber s → (n ≡ 0 → ⊥) → r ≡ parsed n 0 → r ≡ listAnswer (listNumber s) s
 unfolding listNumber
-read-head s n r e h g = g ∙ answered-fault s n h ∙ ap (λ (m : ℕ). answered m s) (e ∙ sym (else-found (headNumber s) _ (λ z. h (e ∙ z))))
+read-head s n r e h g = g ∙ answered-fault s n h ∙ ap (λ (m : ℕ). listAnswer m s) (e ∙ sym (else-found (headNumber s) _ (λ z. h (e ∙ z))))
 
 pub head-unread : (n : ℕ) (r : Parsed) (x y : List ℕ) → (n ≡ 0 → ⊥) → r ≡ parsed n 0 → r .number ≡ 0 → x ≡ y
 head-unread n r x y h g z = absurd (h (sym (ap (λ (u : Parsed). u .number) g) ∙ z))
 
 -- no answer counts more ranges than are allowed
-count-most : (s : List ℕ) (r : Parsed) → r ≡ answered (listNumber s) s → r .count ≤ mostTrims
-unfolding answered
+count-most : (s : List ℕ) (r : Parsed) → r ≡ listAnswer (listNumber s) s → r .count ≤ mostTrims
+unfolding listAnswer
 count-most s r e = go (eqb (listNumber s) 0) refl (ap (λ (u : Parsed). u .count) e)
   where
     go : (t : Bool) → eqb (listNumber s) 0 ≡ t → r .count ≡ cond t (rangeCount s) 0 → r .count ≤ mostTrims
@@ -157,30 +157,30 @@ head-count n r g =
     let q : r .count ≡ 0 = ap (λ (u : Parsed). u .count) g in
     omega arith
 
-pub read-rest : (s : List ℕ) (n : ℕ) (r : Parsed) → n ≡ headNumber s → n ≡ 0 → r ≡ answered (tokensNumber mostTrims 0 (tokensOf s)) s → r ≡ answered (listNumber s) s
+pub read-rest : (s : List ℕ) (n : ℕ) (r : Parsed) → n ≡ headNumber s → n ≡ 0 → r ≡ listAnswer (tokensNumber mostTrims 0 (tokensOf s)) s → r ≡ listAnswer (listNumber s) s
 unfolding listNumber
-read-rest s n r e z g = g ∙ ap (λ (m : ℕ). answered m s) (sym (else-none _ (sym e ∙ z)))
+read-rest s n r e z g = g ∙ ap (λ (m : ℕ). listAnswer m s) (sym (else-none _ (sym e ∙ z)))
 
-pub rest-count : (s : List ℕ) (n : ℕ) (r : Parsed) → n ≡ headNumber s → n ≡ 0 → r ≡ answered (tokensNumber mostTrims 0 (tokensOf s)) s → r .count ≤ mostTrims
+pub rest-count : (s : List ℕ) (n : ℕ) (r : Parsed) → n ≡ headNumber s → n ≡ 0 → r ≡ listAnswer (tokensNumber mostTrims 0 (tokensOf s)) s → r .count ≤ mostTrims
 rest-count s n r e z g = count-most s r (read-rest s n r e z g)
 
 -- ---- the calls
-pub check-told : (s : List ℕ) (r : Parsed) → r ≡ answered (listNumber s) s → r .number ≡ listNumber s
+pub check-told : (s : List ℕ) (r : Parsed) → r ≡ listAnswer (listNumber s) s → r .number ≡ listNumber s
 check-told s r e = ap (λ (u : Parsed). u .number) e ∙ answered-number s (listNumber s)
 
 module _ (s l : List ℕ) where
   pub short-told : (r : Parsed) → length l < mostPlaces → r ≡ parsed 16 0 → r ≡ parseOf s (length l)
   unfolding parseOf
-  short-told r h g = g ∙ answered-fault s 16 (λ e. omega arith) ∙ ap (λ (m : ℕ). answered m s) (sym (parse-short s (length l) h))
+  short-told r h g = g ∙ answered-fault s 16 (λ e. omega arith) ∙ ap (λ (m : ℕ). listAnswer m s) (sym (parse-short s (length l) h))
 
-  pub short-kept : length l < mostPlaces → l ≡ placesOf s l
+  pub short-kept : length l < mostPlaces → l ≡ rangePlaces s l
   short-kept h = sym (places-kept s l (λ z. let n : 16 ≡ 0 = sym (parse-short s (length l) h) ∙ z in omega arith))
 
-  pub parse-told : (r : Parsed) → mostPlaces ≤ length l → r ≡ answered (listNumber s) s → r ≡ parseOf s (length l)
+  pub parse-told : (r : Parsed) → mostPlaces ≤ length l → r ≡ listAnswer (listNumber s) s → r ≡ parseOf s (length l)
   unfolding parseOf
-  parse-told r h e = e ∙ ap (λ (m : ℕ). answered m s) (sym (parse-lent s (length l) h))
+  parse-told r h e = e ∙ ap (λ (m : ℕ). listAnswer m s) (sym (parse-lent s (length l) h))
 
-  pub parse-kept : (r : Parsed) → mostPlaces ≤ length l → r ≡ answered (listNumber s) s → (r .number ≡ 0 → ⊥) → l ≡ placesOf s l
+  pub parse-kept : (r : Parsed) → mostPlaces ≤ length l → r ≡ listAnswer (listNumber s) s → (r .number ≡ 0 → ⊥) → l ≡ rangePlaces s l
   parse-kept r h e n = sym (places-kept s l (λ z. n (check-told s r e ∙ sym (parse-lent s (length l) h) ∙ z)))
 
 -- ---- the copy
@@ -193,15 +193,15 @@ copy-done held l₀ l i n e h k =
     e ∙ ap (λ (j : ℕ). put (take j held) l₀) q
 
 -- how many numbers are copied
-pub copy-count : (s : List ℕ) (r : Parsed) → r ≡ answered (listNumber s) s → r .number ≡ 0 → r .count * 2 ≡ length (rangesOf s)
-unfolding answered
+pub copy-count : (s : List ℕ) (r : Parsed) → r ≡ listAnswer (listNumber s) s → r .number ≡ 0 → r .count * 2 ≡ length (rangesOf s)
+unfolding listAnswer
 copy-count s r e n =
     let z : listNumber s ≡ 0 = sym (check-told s r e) ∙ n in
     let c : r .count ≡ rangeCount s = ap (λ (u : Parsed). u .count) e ∙ sym (yes! _ (eq-eqb _ 0 z) refl) in
     omega (arith, ranges-length s z)
 
-pub parse-filled : (s l held zeros out : List ℕ) (r : Parsed) → mostPlaces ≤ length l → r ≡ answered (listNumber s) s → r .number ≡ 0 → (r .number ≡ 0 → held ≡ put (rangesOf s) zeros)
-    → out ≡ put (take (r .count * 2) held) l → out ≡ placesOf s l
+pub parse-filled : (s l held zeros out : List ℕ) (r : Parsed) → mostPlaces ≤ length l → r ≡ listAnswer (listNumber s) s → r .number ≡ 0 → (r .number ≡ 0 → held ≡ put (rangesOf s) zeros)
+    → out ≡ put (take (r .count * 2) held) l → out ≡ rangePlaces s l
 parse-filled s l held zeros out r h e n f g =
     let z : listNumber s ≡ 0 = sym (check-told s r e) ∙ n in
     let t : take (r .count * 2) held ≡ rangesOf s = ap (λ (k : ℕ). take k held) (copy-count s r e n) ∙ ap (take (length (rangesOf s))) (f n) ∙ take-put (rangesOf s) zeros in

@@ -10,9 +10,9 @@ use lib.ListN.{length, take, drop, getD}
 use lib.Seq.{take-all}
 use Rattle.base.specs.Limits.{mostFrame}
 use Rattle.base.proofs.Laws.{yes!, no! }
-use Rattle.text.specs.White.{trim}
+use Rattle.chars.specs.White.{trim}
 use Rattle.text.specs.Find.{starts, first}
-use Rattle.text.specs.Piece.{pieces}
+use Rattle.text.specs.Piece.{pieces, comma}
 use Rattle.text.specs.Number.{number}
 use Rattle.text.specs.declared.decimal.Number.{Number}
 use Rattle.text.specs.declared.decimal.Number.the-variants.{Value, Bad}
@@ -20,7 +20,7 @@ use Rattle.text.proofs.PieceLaws.{pieces-head, pieces-one}
 use Rattle.text.proofs.LineLaws.{number-most}
 use Rattle.trim.specs.declared.token.Token.{Token}
 use Rattle.trim.specs.declared.token.Token.the-variants.{Range, Fault}
-use Rattle.trim.specs.Token.{comma, opening, rangeOf, boundsOf, pairOf, closedOf, tokenOf, after, stepOf}
+use Rattle.trim.specs.Token.{opening, rangeOf, boundsOf, pairOf, closedOf, tokenOf, behindEnd, stepOf}
 
 -- ---- the two numbers
 pub bounds-none : (x y : Number) → x ≡ Bad → Fault 3 ≡ boundsOf x y
@@ -88,65 +88,65 @@ token-none t f e h = no! _ (sym e ∙ h) refl
 
 -- ---- a token after others
 pub step-fault : (prev : ℕ) (t u : List ℕ) (k : Token) (n : ℕ) → u ≡ trim t → k ≡ tokenOf u → k ≡ Fault n → Fault n ≡ stepOf prev t
-unfolding stepOf after
-step-fault prev t u k n e f h = ap (after prev) (sym h ∙ f ∙ ap tokenOf e)
+unfolding stepOf behindEnd
+step-fault prev t u k n e f h = ap (behindEnd prev) (sym h ∙ f ∙ ap tokenOf e)
 
 pub step-crossing : (prev : ℕ) (t u : List ℕ) (k : Token) (a e : ℕ) → u ≡ trim t → k ≡ tokenOf u → k ≡ Range a e → a < prev → Fault 6 ≡ stepOf prev t
-unfolding stepOf after
-step-crossing prev t u k a e d f h l = yes! _ (lt-ltb _ _ l) refl ∙ ap (after prev) (sym h ∙ f ∙ ap tokenOf d)
+unfolding stepOf behindEnd
+step-crossing prev t u k a e d f h l = yes! _ (lt-ltb _ _ l) refl ∙ ap (behindEnd prev) (sym h ∙ f ∙ ap tokenOf d)
 
 pub step-range : (prev : ℕ) (t u : List ℕ) (k : Token) (a e : ℕ) → u ≡ trim t → k ≡ tokenOf u → k ≡ Range a e → prev ≤ a → Range a e ≡ stepOf prev t
-unfolding stepOf after
-step-range prev t u k a e d f h l = no! _ (le-ltb _ _ l) refl ∙ ap (after prev) (sym h ∙ f ∙ ap tokenOf d)
+unfolding stepOf behindEnd
+step-range prev t u k a e d f h l = no! _ (le-ltb _ _ l) refl ∙ ap (behindEnd prev) (sym h ∙ f ∙ ap tokenOf d)
 
 -- ---- what a token keeps to: a number from 2 to 6; a range whose start is below its end, and whose end is a frame number
-abbrev pub Kept : Token → Type 0
-Kept (Fault n) = (2 ≤ n) × (n ≤ 6)
-Kept (Range a e) = (a < e) × (e ≤ mostFrame)
+abbrev pub TokenKept : Token → Type 0
+TokenKept (Fault n) = (2 ≤ n) × (n ≤ 6)
+TokenKept (Range a e) = (a < e) × (e ≤ mostFrame)
 
 -- the two ways of a test
-kept-cond : (t : Bool) (x y : Token) → Kept x → Kept y → Kept (cond t x y)
+kept-cond : (t : Bool) (x y : Token) → TokenKept x → TokenKept y → TokenKept (cond t x y)
 kept-cond true x y h k = h
 kept-cond false x y h k = k
 
-range-kept : (a b : ℕ) → b ≤ mostFrame → Kept (rangeOf a b)
+range-kept : (a b : ℕ) → b ≤ mostFrame → TokenKept (rangeOf a b)
 unfolding rangeOf
 range-kept a b h = go (ltb b a) (eqb b mostFrame) refl refl
   where
-    go : (x y : Bool) → ltb b a ≡ x → eqb b mostFrame ≡ y → Kept (cond x (Fault 4) (cond y (Fault 5) (Range a (b + 1))))
+    go : (x y : Bool) → ltb b a ≡ x → eqb b mostFrame ≡ y → TokenKept (cond x (Fault 4) (cond y (Fault 5) (Range a (b + 1))))
     go true y e f = (omega arith, omega arith)
     go false true e f = (omega arith, omega arith)
     go false false e f =
         let n : b ≡ mostFrame → ⊥ = eqb-false b mostFrame f in
         (omega (arith, ltb-false b a e), omega arith)
 
-bounds-kept : (x y : Number) → ((b : ℕ) → y ≡ Value b → b ≤ mostFrame) → Kept (boundsOf x y)
+bounds-kept : (x y : Number) → ((b : ℕ) → y ≡ Value b → b ≤ mostFrame) → TokenKept (boundsOf x y)
 unfolding boundsOf
 bounds-kept Bad y h = (omega arith, omega arith)
 bounds-kept (Value a) Bad h = (omega arith, omega arith)
 bounds-kept (Value a) (Value b) h = range-kept a b (h b refl)
 
-pair-kept : (l : List (List ℕ)) → Kept (pairOf l)
+pair-kept : (l : List (List ℕ)) → TokenKept (pairOf l)
 unfolding pairOf
 pair-kept [] = (omega arith, omega arith)
 pair-kept (a ∷ []) = (omega arith, omega arith)
 pair-kept (a ∷ b ∷ []) = bounds-kept (number mostFrame (trim a)) (number mostFrame (trim b)) (λ v e. number-most mostFrame v (trim b) e)
 pair-kept (a ∷ b ∷ c ∷ l) = (omega arith, omega arith)
 
-closed-kept : (r : List ℕ) → Kept (closedOf r)
+closed-kept : (r : List ℕ) → TokenKept (closedOf r)
 unfolding closedOf
 closed-kept r = kept-cond (eqb (getD r (length r - 1) 0) 0x29) (pairOf (pieces comma (take (length r - 1) r))) (Fault 2) (pair-kept _) (omega arith, omega arith)
 
-pub token-kept : (t : List ℕ) → Kept (tokenOf t)
+pub token-kept : (t : List ℕ) → TokenKept (tokenOf t)
 unfolding tokenOf
 token-kept t = kept-cond (starts opening t) (closedOf (drop 5 t)) (Fault 2) (closed-kept _) (omega arith, omega arith)
 
-after-kept : (prev : ℕ) (x : Token) → Kept x → Kept (after prev x)
-unfolding after
+after-kept : (prev : ℕ) (x : Token) → TokenKept x → TokenKept (behindEnd prev x)
+unfolding behindEnd
 after-kept prev (Fault n) h = h
 after-kept prev (Range a e) h = kept-cond (ltb a prev) (Fault 6) (Range a e) (omega arith, omega arith) h
 
-pub step-kept : (prev : ℕ) (t : List ℕ) → Kept (stepOf prev t)
+pub step-kept : (prev : ℕ) (t : List ℕ) → TokenKept (stepOf prev t)
 unfolding stepOf
 step-kept prev t = after-kept prev (tokenOf (trim t)) (token-kept (trim t))
 
@@ -155,8 +155,8 @@ module _ (prev : ℕ) where
   fault-range : {A : Type 0} (n a e : ℕ) → Fault n ≡ Range a e → A
   fault-range n a e q = absurd (let z : _≡_ {A = ℕ} 0 1 = ap (λ (x : Token). elim x [ Range u v ↦ 1 | Fault m ↦ 0 ]) q in omega arith)
 
-  after-range : (x : Token) (a e : ℕ) → after prev x ≡ Range a e → (prev ≤ a) × (x ≡ Range a e)
-  unfolding after
+  after-range : (x : Token) (a e : ℕ) → behindEnd prev x ≡ Range a e → (prev ≤ a) × (x ≡ Range a e)
+  unfolding behindEnd
   after-range (Fault n) a e q = fault-range n a e q
   after-range (Range b f) a e q = go (ltb b prev) refl q
     where

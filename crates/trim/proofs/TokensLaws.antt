@@ -11,7 +11,7 @@ use Rattle.base.specs.Limits.{mostFrame}
 use Rattle.base.specs.Refusal.{_orElse_}
 use Rattle.base.proofs.Laws.{yes!, no! }
 use Rattle.base.proofs.RefusalLaws.{else-none, else-found, else-zero}
-use Rattle.text.specs.White.{trim}
+use Rattle.chars.specs.White.{trim}
 use Rattle.text.specs.Find.{first}
 use Rattle.text.specs.Piece.{pieces}
 use Rattle.text.proofs.PieceLaws.{pieces-head, pieces-one}
@@ -19,7 +19,7 @@ use Rattle.trim.specs.declared.token.Token.{Token}
 use Rattle.trim.specs.declared.token.Token.the-variants.{Range, Fault}
 use Rattle.trim.specs.Token.{mark, tokenOf, stepOf, tokenNumber, tokenRange, tokenEnd}
 use Rattle.trim.specs.TrimList.{tokensOf, tokensNumber, rangesIn}
-use Rattle.trim.proofs.TokenLaws.{Kept, step-kept, step-above, step-own}
+use Rattle.trim.proofs.TokenLaws.{TokenKept, step-kept, step-above, step-own}
 
 -- ---- one turn: the first token p of t ends at k
 pub tokens-turn : (t p : List ℕ) (k : ℕ) → k ≡ first mark t → p ≡ take k t → tokensOf t ≡ p ∷ cond (ltb k (length t)) (tokensOf (drop (k + 2) t)) []
@@ -43,7 +43,7 @@ number-by left prev t ts x e = ap (λ (y : Token). tokenNumber y orElse tokensNu
 
 pub fault-some : (prev n : ℕ) (t : List ℕ) → Fault n ≡ stepOf prev t → n ≡ 0 → ⊥
 fault-some prev n t e z =
-    let k : (2 ≤ n) × (n ≤ 6) = subst Kept (sym e) (step-kept prev t) in
+    let k : (2 ≤ n) × (n ≤ 6) = subst TokenKept (sym e) (step-kept prev t) in
     omega arith
 
 pub number-fault : (left prev n : ℕ) (t : List ℕ) (ts : List (List ℕ)) → Fault n ≡ stepOf prev t → tokensNumber (suc left) prev (t ∷ ts) ≡ n
@@ -88,7 +88,7 @@ taken-next : (left prev : ℕ) (t : List ℕ) (ts : List (List ℕ)) (x : Token)
 taken-next left prev t ts (Fault n) q z ih = absurd (fault-some prev n t q (sym (number-fault left prev n t ts q) ∙ z))
 taken-next left prev t ts (Range a e) q z ih =
     let h : Taken left e ts = ih e (sym (number-range left prev a e t ts q) ∙ z) in
-    let k : (a < e) × (e ≤ mostFrame) = subst Kept (sym q) (step-kept prev t) in
+    let k : (a < e) × (e ≤ mostFrame) = subst TokenKept (sym q) (step-kept prev t) in
     let g : rangesIn (t ∷ ts) ≡ a ∷ e ∷ rangesIn ts = ranges-range prev a e t ts q in
     (omega arith, ap length g ∙ omega arith, subst (Ascending prev) (sym g) (step-above prev t a e (sym q), k .0, k .1, h .2))
 
@@ -106,6 +106,6 @@ number-table (suc left) prev (t ∷ ts) = go (stepOf prev t) refl (λ e. number-
   where
     go : (x : Token) → x ≡ stepOf prev t → ((e : ℕ) → tokensNumber left e ts ≤ 7) → tokensNumber (suc left) prev (t ∷ ts) ≤ 7
     go (Fault n) q ih =
-        let k : (2 ≤ n) × (n ≤ 6) = subst Kept (sym q) (step-kept prev t) in
+        let k : (2 ≤ n) × (n ≤ 6) = subst TokenKept (sym q) (step-kept prev t) in
         subst (λ (m : ℕ). m ≤ 7) (sym (number-fault left prev n t ts q)) (omega arith)
     go (Range a e) q ih = subst (λ (m : ℕ). m ≤ 7) (sym (number-range left prev a e t ts q)) (ih e)

@@ -5,21 +5,18 @@ use mathlib.Core.List.{List, [], _∷_}
 use lib.ListN.{length, take, drop, getD}
 use lib.Dec.{eqb, ltb}
 use Rattle.base.specs.Limits.{mostFrame}
-use Rattle.text.specs.White.{trim}
+use Rattle.chars.specs.White.{trim}
 use Rattle.text.specs.Find.{starts}
-use Rattle.text.specs.Piece.{pieces}
+use Rattle.text.specs.Piece.{comma, pieces}
 use Rattle.text.specs.Number.{number}
 use Rattle.text.specs.declared.decimal.Number.{Number}
 use Rattle.text.specs.declared.decimal.Number.the-variants.{Value, Bad}
 use Rattle.trim.specs.declared.token.Token.{Token}
 use Rattle.trim.specs.declared.token.Token.the-variants.{Range, Fault}
 
--- `++`, `,` and `Trim(`
+-- `++` and `Trim(`
 abbrev pub mark : List ℕ
 mark = 0x2B ∷ 0x2B ∷ []
-
-abbrev pub comma : List ℕ
-comma = 0x2C ∷ []
 
 abbrev pub opening : List ℕ
 opening = 0x54 ∷ 0x72 ∷ 0x69 ∷ 0x6D ∷ 0x28 ∷ []
@@ -50,12 +47,12 @@ unfoldable pub tokenOf : List ℕ → Token
 tokenOf t = cond (starts opening t) (closedOf (drop 5 t)) (Fault 2)
 
 -- a token after a range that ends at prev: 6 where it begins below that
-unfoldable pub after : ℕ → Token → Token
-after prev (Fault n) = Fault n
-after prev (Range a e) = cond (ltb a prev) (Fault 6) (Range a e)
+unfoldable pub behindEnd : ℕ → Token → Token
+behindEnd prev (Fault n) = Fault n
+behindEnd prev (Range a e) = cond (ltb a prev) (Fault 6) (Range a e)
 
 unfoldable pub stepOf : ℕ → List ℕ → Token
-stepOf prev t = after prev (tokenOf (trim t))
+stepOf prev t = behindEnd prev (tokenOf (trim t))
 
 -- a token's number in document 01, and its values: start and end of the range, end excluded
 unfoldable pub tokenNumber : Token → ℕ

@@ -7,8 +7,8 @@ use lib.Dec.{eqb, ltb, leb}
 use Rattle.base.specs.Limits.{mostListBytes, mostTrims, mostPlaces}
 use Rattle.base.specs.Refusal.{_orElse_, faultUnless}
 use Rattle.base.specs.Put.{put}
-use Rattle.text.specs.Utf8.{utf8}
-use Rattle.text.specs.White.{trim}
+use Rattle.chars.specs.Utf8.{utf8}
+use Rattle.chars.specs.White.{trim}
 use Rattle.text.specs.Line.{blank}
 use Rattle.text.specs.Piece.{pieces}
 use Rattle.trim.specs.Token.{mark, tokenOf, stepOf, tokenNumber, tokenRange, tokenEnd}
@@ -53,16 +53,16 @@ abbrev pub parsed : ℕ → ℕ → Parsed
 parsed n k = record { number = n; count = k }
 
 -- a number, and the count of ranges of s where that number is 0
-unfoldable pub answered : ℕ → List ℕ → Parsed
-answered n s = parsed n (cond (eqb n 0) (rangeCount s) 0)
+unfoldable pub listAnswer : ℕ → List ℕ → Parsed
+listAnswer n s = parsed n (cond (eqb n 0) (rangeCount s) 0)
 
 -- what the list s gives, where `lent` places are lent for its ranges: 16 where these are too few, before all else
 unfoldable pub parseNumber : List ℕ → ℕ → ℕ
 parseNumber s lent = faultUnless (leb mostPlaces lent) 16 orElse listNumber s
 
 unfoldable pub parseOf : List ℕ → ℕ → Parsed
-parseOf s lent = answered (parseNumber s lent) s
+parseOf s lent = listAnswer (parseNumber s lent) s
 
 -- the lent places afterwards: the ranges from the first on where the number is 0, else as they were
-unfoldable pub placesOf : List ℕ → List ℕ → List ℕ
-placesOf s places = cond (eqb (parseNumber s (length places)) 0) (put (rangesOf s) places) places
+unfoldable pub rangePlaces : List ℕ → List ℕ → List ℕ
+rangePlaces s places = cond (eqb (parseNumber s (length places)) 0) (put (rangesOf s) places) places

@@ -8,7 +8,7 @@ ghost use Rattle.base.specs.Limits.{mostTrims, mostPlaces};
 ghost use Rattle.base.specs.Put.{put};
 ghost use Rattle.text.specs.Find.{first};
 ghost use Rattle.trim.specs.Token.{mark};
-ghost use Rattle.trim.specs.TrimList.{parsed, answered, tokensOf, tokensNumber, headNumber, listNumber, rangesOf, parseOf, placesOf};
+ghost use Rattle.trim.specs.TrimList.{parsed, listAnswer, tokensOf, tokensNumber, headNumber, listNumber, rangesOf, parseOf, rangePlaces};
 
 // What a list gives: 0 and how many ranges, or the number of the refusal and 0.
 pub struct Parsed {
@@ -16,10 +16,22 @@ pub struct Parsed {
     pub count: usize,
 }
 
+// Where the first `++` begins, or the length of `s`. Where the second byte is no plus, neither place can begin one.
 fn next_mark(s: &[u8]) -> usize
     ensures { λ r. ⌜ r ≡ first mark (now (s .entry)) ⌝ }
 {
-    text::find(s, b"++")
+    let mut i = 0;
+    while i + 1 < s.len() {
+        if s[i + 1] == 0x2B {
+            if s[i] == 0x2B {
+                return i;
+            }
+            i += 1;
+            continue;
+        }
+        i += 2;
+    }
+    s.len()
 }
 
 fn refused(n: u32) -> Parsed
@@ -47,7 +59,7 @@ fn head_number(list: &[u8]) -> u32
     if base::MOST_LIST_BYTES < list.len() {
         return 7;
     }
-    if text::is_utf8(list) {
+    if chars::is_utf8(list) {
         if text::is_blank(list) {
             return 1;
         }
@@ -68,7 +80,7 @@ fn store(ranges: &mut [u32], count: usize, a: u32, e: u32)
 // Reads the tokens, and writes their ranges from the start of `ranges` on.
 fn read_tokens(list: &[u8], ranges: &mut [u32]) -> Parsed
     requires { ⌜ mostPlaces ≤ length (now ranges) ⌝ }
-    ensures { λ r. ⌜ r ≡ answered (tokensNumber mostTrims 0 (tokensOf (now (list .entry)))) (now (list .entry)) ⌝ }
+    ensures { λ r. ⌜ r ≡ listAnswer (tokensNumber mostTrims 0 (tokensOf (now (list .entry)))) (now (list .entry)) ⌝ }
     ensures { λ r. ⌜ (r .number ≡ 0 → now (ranges .exit) ≡ put (rangesOf (now (list .entry))) (now (ranges .entry))) ⌝ }
 {
     let mut t = list;
@@ -99,7 +111,7 @@ fn read_tokens(list: &[u8], ranges: &mut [u32]) -> Parsed
 // Reads a list into places that are there for it.
 fn read(list: &[u8], ranges: &mut [u32]) -> Parsed
     requires { ⌜ mostPlaces ≤ length (now ranges) ⌝ }
-    ensures { λ r. ⌜ r ≡ answered (listNumber (now (list .entry))) (now (list .entry)) ⌝ }
+    ensures { λ r. ⌜ r ≡ listAnswer (listNumber (now (list .entry))) (now (list .entry)) ⌝ }
     ensures { λ r. ⌜ r .count ≤ mostTrims ⌝ }
     ensures { λ r. ⌜ (r .number ≡ 0 → now (ranges .exit) ≡ put (rangesOf (now (list .entry))) (now (ranges .entry))) ⌝ }
 {
@@ -126,7 +138,7 @@ fn copy(ranges: &mut [u32], held: &[u32], n: usize)
 // nothing is written.
 pub fn parse(list: &[u8], ranges: &mut [u32]) -> Parsed
     ensures { λ r. ⌜ r ≡ parseOf (now (list .entry)) (length (now (ranges .entry))) ⌝ }
-    ensures { λ _. ⌜ now (ranges .exit) ≡ placesOf (now (list .entry)) (now (ranges .entry)) ⌝ }
+    ensures { λ _. ⌜ now (ranges .exit) ≡ rangePlaces (now (list .entry)) (now (ranges .entry)) ⌝ }
 {
     if ranges.len() < base::MOST_PLACES {
         return refused(16);

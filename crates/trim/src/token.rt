@@ -1,9 +1,12 @@
 // One token of a trim list: `Trim(a,b)`.
 use text::Number;
 ghost use mathlib.Core.Path.{_≡_};
+ghost use mathlib.Core.Bool.{cond, false};
+ghost use lib.Dec.{ltb};
 ghost use Rattle.text.specs.Find.{starts, first};
-ghost use Rattle.trim.specs.Token.{comma, opening, rangeOf, boundsOf, pairOf, closedOf, tokenOf, stepOf};
-ghost use Rattle.text.specs.Piece.{pieces};
+ghost use Rattle.trim.specs.Token.{opening, rangeOf, boundsOf, pairOf, closedOf, tokenOf, stepOf};
+ghost use Rattle.text.specs.Piece.{pieces, comma};
+ghost use Rattle.chars.specs.White.{trim};
 
 // What a token says: a range, end excluded, or the number of its refusal.
 pub enum Token {
@@ -50,6 +53,28 @@ fn bounds_of(x: Number, y: Number) -> Token
     }
 }
 
+// Whether `a` is an ASCII byte above the space, so no white space.
+fn is_plain(a: u8) -> bool
+    ensures { λ r. ⌜ r ≡ cond (ltb a 0x21) false (ltb a 0x80) ⌝ }
+{
+    if a < 0x21 {
+        return false;
+    }
+    a < 0x80
+}
+
+// The slice without the white space at both ends. Most have none, and are told by their first and last byte.
+fn bare(s: &[u8]) -> &[u8]
+    ensures { λ r. ⌜ now r ≡ trim (now (s .entry)) ⌝ }
+{
+    if is_plain(base::byte(s, 0)) {
+        if is_plain(base::byte(s, base::less(s.len(), 1))) {
+            return s;
+        }
+    }
+    chars::trimmed(s)
+}
+
 // The range that `a,b` says: exactly one comma.
 fn pair_of(s: &[u8]) -> Token
     ensures { λ r. ⌜ r ≡ pairOf (pieces comma (now (s .entry))) ⌝ }
@@ -60,8 +85,8 @@ fn pair_of(s: &[u8]) -> Token
         if next_comma(u) < u.len() {
             return Token::Fault(2);
         }
-        let x = text::number_to(text::trimmed(base::front(s, k)), base::MOST_FRAME);
-        let y = text::number_to(text::trimmed(u), base::MOST_FRAME);
+        let x = text::number_to(bare(base::front(s, k)), base::MOST_FRAME);
+        let y = text::number_to(bare(u), base::MOST_FRAME);
         return bounds_of(x, y);
     }
     Token::Fault(2)
@@ -92,7 +117,7 @@ fn token_of(t: &[u8]) -> Token
 pub fn step_of(prev: u32, t: &[u8]) -> Token
     ensures { λ r. ⌜ r ≡ stepOf prev (now (t .entry)) ⌝ }
 {
-    let k = token_of(text::trimmed(t));
+    let k = token_of(chars::trimmed(t));
     match k {
         Token::Fault(n) => Token::Fault(n),
         Token::Range(a, e) => {

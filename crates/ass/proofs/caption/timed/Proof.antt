@@ -9,7 +9,7 @@ use Rattle.event.proofs.refused.Reads as refused-reads
 use Rattle.ass.proofs.caption.settle.Reads as settle-reads
 use Rattle.assline.proofs.field.Reads as field-reads
 use Rattle.text.proofs.terminator_of.Reads as terminator-of-reads
-use Rattle.time.proofs.read_time.Reads as read-time-reads
+use Rattle.stamp.proofs.read_time.Reads as read-time-reads
 
 field-requires : tie.Need-field-requires
 field-requires c κs = search needs

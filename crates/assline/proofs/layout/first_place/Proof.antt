@@ -1,4 +1,4 @@
-use Rattle.assline.proofs.ColumnLaws.{place-kept, place-here, place-none}
+use Rattle.assline.proofs.ColumnLaws.{place-kept, place-here, column-none}
 use borrow.Author.Needs.{needs}
 use Rattle.assline.proofs.layout.first_place.Statement.{statement}
 use Rattle.assline.proofs.layout.first_place.Tie as tie
@@ -12,7 +12,7 @@ returns-2 : tie.Need-returns-2
 returns-2 c = search place-here
 
 returns-3 : tie.Need-returns-3
-returns-3 c = search place-none
+returns-3 c = search column-none
 
 pub first-place-spec : {M : Type 1} → statement M
 first-place-spec = tie.close (tie.spec returns returns-2 returns-3)

@@ -5,8 +5,8 @@ use lib.ListN.{take, drop, length, replicate}
 use native.Mathlib.Omega.{arith}
 use Rattle.base.specs.Put.{placed, placedLength}
 use lib.Seq.{length-take-le}
-use Rattle.time.specs.Write.{timeText}
-use Rattle.time.proofs.Written.{text-23}
+use Rattle.stamp.specs.Write.{timeText}
+use Rattle.stamp.proofs.Written.{text-23}
 use Rattle.assline.proofs.WriteLaws.{text-held, text-room}
 use borrow.Author.Needs.{needs}
 use Rattle.assline.proofs.writing.write_kept.Statement.{statement}
@@ -14,7 +14,7 @@ use Rattle.assline.proofs.writing.write_kept.Tie as tie
 use Rattle.assline.proofs.writing.write_kept.Reads as reads
 use Rattle.assline.proofs.writing.write_kept.Lts as lts
 use Rattle.assline.proofs.writing.write_line.Reads as write-line-reads
-use Rattle.time.proofs.write_time.Reads as write-time-reads
+use Rattle.stamp.proofs.write_time.Reads as write-time-reads
 
 words : (c : tie.Start) → (c .args .times .start < 2 ^ 64) × (c .args .times .stop < 2 ^ 64)
 words c = (omega arith, omega arith)

@@ -4,7 +4,7 @@ use Rattle.block.proofs.srt.read_times.Statement.{statement}
 use Rattle.block.proofs.srt.read_times.Tie as tie
 use Rattle.block.proofs.srt.read_times.Reads as reads
 use Rattle.block.proofs.srt.read_times.Lts as lts
-use Rattle.time.proofs.read_time.Reads as read-time-reads
+use Rattle.stamp.proofs.read_time.Reads as read-time-reads
 
 read-time-requires : tie.Need-read-time-requires
 read-time-requires c κs = search needs

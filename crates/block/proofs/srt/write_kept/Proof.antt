@@ -1,7 +1,7 @@
-use Rattle.time.specs.Write.{timeText}
+use Rattle.stamp.specs.Write.{timeText}
 use Prim.Native.Nat.{_<_, _^_}
 use native.Mathlib.Omega.{arith}
-use Rattle.time.proofs.Written.{text-23}
+use Rattle.stamp.proofs.Written.{text-23}
 use Rattle.block.proofs.WriteLaws.{frame-written}
 use borrow.Author.Needs.{needs}
 use Rattle.block.proofs.srt.write_kept.Statement.{statement}
@@ -10,7 +10,7 @@ use Rattle.block.proofs.srt.write_kept.Reads as reads
 use Rattle.block.proofs.srt.write_kept.Lts as lts
 use Rattle.base.proofs.bytes_at.Reads as bytes-at-reads
 use Rattle.block.proofs.srt.put_arrow.Reads as put-arrow-reads
-use Rattle.time.proofs.write_time_at.Reads as write-time-at-reads
+use Rattle.stamp.proofs.write_time_at.Reads as write-time-at-reads
 
 words : (c : tie.Start) → (c .args .new .start < 2 ^ 64) × (c .args .new .stop < 2 ^ 64)
 words c = (omega arith, omega arith)

@@ -3,8 +3,8 @@ use Prim.Native.Nat.{_+_, _≤_}
 use lib.ListN.{length}
 use native.Mathlib.Omega.{arith}
 use Rattle.text.specs.Line.{linesOf}
-use Rattle.block.specs.Place.{placeIn}
-use Rattle.block.proofs.PlaceLaws.{place-found, place-again, place-none, line-fits, rest-less, rest-sum, lines-few}
+use Rattle.block.specs.Place.{timingPlace}
+use Rattle.block.proofs.PlaceLaws.{place-found, place-again, place-none, line-inside, rest-sum, lines-few}
 use borrow.Author.Needs.{needs}
 use Rattle.block.proofs.timing.locate.Statement.{statement}
 use Rattle.block.proofs.timing.locate.Tie as tie
@@ -15,9 +15,10 @@ use Rattle.base.proofs.rest.Reads as rest-reads
 use Rattle.block.proofs.timing.has_arrow.Reads as has-arrow-reads
 use Rattle.text.proofs.line_length.Reads as line-length-reads
 use Rattle.text.proofs.text_of.Reads as text-of-reads
+use Rattle.text.proofs.LineLaws.{line-less}
 
 abbrev Inv-loop : tie.InvT-loop
-Inv-loop block t₀ at₀ lines₀ t at lines = (placeIn (linesOf block) 0 0 ≡ placeIn (linesOf t) at lines) × (at + length t ≡ length block) × (lines ≤ at)
+Inv-loop block t₀ at₀ lines₀ t at lines = (timingPlace (linesOf block) 0 0 ≡ timingPlace (linesOf t) at lines) × (at + length t ≡ length block) × (lines ≤ at)
 
 abbrev μ-loop : tie.MeasureT-loop
 μ-loop block t₀ at₀ lines₀ t at lines = length t
@@ -44,13 +45,13 @@ rest-requires : tie.Need-rest-requires Inv-loop μ-loop
 rest-requires c κs = search needs
 
 add-at : tie.Need-add-at Inv-loop μ-loop
-add-at c = omega (arith, line-fits _ _ (c .before .before .before .before .before .line-length .ensures))
+add-at c = omega (arith, line-inside _ _ (c .before .before .before .before .before .line-length .ensures))
 
 add-lines : tie.Need-add-lines Inv-loop μ-loop
-add-lines c = omega (arith, line-fits _ _ (c .before .before .before .before .before .line-length .ensures))
+add-lines c = omega (arith, line-inside _ _ (c .before .before .before .before .before .line-length .ensures))
 
 loop-less : tie.Need-loop-less Inv-loop μ-loop
-loop-less c = search rest-less
+loop-less c = search line-less
 
 loop-again : tie.Need-loop-again Inv-loop μ-loop
 loop-again c = (place-again _ _ _ _ _ _ _ _ _ (c .before .before .before .before .before .before .before .loop .inv .0) (c .before .before .before .before .before .before .loop-test .taken) (c .before .before .before .before .before .line-length .ensures) (c .before .before .before .before .front .ensures) (c .before .before .before .text-of .ensures) (c .before .before .has-arrow .ensures) (c .before .if1 .left) (c .rest .ensures), search rest-sum, search lines-few)

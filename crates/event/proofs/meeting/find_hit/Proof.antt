@@ -1,4 +1,4 @@
-use Rattle.event.proofs.HitLaws.{place-again}
+use Rattle.event.proofs.HitLaws.{hit-place}
 use mathlib.Core.Path.{_≡_, refl}
 use Prim.Native.Nat.{_+_, _*_, _≤_}
 use lib.ListN.{length}
@@ -51,7 +51,7 @@ loop-less : tie.Need-loop-less Inv-loop μ-loop
 loop-less c = search six-less
 
 loop-again : tie.Need-loop-again Inv-loop μ-loop
-loop-again c = (search hit-again depth 12, search place-again)
+loop-again c = (search hit-again depth 12, search hit-place)
 
 returns-2 : tie.Need-returns-2 Inv-loop μ-loop
 returns-2 c = search hit-none

@@ -2,12 +2,12 @@ use mathlib.Core.Path.{_≡_}
 use Prim.Native.Nat.{_≤_}
 use native.Mathlib.Omega.{arith}
 use lib.ListN.{length, take}
-use Rattle.foreign.proofs.HeldLaws.{endOf, end-start, end-found, end-again, end-none}
+use Rattle.foreign.proofs.HeldLaws.{closedLength, end-start, end-found, end-again, end-none}
 use Rattle.foreign.proofs.held.block_end.Statement.{statement}
 use Rattle.foreign.proofs.held.block_end.Tie as tie
 
 abbrev Inv-loop : tie.InvT-loop
-Inv-loop held n₀ n = (n ≤ length held) × (endOf held ≡ endOf (take n held))
+Inv-loop held n₀ n = (n ≤ length held) × (closedLength held ≡ closedLength (take n held))
 
 abbrev μ-loop : tie.MeasureT-loop
 μ-loop held n₀ n = n

@@ -2,10 +2,11 @@ use mathlib.Core.Path.{_≡_, refl}
 use lib.ListN.{length}
 use Rattle.text.specs.Line.{linesOf}
 use Rattle.kinds.specs.Kit.{linesBad}
-use Rattle.foreign.proofs.HeldLaws.{lines-hit, lines-again, lines-empty, lines-less}
+use Rattle.foreign.proofs.HeldLaws.{lines-hit, lines-again, lines-empty}
 use borrow.Author.Needs.{needs}
 use Rattle.foreign.proofs.held.lines_bad.Statement.{statement}
 use Rattle.foreign.proofs.held.lines_bad.Tie as tie
+use Rattle.text.proofs.LineLaws.{line-less}
 
 abbrev Inv-loop : tie.InvT-loop
 Inv-loop kind s t₀ t = linesBad kind (linesOf s) ≡ linesBad kind (linesOf t)
@@ -32,7 +33,7 @@ rest-requires : tie.Need-rest-requires Inv-loop μ-loop
 rest-requires c κs = search needs
 
 loop-less : tie.Need-loop-less Inv-loop μ-loop
-loop-less c = search lines-less
+loop-less c = search line-less
 
 loop-again : tie.Need-loop-again Inv-loop μ-loop
 loop-again c = search lines-again

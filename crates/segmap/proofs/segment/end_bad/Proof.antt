@@ -1,4 +1,4 @@
-use Rattle.segmap.proofs.SegmentLaws.{end-past, end-within}
+use Rattle.segmap.proofs.SegmentLaws.{end-past, end-tested}
 use borrow.Author.Needs.{needs}
 use Rattle.segmap.proofs.segment.end_bad.Statement.{statement}
 use Rattle.segmap.proofs.segment.end_bad.Tie as tie
@@ -7,7 +7,7 @@ returns : tie.Need-returns
 returns c = search end-past
 
 returns-2 : tie.Need-returns-2
-returns-2 c = search end-within
+returns-2 c = search end-tested
 
 pub end-bad-spec : {M : Type 1} → statement M
 end-bad-spec = tie.close (tie.spec returns returns-2)

@@ -1,6 +1,6 @@
 use mathlib.Core.Path.{refl}
 use lib.ListN.{length}
-use Rattle.segmap.proofs.SegmentLaws.{Left, left-parts, left-many, left-start, left-found, left-again, left-less, left-none}
+use Rattle.segmap.proofs.SegmentLaws.{Left, left-parts, left-many, segments-start, left-found, left-again, left-less, left-none}
 use borrow.Author.Needs.{needs}
 use Rattle.segmap.proofs.segment.map_bad.Statement.{statement}
 use Rattle.segmap.proofs.segment.map_bad.Tie as tie
@@ -21,7 +21,7 @@ returns-2 : tie.Need-returns-2 Inv-loop μ-loop
 returns-2 c = search left-many
 
 loop-holds : tie.Need-loop-holds Inv-loop μ-loop
-loop-holds c = search left-start
+loop-holds c = search segments-start
 
 word-requires : tie.Need-word-requires Inv-loop μ-loop
 word-requires c κs = search needs

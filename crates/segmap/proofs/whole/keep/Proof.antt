@@ -1,6 +1,6 @@
 use mathlib.Core.Path.{refl}
 use Rattle.base.proofs.RefusalLaws.{else-here, else-next}
-use Rattle.segmap.proofs.MapLaws.{keep-none}
+use Rattle.segmap.proofs.MapLaws.{ranges-kept}
 use borrow.Author.Needs.{needs}
 use Rattle.segmap.proofs.whole.keep.Statement.{statement}
 use Rattle.segmap.proofs.whole.keep.Tie as tie
@@ -24,7 +24,7 @@ same-length : tie.Need-same-length
 same-length c = search needs
 
 returns-3 : tie.Need-returns-3
-returns-3 c = (search keep-none, (λ z. search needs, λ h. absurd (h refl)))
+returns-3 c = (search ranges-kept, (λ z. search needs, λ h. absurd (h refl)))
 
 pub keep-spec : {M : Type 1} → statement M
 keep-spec =

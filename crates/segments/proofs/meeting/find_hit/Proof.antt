@@ -56,7 +56,7 @@ use Rattle.event.specs.Hit.{meets, findFrom, findHit, hitOf}
 use Rattle.event.proofs.meeting.Hit as H₀
 use Rattle.event.proofs.meeting.Hit.Laws as H′
 use Rattle.segments.specs.Records.{noSegment, hitAt}
-use Rattle.segments.proofs.RecordLaws.{hit-here, hit-next, hit-none}
+use Rattle.segments.proofs.RecordLaws.{hit-here, hit-next, record-miss}
 use Rattle.segments.proofs.Walk.{holds, fails, word, records, vals}
 use Rattle.segments.proofs.meeting.is_met as is
 use Rattle.segments.proofs.meeting.is_met.Symbol as is-def
@@ -212,7 +212,7 @@ module _ {M : Type 1} (𝓤 : URA M) (H : Heap 𝓤) (A : Atoms 𝓤) (W : Given
         rewrite ! 9 (λ (z : Bool). ‵ (fat fullShare tyBool l₈ 0 (vbool z))) e refl $ leaves-loop ! (load ! (from ! (stop !)) (look ! 9 refl)) $ exec ! (𝓣 .C) (𝓣 .Λ) En mir.t-3 (atRet En Post) $
         assigns ! (agg ! (and-then ! (lit ! tt) (no-more !))) (from ! (stop !)) (init ! 14 refl (EL.lawful H₀.the-type H′.the-laws 𝓤 H A W tt .typed Miss _ g .0)) $
         returns ! (look ! 14 refl) $ forget ! 2 refl $ forget ! 3 refl $ forget ! 4 refl $ forget ! 5 refl $ forget ! 8 refl $ forget ! 9 refl $ forget ! 14 refl $
-        leaves Miss _ g (sym (ap hitOf (t .so) ∙ hit-none ys (t .i) x y left (t .within)))
+        leaves Miss _ g (sym (ap hitOf (t .so) ∙ record-miss ys (t .i) x y left (t .within)))
 
     module _ (known : Known 𝓤 H A mem run 𝓣) where
       -- a turn that looks at one record

@@ -2,7 +2,7 @@ use mathlib.Core.Path.{_≡_, sym, _∙_}
 use native.Mathlib.Omega.{arith}
 use Prim.Native.Nat.{_≤_}
 use lib.ListN.{length}
-use Rattle.session.proofs.CallLaws.{feed-refused, answered-empty, Passed, passed, passed-ready, passed-opening, answered-dead, answered-live, end-small}
+use Rattle.session.proofs.CallLaws.{feed-refused, answered-empty, Passed, not-refused, passed-ready, passed-opening, answered-dead, answered-live, end-small}
 use borrow.Author.Needs.{needs}
 use Rattle.session.proofs.calling.feed.Statement.{statement}
 use Rattle.session.proofs.calling.feed.Tie as tie
@@ -25,7 +25,7 @@ start c = c .before .before .before .before .before .before
 
 -- the call is admitted
 admitted : (c : tie.Else1) → Passed (start c .args .session) (start c .args .map .now) (length (start c .args .piece .now)) (length (start c .args .out .now)) (length (start c .args .warnings .now))
-admitted c = passed _ _ _ _ _ (sym (c .before .refusal .ensures) ∙ c .if1 .left)
+admitted c = not-refused _ _ _ _ _ (sym (c .before .refusal .ensures) ∙ c .if1 .left)
 
 refusal-requires : tie.Need-refusal-requires
 refusal-requires c κs = search needs

@@ -1,6 +1,6 @@
 use mathlib.Core.Path.{_≡_, sym, _∙_}
 use lib.ListN.{length}
-use Rattle.session.proofs.CallLaws.{finish-refused, Passed, passed, passed-ready, passed-opening, answered-finished}
+use Rattle.session.proofs.CallLaws.{finish-refused, Passed, not-refused, passed-ready, passed-opening, answered-finished}
 use borrow.Author.Needs.{needs}
 use Rattle.session.proofs.calling.finish.Statement.{statement}
 use Rattle.session.proofs.calling.finish.Tie as tie
@@ -21,7 +21,7 @@ start c = c .before .before .before .before .before
 
 -- the call is admitted
 admitted : (c : tie.Else1) → Passed (start c .args .session) (start c .args .map .now) 0 (length (start c .args .out .now)) (length (start c .args .warnings .now))
-admitted c = passed _ _ _ _ _ (sym (c .before .refusal .ensures) ∙ c .if1 .left)
+admitted c = not-refused _ _ _ _ _ (sym (c .before .refusal .ensures) ∙ c .if1 .left)
 
 refusal-requires : tie.Need-refusal-requires
 refusal-requires c κs = search needs

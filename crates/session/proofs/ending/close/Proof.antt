@@ -3,7 +3,7 @@ use native.Mathlib.Omega.{arith}
 use lib.ListN.{length-take, length-drop}
 use lib.Seq.{length-take-le}
 use Rattle.kinds.specs.Takes.{machineOf, ends}
-use Rattle.session.proofs.EndLaws.{ends-ass, close-none, close-block}
+use Rattle.session.proofs.EndLaws.{finish-ass, close-none, close-block}
 use borrow.Author.Needs.{needs}
 use Rattle.session.proofs.ending.close.Statement.{statement}
 use Rattle.session.proofs.ending.close.Tie as tie
@@ -16,7 +16,7 @@ returns : tie.Need-returns
 returns c =
     let S = c .before .before .before .before .before .before in
     let A = S .args in
-    λ t s n ps o w p sh. close-none (A .config) (A .map .now) (machineOf (A .config .kind)) t s n ps o w (A .at) (A .held .now) (A .out .now) (A .warnings .now) sh (ends (A .config .kind) s n) (ends-ass (A .config .kind) s n (c .if1 .taken))
+    λ t s n ps o w p sh. close-none (A .config) (A .map .now) (machineOf (A .config .kind)) t s n ps o w (A .at) (A .held .now) (A .out .now) (A .warnings .now) sh (ends (A .config .kind) s n) (finish-ass (A .config .kind) s n (c .if1 .taken))
 
 slice-aggregate-end-block : tie.Need-slice-aggregate-end-block
 slice-aggregate-end-block c =

@@ -5,7 +5,7 @@ use lib.Seq.{length-take-le}
 use Rattle.kinds.specs.Takes.{machineOf, ends}
 use Rattle.session.specs.declared.running.Going.{Going}
 use Rattle.session.proofs.RunLaws.{begin-sizes}
-use Rattle.session.proofs.EndLaws.{ends-ass, front-long, bom-only, bom-stops, bom-closes}
+use Rattle.session.proofs.EndLaws.{finish-ass, front-long, bom-only, bom-stops, bom-closes}
 use borrow.Author.Needs.{needs}
 use Rattle.session.proofs.ending.close_bom.Statement.{statement}
 use Rattle.session.proofs.ending.close_bom.Tie as tie
@@ -32,7 +32,7 @@ returns c =
     let A = S .args in
     let p = S .pre .1 in
     λ s a q g. bom-only (A .config) (A .map .now) (machineOf (A .config .kind)) (A .at) (A .held .now) (A .out .now) (A .warnings .now) p s (ends (A .config .kind) s (A .at .lines)) _ _
-    (ends-ass (A .config .kind) s (A .at .lines) (c .before .before .before .before .if1 .taken)) (c .before .before .before .before .before .before .after-bom .ensures) (c .before .before .put-bom .ensures)
+    (finish-ass (A .config .kind) s (A .at .lines) (c .before .before .before .before .if1 .taken)) (c .before .before .before .before .before .before .after-bom .ensures) (c .before .before .put-bom .ensures)
 
 slice-aggregate-end-block : tie.Need-slice-aggregate-end-block
 slice-aggregate-end-block c =

@@ -3,7 +3,6 @@ use native.Mathlib.Omega.{arith}
 use lib.ListN.{length-take, length-drop}
 use lib.Seq.{length-take-le}
 use Rattle.session.proofs.TakenLaws.{any-ass, any-srt}
-use Rattle.session.proofs.BomLaws.{rest-all}
 use borrow.Author.Needs.{needs}
 use Rattle.session.proofs.taking.any_line.Statement.{statement}
 use Rattle.session.proofs.taking.any_line.Tie as tie
@@ -11,6 +10,7 @@ use Rattle.session.proofs.taking.any_line.Reads as reads
 use Rattle.session.proofs.taking.any_line.Lts as lts
 use Rattle.session.proofs.taking.ass_line.Reads as ass-line-reads
 use Rattle.session.proofs.taking.srt_line.Reads as srt-line-reads
+use Rattle.base.proofs.PartLaws.{rest-all}
 
 sub-ass-line : tie.Need-sub-ass-line
 sub-ass-line c = search needs

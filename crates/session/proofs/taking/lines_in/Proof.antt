@@ -3,8 +3,7 @@ use Prim.Native.Nat.{_+_, _≤_}
 use native.Mathlib.Omega.{arith}
 use lib.ListN.{length}
 use Rattle.text.specs.Line.{linesOf, lineCount}
-use Rattle.block.proofs.PlaceLaws.{rest-less}
-use Rattle.session.proofs.TakenLaws.{lines-more, lines-room, lines-over}
+use Rattle.session.proofs.TakenLaws.{count-more, lines-room, lines-over}
 use borrow.Author.Needs.{needs}
 use Rattle.session.proofs.taking.lines_in.Statement.{statement}
 use Rattle.session.proofs.taking.lines_in.Tie as tie
@@ -12,6 +11,7 @@ use Rattle.session.proofs.taking.lines_in.Reads as reads
 use Rattle.session.proofs.taking.lines_in.Lts as lts
 use Rattle.base.proofs.rest.Reads as rest-reads
 use Rattle.text.proofs.line_length.Reads as line-length-reads
+use Rattle.text.proofs.LineLaws.{line-less}
 
 abbrev Inv-loop : tie.InvT-loop
 Inv-loop block n₀ t₀ n t = (lineCount (linesOf block) ≡ n + lineCount (linesOf t)) × (n + length t ≤ length block)
@@ -32,10 +32,10 @@ add-n : tie.Need-add-n Inv-loop μ-loop
 add-n c = omega arith
 
 loop-less : tie.Need-loop-less Inv-loop μ-loop
-loop-less c = search rest-less
+loop-less c = search line-less
 
 loop-again : tie.Need-loop-again Inv-loop μ-loop
-loop-again c = (search lines-more, search lines-room)
+loop-again c = (search count-more, search lines-room)
 
 returns : tie.Need-returns Inv-loop μ-loop
 returns c = search lines-over

@@ -1,6 +1,6 @@
 use native.Mathlib.Omega.{arith}
 use lib.ListN.{length-take, length-drop}
-use Rattle.session.proofs.BomLaws.{rest-all, bom-is, take-fault, take-plain, take-behind, behind-fits}
+use Rattle.session.proofs.BomLaws.{bom-is, take-fault, take-plain, take-behind, behind-fits}
 use borrow.Author.Needs.{needs}
 use Rattle.session.proofs.taking.take_line.Statement.{statement}
 use Rattle.session.proofs.taking.take_line.Tie as tie
@@ -10,6 +10,7 @@ use Rattle.session.proofs.taking.any_line.Reads as any-line-reads
 use Rattle.session.proofs.taking.behind_bom.Reads as behind-bom-reads
 use Rattle.session.proofs.taking.bom_size.Reads as bom-size-reads
 use Rattle.session.proofs.taking.put_bom.Reads as put-bom-reads
+use Rattle.base.proofs.PartLaws.{rest-all}
 
 sub-bom-size : tie.Need-sub-bom-size
 sub-bom-size c = search needs

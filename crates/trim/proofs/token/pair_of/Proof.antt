@@ -21,14 +21,14 @@ returns c = search pair-more
 front-requires : tie.Need-front-requires
 front-requires c κs = search needs
 
-trimmed-requires : tie.Need-trimmed-requires
-trimmed-requires c κs = search needs
+bare-requires : tie.Need-bare-requires
+bare-requires c κs = search needs
 
 number-to-requires : tie.Need-number-to-requires
 number-to-requires c κs = search needs
 
-trimmed-requires-2 : tie.Need-trimmed-requires-2
-trimmed-requires-2 c κs = search needs
+bare-requires-2 : tie.Need-bare-requires-2
+bare-requires-2 c κs = search needs
 
 number-to-requires-2 : tie.Need-number-to-requires-2
 number-to-requires-2 c κs = search needs
@@ -52,9 +52,9 @@ pair-of-spec =
     next-comma-requires-2
     returns
     front-requires
-    trimmed-requires
+    bare-requires
     number-to-requires
-    trimmed-requires-2
+    bare-requires-2
     number-to-requires-2
     bounds-of-requires
     returns-2

@@ -1,0 +1,4 @@
+-- A written caption, read again, says the same cue with the new times.
+pub mod AssLine
+pub mod SrtLine
+pub mod SrtBlock

@@ -1,0 +1,195 @@
+-- A timing line that was written, read again: the times, and what is trailing. The start may have 9,999 hours, the end 99, since it is read from 12 bytes.
+use mathlib.Core.Path.{_≡_, refl, sym, ap, subst, _∙_}
+use mathlib.Core.Bool.{true, false}
+use mathlib.Core.List.{List, [], _∷_, _++_, append-assoc, append-nil}
+use Prim.Native.Nat.{ℕ, zero, suc, _+_, _*_, _-_, _/_, _%_, _≤_, _<_}
+use native.Mathlib.Omega.{arith}
+use borrow.Author.Tests.{lt-ltb, le-ltb, lt-leb, ne-eqb}
+use lib.Seq.{take-at, drop-at, getD-append-add}
+use lib.ListN.{length, take, drop, getD, length-append}
+use Rattle.chars.specs.Utf8.{tail}
+use Rattle.text.specs.Find.{starts, first, contains, upTo, past}
+use Rattle.chars.specs.White.{white, whiteHigh, trimHead, trimTail, trim}
+use Rattle.text.specs.Line.{textOf, terminatorOf, hasLf}
+use Rattle.unicode.specs.Encode.{Scalar}
+use Rattle.unicode.proofs.Encoding.{head-white, head-other}
+use Rattle.unicode.proofs.Trailing.{enc-1, tail-white}
+use Rattle.stamp.specs.declared.read.Time.{Time}
+use Rattle.stamp.specs.declared.read.Time.the-variants.{At}
+use Rattle.time.specs.Kind.{kindBad, unitsOf, markOf, fractionDigits, hourDigits}
+use Rattle.stamp.specs.Read.{timeIn}
+use Rattle.stamp.specs.Write.{pad, widest, textWith, timeText}
+use Rattle.stamp.proofs.Written.{text-some, srt-12, text-10}
+use Rattle.stamp.proofs.RoundTrip.{time-back}
+use Rattle.event.specs.Says.{cue}
+use Rattle.block.specs.Style.{srtEnd, srt}
+use Rattle.block.specs.Block.{arrow, writtenArrow, afterArrow, blockFrame, blockCue, bothSay, endText, trailing, timingLineSays, says}
+
+-- ---- the bytes of a written time: digits, `:` and `,`
+abbrev pub Plain : List ℕ → Type 0
+Plain [] = Unit {0}
+Plain (b ∷ s) = ((44 ≤ b) × ((b ≤ 58) × (b ≡ 45 → ⊥))) × Plain s
+
+plain-append : (xs ys : List ℕ) → Plain xs → Plain ys → Plain (xs ++ ys)
+plain-append [] ys p q = q
+plain-append (x ∷ xs) ys p q = (p .0, plain-append xs ys (p .1) q)
+
+plain-pad : (k n : ℕ) → Plain (pad k n)
+unfolding pad
+plain-pad zero n = tt
+plain-pad (suc k) n = plain-append (pad k (n / 10)) ((48 + n % 10) ∷ []) (plain-pad k (n / 10)) ((omega arith, (omega arith, λ e. omega arith)), tt)
+
+plain-part : (c k n : ℕ) → 44 ≤ c → c ≤ 58 → (c ≡ 45 → ⊥) → Plain (c ∷ pad k n)
+plain-part c k n a b d = ((a, (b, d)), plain-pad k n)
+
+plain-with : (U frac least units : ℕ) → Plain (textWith U frac least 44 units)
+unfolding textWith
+plain-with U frac least units =
+    let h = units / U / 60 / 60 in
+    let q1 : List ℕ = pad (widest least h) h in
+    let q2 : List ℕ = 58 ∷ pad 2 (units / U / 60 % 60) in
+    let q3 : List ℕ = 58 ∷ pad 2 (units / U % 60) in
+    let q4 : List ℕ = 44 ∷ pad frac (units % U) in
+    let p2 : Plain q2 = plain-part 58 2 _ (omega arith) (omega arith) (λ e. omega arith) in
+    let p3 : Plain q3 = plain-part 58 2 _ (omega arith) (omega arith) (λ e. omega arith) in
+    let p4 : Plain q4 = plain-part 44 frac _ (omega arith) (omega arith) (λ e. omega arith) in
+    plain-append (q1 ++ q2 ++ q3) q4 (plain-append (q1 ++ q2) q3 (plain-append q1 q2 (plain-pad (widest least h) h) p2) p3) p4
+
+srt-known : kindBad 1 ≡ false
+unfolding kindBad
+srt-known = refl
+
+pub plain-text : (units : ℕ) → Plain (timeText 1 44 units)
+plain-text units = subst Plain (sym (text-some 1 44 units srt-known)) (plain-with (unitsOf 1) (fractionDigits 1) (hourDigits 1) units)
+
+text-long : (units : ℕ) → 0 < length (timeText 1 44 units)
+text-long units = omega (arith, text-10 1 44 units srt-known)
+
+-- below 100 hours a time has 12 bytes
+pub text-12 : (units : ℕ) → units < 360000 * 1000 → length (timeText 1 44 units) ≡ 12
+text-12 units h = srt-12 44 units (omega arith)
+
+text-back : (units : ℕ) → units < 36000000 * 1000 → timeIn 1 (timeText 1 44 units) ≡ At units 44
+unfolding markOf unitsOf
+text-back units h = time-back 1 units srt-known h
+
+-- ---- the arrow behind them
+first-plain : (xs r : List ℕ) → Plain xs → first arrow (xs ++ r) ≡ length xs + first arrow r
+unfolding first starts
+first-plain [] r p = omega arith
+first-plain (b ∷ xs) r p = rw (ne-eqb 45 b (λ e. p .0 .1 .1 (sym e))) (omega (arith, first-plain xs r (p .1)))
+
+first-arrow : (r : List ℕ) → first arrow (writtenArrow ++ r) ≡ 1
+unfolding first starts
+first-arrow r = refl
+
+-- ---- White_Space about them
+plain-white : (u : ℕ) → 44 ≤ u → u ≤ 58 → white u ≡ false
+unfolding white whiteHigh
+plain-white u l h =
+    rw (le-ltb u 9 (omega arith), lt-leb u 13 (omega arith), ne-eqb u 32 (λ e. omega arith), ne-eqb u 0x85 (λ e. omega arith), ne-eqb u 0xA0 (λ e. omega arith), ne-eqb u 0x1680 (λ e. omega arith), lt-ltb u 0x2000 (omega arith))
+
+scalar : (u : ℕ) → u ≤ 58 → Scalar u
+scalar u h = record { below = omega arith; plain = λ a b. omega arith }
+
+head-plain : (xs r : List ℕ) → Plain xs → 0 < length xs → trimHead (xs ++ r) ≡ xs ++ r
+head-plain [] r p h = absurd (omega arith)
+head-plain (u ∷ xs) r p h =
+    subst (λ (e : List ℕ). trimHead (e ++ (xs ++ r)) ≡ e ++ (xs ++ r)) (sym (enc-1 u (omega (arith, p .0 .1 .0))))
+    (head-other u (scalar u (p .0 .1 .0)) (xs ++ r) (plain-white u (p .0 .0) (p .0 .1 .0)))
+
+space-white : white 32 ≡ true
+unfolding white
+space-white = refl
+
+head-space : (r : List ℕ) → trimHead (32 ∷ r) ≡ trimHead r
+head-space r = subst (λ (e : List ℕ). trimHead (e ++ r) ≡ trimHead r) (sym (enc-1 32 (omega arith))) (head-white 32 (scalar 32 (omega arith)) r space-white)
+
+tail-space : (xs : List ℕ) → trimTail (xs ++ 32 ∷ []) ≡ trimTail xs
+tail-space xs = subst (λ (e : List ℕ). trimTail (xs ++ e) ≡ trimTail xs) (sym (enc-1 32 (omega arith))) (tail-white 32 (scalar 32 (omega arith)) xs space-white)
+
+trim-space : (xs : List ℕ) → Plain xs → 0 < length xs → trim (xs ++ 32 ∷ []) ≡ trim xs
+unfolding trim
+trim-space xs p h =
+    let e : trimHead xs ≡ xs = ap trimHead (sym (append-nil xs)) ∙ head-plain xs [] p h ∙ append-nil xs in
+    ap trimTail (head-plain xs (32 ∷ []) p h) ∙ tail-space xs ∙ ap trimTail (sym e)
+
+same-trim : (a b : List ℕ) → trim a ≡ trim b → timeIn 1 a ≡ timeIn 1 b
+unfolding timeIn
+same-trim a b e = rw e
+
+-- ---- the text of a written timing line: start, arrow, end, trailing text
+abbrev pub lineText : (s e : ℕ) → (trailing : List ℕ) → List ℕ
+lineText s e t = timeText 1 44 s ++ (writtenArrow ++ (timeText 1 44 e ++ t))
+
+module _ (s e : ℕ) (t : List ℕ) where
+  written-first : first arrow (lineText s e t) ≡ length (timeText 1 44 s) + 1
+  written-first = first-plain (timeText 1 44 s) _ (plain-text s) ∙ ap (λ (n : ℕ). length (timeText 1 44 s) + n) (first-arrow (timeText 1 44 e ++ t))
+
+  pub arrow-back : contains arrow (lineText s e t) ≡ true
+  unfolding contains
+  arrow-back =
+      let n : length (lineText s e t) ≡ length (timeText 1 44 s) + (5 + length (timeText 1 44 e ++ t)) = length-append (timeText 1 44 s) (writtenArrow ++ (timeText 1 44 e ++ t)) ∙ omega arith in
+      lt-ltb (first arrow (lineText s e t)) (length (lineText s e t)) (omega (arith, written-first))
+
+  up-back : upTo arrow (lineText s e t) ≡ timeText 1 44 s ++ 32 ∷ []
+  unfolding upTo
+  up-back =
+      let r : List ℕ = 45 ∷ 45 ∷ 62 ∷ 32 ∷ (timeText 1 44 e ++ t) in
+      let x : lineText s e t ≡ (timeText 1 44 s ++ 32 ∷ []) ++ r = sym (append-assoc (timeText 1 44 s) (32 ∷ []) r) in
+      let n : length (timeText 1 44 s ++ 32 ∷ []) ≡ length (timeText 1 44 s) + 1 = length-append (timeText 1 44 s) (32 ∷ []) in
+      rw written-first (ap (take (length (timeText 1 44 s) + 1)) x ∙ take-at (timeText 1 44 s ++ 32 ∷ []) r _ n)
+
+  past-back : past arrow (lineText s e t) ≡ 32 ∷ (timeText 1 44 e ++ t)
+  unfolding past
+  past-back =
+      let w : List ℕ = 32 ∷ 45 ∷ 45 ∷ 62 ∷ [] in
+      let r : List ℕ = 32 ∷ (timeText 1 44 e ++ t) in
+      let x : lineText s e t ≡ (timeText 1 44 s ++ w) ++ r = sym (append-assoc (timeText 1 44 s) w r) in
+      let n : length (timeText 1 44 s ++ w) ≡ length (timeText 1 44 s) + 1 + 3 = length-append (timeText 1 44 s) w ∙ omega arith in
+      rw written-first (ap (drop (length (timeText 1 44 s) + 1 + 3)) x ∙ drop-at (timeText 1 44 s ++ w) r _ n)
+
+  after-back : afterArrow (lineText s e t) ≡ timeText 1 44 e ++ t
+  unfolding afterArrow
+  after-back = ap trimHead past-back ∙ head-space (timeText 1 44 e ++ t) ∙ head-plain (timeText 1 44 e) t (plain-text e) (text-long e)
+
+  -- the start
+  pub start-back : s < 36000000 * 1000 → timeIn 1 (upTo arrow (lineText s e t)) ≡ At s 44
+  start-back h =
+      ap (timeIn 1) up-back ∙ same-trim (timeText 1 44 s ++ 32 ∷ []) (timeText 1 44 s) (trim-space (timeText 1 44 s) (plain-text s) (text-long s)) ∙ text-back s h
+
+  module _ (h : e < 360000 * 1000) (whole : tail (getD t 0 0) ≡ false) where
+    twelve : srtEnd (timeText 1 44 e ++ t) ≡ 12
+    unfolding srtEnd
+    twelve =
+        let n : length (timeText 1 44 e) ≡ 12 = text-12 e h in
+        let m : length (timeText 1 44 e ++ t) ≡ 12 + length t = length-append (timeText 1 44 e) t ∙ omega arith in
+        let g : getD (timeText 1 44 e ++ t) 12 0 ≡ getD t 0 0 = ap (λ (k : ℕ). getD (timeText 1 44 e ++ t) k 0) (sym (omega arith)) ∙ getD-append-add (timeText 1 44 e) t 0 0 in
+        rw (le-ltb (length (timeText 1 44 e ++ t)) 12 (omega arith), g, whole)
+
+    end-back : endText srt (lineText s e t) ≡ timeText 1 44 e
+    end-back = rw (after-back, twelve) (take-at (timeText 1 44 e) t 12 (text-12 e h))
+
+    -- the end, and what is trailing
+    pub stop-back : timeIn 1 (endText srt (lineText s e t)) ≡ At e 44
+    stop-back = ap (timeIn 1) end-back ∙ text-back e (omega arith)
+
+    pub trailing-back : trailing srt (lineText s e t) ≡ t
+    trailing-back = rw (after-back, twelve) (drop-at (timeText 1 44 e) t 12 (text-12 e h))
+
+    -- a line with that text says the times, and its frame is as it was
+    pub line-back : (n : ℕ) (b x a l : List ℕ) → s < 36000000 * 1000 → textOf l ≡ lineText s e t → terminatorOf l ≡ x
+        → timingLineSays srt n b l a ≡ says (cue (blockCue n s 44 e 44 (blockFrame b t x a)))
+    unfolding timingLineSays
+    line-back n b x a l hs et ex =
+        ap (λ (y : List ℕ). bothSay n (blockFrame b (trailing srt y) (terminatorOf l) a) (timeIn 1 (upTo arrow y)) (timeIn 1 (endText srt y))) et ∙
+        ap (λ (y : List ℕ). bothSay n (blockFrame b (trailing srt (lineText s e t)) y a) (timeIn 1 (upTo arrow (lineText s e t))) (timeIn 1 (endText srt (lineText s e t)))) ex ∙
+        ap (λ (y : List ℕ). bothSay n (blockFrame b y x a) (timeIn 1 (upTo arrow (lineText s e t))) (timeIn 1 (endText srt (lineText s e t)))) trailing-back ∙
+        ap (λ (y : Time). bothSay n (blockFrame b t x a) y (timeIn 1 (endText srt (lineText s e t)))) (start-back hs) ∙
+        ap (λ (y : Time). bothSay n (blockFrame b t x a) (At s 44) y) stop-back
+
+-- no LF stands in a plain text
+pub lf-plain : (xs : List ℕ) → Plain xs → hasLf xs ≡ false
+unfolding hasLf
+lf-plain [] p = refl
+lf-plain (b ∷ xs) p = rw (ne-eqb b 10 (λ e. omega (arith, p .0 .0))) (lf-plain xs (p .1))

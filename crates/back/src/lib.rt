@@ -1,0 +1,1 @@
+// What is written is read back. There is no code here.

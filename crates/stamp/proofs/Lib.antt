@@ -1,0 +1,7 @@
+-- Laws of times as text.
+pub mod Pad
+pub mod Written
+pub mod Reading
+pub mod RoundTrip
+pub mod ReadFree
+mod Examples

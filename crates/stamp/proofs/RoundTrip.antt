@@ -1,0 +1,212 @@
+-- Reading what was written gives the units back (hours up to 9,999).
+use Prim.Native.Nat.{ℕ, zero, suc, _+_, _-_, _*_, _/_, _%_, _^_, _≤_, _<_}
+use mathlib.Core.Path.{_≡_, refl, ap, sym, subst, _∙_}
+use mathlib.Core.Bool.{Bool, true, false}
+use mathlib.Core.List.{List, [], _∷_, _++_, append-assoc, append-nil}
+use lib.ListN.{length, getD}
+use lib.Seq.{append-snoc}
+use native.Mathlib.Nat.{div-add-mod', mod-lt, div-lt-iff-lt-mul, pow-le-pow-right, lt-of-lt-of-le, pow-suc, mul-assoc}
+use native.Mathlib.Omega.{arith}
+use borrow.Author.Tests.{ne-eqb, lt-ltb, le-ltb, lt-leb}
+use Rattle.base.proofs.Laws.{yes!, no! }
+use Rattle.text.specs.declared.decimal.Number.the-variants.{Value}
+use Rattle.text.specs.Number.{digits, valueFrom, natural, number}
+use Rattle.text.specs.Find.{upTo, past}
+use Rattle.chars.specs.White.{white, whiteHigh, trimHead, trimTail, trim}
+use Rattle.unicode.specs.Encode.{encode, Scalar}
+use Rattle.text.proofs.Laws.{digit-some, natural-value, unsigned-none}
+use Rattle.unicode.proofs.Encoding.{head-other}
+use Rattle.unicode.proofs.Trailing.{tail-other}
+use Rattle.stamp.specs.declared.read.Time.the-variants.{At}
+use Rattle.base.specs.Limits.{mostHours, mostMinutes, mostSeconds}
+use Rattle.time.specs.Kind.{kindBad, unitsOf, markOf, fractionDigits, hourDigits}
+use Rattle.stamp.specs.Read.{colon, timeWith, timeIn}
+use Rattle.stamp.specs.Write.{pad, width, widest, textWith, timeText}
+use Rattle.time.proofs.Limits.{units-low, fraction-low, fraction-holds, mark-plain}
+use Rattle.stamp.proofs.Written.{text-some, text-none}
+use Rattle.text.proofs.Free.{Free, free-append, up-byte, past-byte}
+use Rattle.stamp.proofs.Pad.{pad-length, width-pos, width-pow}
+
+-- a list of digits, and a byte that is none
+abbrev Digits : List ℕ → Type 0
+Digits [] = Unit
+Digits (b ∷ s) = ((48 ≤ b) × (b ≤ 57)) × Digits s
+
+abbrev Mark : ℕ → Type 0
+Mark c = (b : ℕ) → 48 ≤ b → b ≤ 57 → c ≡ b → ⊥
+
+digits-snoc : (xs : List ℕ) (b : ℕ) → Digits xs → 48 ≤ b → b ≤ 57 → Digits (xs ++ b ∷ [])
+digits-snoc [] b d l h = ((l, h), tt)
+digits-snoc (x ∷ xs) b d l h = (d .0, digits-snoc xs b (d .1) l h)
+
+pad-digits : (k n : ℕ) → Digits (pad k n)
+unfolding pad
+pad-digits zero n = tt
+pad-digits (suc k) n = digits-snoc (pad k (n / 10)) (48 + n % 10) (pad-digits k (n / 10)) (omega arith) (omega arith)
+
+digits-free : (c : ℕ) → Mark c → (s : List ℕ) → Digits s → Free c s
+digits-free c m [] d = tt
+digits-free c m (b ∷ s) d = (m b (d .0 .0) (d .0 .1), digits-free c m s (d .1))
+
+-- a number read back
+digits-true : (xs : List ℕ) → Digits xs → digits xs ≡ true
+unfolding digits
+digits-true [] d = refl
+digits-true (b ∷ s) d = sym (yes! _ (digit-some b (d .0 .0) (d .0 .1)) (sym (digits-true s (d .1))))
+
+no-plus : (s : List ℕ) → Digits s → getD s 0 0 ≡ 0x2B → ⊥
+no-plus [] d e = omega arith
+no-plus (b ∷ s) d e = omega arith
+
+value-pad : (k a n : ℕ) (s : List ℕ) → n < 10 ^ k → valueFrom a (pad k n ++ s) ≡ valueFrom (a * 10 ^ k + n) s
+unfolding pad valueFrom
+value-pad zero a n s h = ap (λ (m : ℕ). valueFrom m s) (omega arith)
+value-pad (suc k) a n s h =
+    let small : n < 10 ^ k * 10 = rw pow-suc at h in
+    let d = 48 + n % 10 in
+    ap (valueFrom a) (append-snoc (pad k (n / 10)) d s) ∙ value-pad k a (n / 10) (d ∷ s) (omega arith) ∙
+    ap (λ (m : ℕ). valueFrom m s) (omega (arith, pow-suc 10 k, mul-assoc a (10 ^ k) 10, ap (λ (m : ℕ). a * m) (pow-suc 10 k)))
+
+value-nil : (v : ℕ) → valueFrom v [] ≡ v
+unfolding valueFrom
+value-nil v = refl
+
+part-back : (most k n : ℕ) → 0 < k → n < 10 ^ k → n ≤ most → number most (pad k n) ≡ Value n
+unfolding number
+part-back most k n hk small le =
+    let v : valueFrom 0 (pad k n) ≡ n = ap (valueFrom 0) (sym (append-nil (pad k n))) ∙ value-pad k 0 n [] small ∙ value-nil (0 * 10 ^ k + n) ∙ omega arith in
+    ap (natural most) (sym (unsigned-none (pad k n) (getD (pad k n) 0 0) refl (no-plus (pad k n) (pad-digits k n))))
+    ∙ sym (natural-value most n (pad k n) (omega (arith, pad-length k n)) (digits-true (pad k n) (pad-digits k n)) v le)
+
+-- white space at neither end
+digit-white : (u : ℕ) → 48 ≤ u → u ≤ 57 → white u ≡ false
+unfolding white whiteHigh
+digit-white u l h =
+    rw (le-ltb u 9 (omega arith), lt-leb u 13 (omega arith), ne-eqb u 32 (λ e. omega arith), ne-eqb u 0x85 (λ e. omega arith), ne-eqb u 0xA0 (λ e. omega arith), ne-eqb u 0x1680 (λ e. omega arith), lt-ltb u 0x2000 (omega arith))
+
+scalar : (u : ℕ) → u ≤ 57 → Scalar u
+scalar u h = record { below = omega arith; plain = λ a b. omega arith }
+
+encode-digit : (u : ℕ) → u ≤ 57 → encode u ≡ u ∷ []
+unfolding encode
+encode-digit u h = rw (lt-ltb u 0x80 (omega arith))
+
+head-digit : (p r : List ℕ) → Digits p → 0 < length p → trimHead (p ++ r) ≡ p ++ r
+head-digit [] r d h = absurd (omega arith)
+head-digit (u ∷ p) r d h =
+    subst (λ (e : List ℕ). trimHead (e ++ (p ++ r)) ≡ e ++ (p ++ r)) (encode-digit u (d .0 .1)) (head-other u (scalar u (d .0 .1)) (p ++ r) (digit-white u (d .0 .0) (d .0 .1)))
+
+tail-digit : (s : List ℕ) (u : ℕ) → 48 ≤ u → u ≤ 57 → trimTail (s ++ u ∷ []) ≡ s ++ u ∷ []
+tail-digit s u l h =
+    subst (λ (e : List ℕ). trimTail (s ++ e) ≡ s ++ e) (encode-digit u h) (tail-other u (scalar u h) s (digit-white u l h))
+
+snoc-pad : (A : List ℕ) (mark k f : ℕ) → 0 < k → trimTail (A ++ (mark ∷ pad k f)) ≡ A ++ (mark ∷ pad k f)
+unfolding pad
+snoc-pad A mark zero f p = absurd (omega arith)
+snoc-pad A mark (suc k) f p =
+    let d = 48 + f % 10 in
+    let e : A ++ (mark ∷ pad (suc k) f) ≡ (A ++ (mark ∷ pad k (f / 10))) ++ d ∷ [] = sym (append-assoc A (mark ∷ pad k (f / 10)) (d ∷ [])) in
+    ap trimTail e ∙ tail-digit (A ++ (mark ∷ pad k (f / 10))) d (omega arith) (omega arith) ∙ sym e
+
+with-tail : (U frac least mark units : ℕ) → 0 < frac → trimTail (textWith U frac least mark units) ≡ textWith U frac least mark units
+unfolding textWith
+with-tail U frac least mark units p =
+    snoc-pad (pad (widest least (units / U / 60 / 60)) (units / U / 60 / 60) ++ (58 ∷ pad 2 (units / U / 60 % 60)) ++ (58 ∷ pad 2 (units / U % 60))) mark frac (units % U) p
+
+shape : (U frac least mark units : ℕ)
+    → textWith U frac least mark units ≡
+    pad (widest least (units / U / 60 / 60)) (units / U / 60 / 60) ++
+    58 ∷ (pad 2 (units / U / 60 % 60) ++ 58 ∷ (pad 2 (units / U % 60) ++ mark ∷ pad frac (units % U)))
+unfolding textWith
+shape U frac least mark units = simp append-assoc
+
+-- nothing to trim
+trim-with : (U frac least mark units : ℕ) → 0 < frac → trim (textWith U frac least mark units) ≡ textWith U frac least mark units
+unfolding trim
+trim-with U frac least mark units hfrac = ap trimTail headed ∙ with-tail U frac least mark units hfrac
+  where
+    headed : trimHead (textWith U frac least mark units) ≡ textWith U frac least mark units
+    headed =
+        let h = units / U / 60 / 60 in
+        let w = widest least h in
+        ap trimHead (shape U frac least mark units) ∙ head-digit (pad w h) _ (pad-digits w h) (omega (arith, pad-length w h, width-pos h)) ∙ sym (shape U frac least mark units)
+
+module _ (U frac least mark units : ℕ) (hU : 0 < U) (hf : U ≤ 10 ^ frac) (hfrac : 0 < frac) (hm : Mark mark) (hh : units < 36000000 * U) where
+  back-with : timeWith U mark (textWith U frac least mark units) ≡ At units mark
+  unfolding timeWith
+  back-with =
+      let total = units / U in
+      let h = total / 60 / 60 in
+      let m = total / 60 % 60 in
+      let s = total % 60 in
+      let f = units % U in
+      let w = widest least h in
+      let t3 : List ℕ = pad 2 s ++ mark ∷ pad frac f in
+      let t2 : List ℕ = pad 2 m ++ 58 ∷ t3 in
+      let t1 : List ℕ = pad w h ++ 58 ∷ t2 in
+      let cm : Mark 58 = λ b l r e. omega arith in
+      let hours : total < 36000000 = div-lt-iff-lt-mul hU .1 hh in
+      let wide : h < 10 ^ w =
+      lt-of-lt-of-le (width-pow h) (pow-le-pow-right {n = 10} (omega arith) {i = width h} {j = w} (omega arith)) in
+      let e : textWith U frac least mark units ≡ t1 = shape U frac least mark units in
+      let p1 : past colon t1 ≡ t2 = past-byte 58 (pad w h) t2 (digits-free 58 cm (pad w h) (pad-digits w h)) in
+      let p2 : past colon t2 ≡ t3 = past-byte 58 (pad 2 m) t3 (digits-free 58 cm (pad 2 m) (pad-digits 2 m)) in
+      let H : number mostHours (upTo colon t1) ≡ Value h =
+      ap (number mostHours) (up-byte 58 (pad w h) t2 (digits-free 58 cm (pad w h) (pad-digits w h))) ∙ part-back mostHours w h (omega (arith, width-pos h)) wide (omega arith) in
+      let M : number mostMinutes (upTo colon t2) ≡ Value m =
+      ap (number mostMinutes) (up-byte 58 (pad 2 m) t3 (digits-free 58 cm (pad 2 m) (pad-digits 2 m))) ∙ part-back mostMinutes 2 m (omega arith) (omega arith) (omega arith) in
+      let S : number mostSeconds (upTo (mark ∷ []) t3) ≡ Value s =
+      ap (number mostSeconds) (up-byte mark (pad 2 s) (pad frac f) (digits-free mark hm (pad 2 s) (pad-digits 2 s))) ∙ part-back mostSeconds 2 s (omega arith) (omega arith) (omega arith) in
+      let F : number (U - 1) (past (mark ∷ []) t3) ≡ Value f =
+      ap (number (U - 1)) (past-byte mark (pad 2 s) (pad frac f) (digits-free mark hm (pad 2 s) (pad-digits 2 s))) ∙
+      part-back (U - 1) frac f hfrac (omega (arith, mod-lt units hU)) (omega (arith, mod-lt units hU)) in
+      let sum : ((h * 60 + m) * 60 + s) ≡ total = omega arith in
+      rw (e, p1, p2, H, M, S, F)
+      (ap (λ (n : ℕ). At n mark) (ap (λ (n : ℕ). n * U + f) sum ∙ div-add-mod' units U))
+
+-- a written time, read in its kind, is the time (hours up to 9,999), with the kind's mark
+pub time-back : (kind units : ℕ) → kindBad kind ≡ false → units < 36000000 * unitsOf kind → timeIn kind (timeText kind (markOf kind) units) ≡ At units (markOf kind)
+unfolding timeIn
+time-back kind units e h =
+    let U = unitsOf kind in
+    let f = fractionDigits kind in
+    let d = hourDigits kind in
+    let c = markOf kind in
+    let hU : 0 < U = omega (arith, units-low kind e) in
+    let hf : 0 < f = omega (arith, fraction-low kind e) in
+    sym
+    (no! _ e
+    (sym
+    (ap (λ (s : List ℕ). timeWith U c (trim s)) (text-some kind c units e) ∙
+    ap (timeWith U c) (trim-with U f d c units hf) ∙
+    back-with U f d c units hU (fraction-holds kind e) hf (mark-plain kind e) h)))
+
+-- nothing of a written time is white space at an end
+pub text-trimmed : (kind mark units : ℕ) → kindBad kind ≡ false → trim (timeText kind mark units) ≡ timeText kind mark units
+text-trimmed kind mark units e =
+    let U = unitsOf kind in
+    let f = fractionDigits kind in
+    let d = hourDigits kind in
+    rw (text-some kind mark units e) (trim-with U f d mark units (omega (arith, fraction-low kind e)))
+
+-- a byte that is no digit, no `:` and not the mark does not stand in a written time
+with-free : (U frac least mark units c : ℕ) → Mark c → (c ≡ 58 → ⊥) → (c ≡ mark → ⊥) → Free c (textWith U frac least mark units)
+unfolding textWith
+with-free U frac least mark units c m n k =
+    let h = units / U / 60 / 60 in
+    let w = widest least h in
+    let p1 : List ℕ = pad w h in
+    let p2 : List ℕ = 58 ∷ pad 2 (units / U / 60 % 60) in
+    let p3 : List ℕ = 58 ∷ pad 2 (units / U % 60) in
+    let p4 : List ℕ = mark ∷ pad frac (units % U) in
+    let free : (j x : ℕ) → Free c (pad j x) = λ j x. digits-free c m (pad j x) (pad-digits j x) in
+    free-append c (p1 ++ p2 ++ p3) p4
+    (free-append c (p1 ++ p2) p3 (free-append c p1 p2 (free w h) (n, free 2 (units / U / 60 % 60))) (n, free 2 (units / U % 60)))
+    (k, free frac (units % U))
+
+pub text-free : (kind mark units c : ℕ) → ((b : ℕ) → 48 ≤ b → b ≤ 57 → c ≡ b → ⊥) → (c ≡ 58 → ⊥) → (c ≡ mark → ⊥) → Free c (timeText kind mark units)
+text-free kind mark units c m n k = go (kindBad kind) refl
+  where
+    go : (b : Bool) → kindBad kind ≡ b → Free c (timeText kind mark units)
+    go true e = rw (text-none kind mark units e) tt
+    go false e = rw (text-some kind mark units e) (with-free (unitsOf kind) (fractionDigits kind) (hourDigits kind) mark units c m n k)

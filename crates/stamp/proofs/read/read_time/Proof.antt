@@ -1,0 +1,37 @@
+use Rattle.stamp.proofs.Reading.{read-none, read-limits, read-some}
+use borrow.Author.Needs.{needs}
+use Rattle.stamp.proofs.read.read_time.Statement.{statement}
+use Rattle.stamp.proofs.read.read_time.Tie as tie
+
+kind-bad-requires : tie.Need-kind-bad-requires
+kind-bad-requires c κs = search needs
+
+returns : tie.Need-returns
+returns c = search read-none
+
+trimmed-requires : tie.Need-trimmed-requires
+trimmed-requires c κs = search needs
+
+units-of-requires : tie.Need-units-of-requires
+units-of-requires c κs = search needs
+
+mark-of-requires : tie.Need-mark-of-requires
+mark-of-requires c κs = search needs
+
+read-with-requires : tie.Need-read-with-requires
+read-with-requires c κs = read-limits _ _ _ (c .before .before .before .before .kind-bad .ensures) (c .before .before .before .if1 .left) (c .before .units-of .ensures)
+
+returns-2 : tie.Need-returns-2
+returns-2 c = search read-some
+
+pub read-time-spec : {M : Type 1} → statement M
+read-time-spec =
+    tie.close
+    (tie.spec
+    kind-bad-requires
+    returns
+    trimmed-requires
+    units-of-requires
+    mark-of-requires
+    read-with-requires
+    returns-2)

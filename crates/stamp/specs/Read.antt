@@ -1,0 +1,56 @@
+-- A caption time as text, read. A text is the list of its bytes.
+use Prim.Native.Nat.{ℕ, _+_, _-_, _*_, _≤_}
+use mathlib.Core.Bool.{cond}
+use mathlib.Core.List.{List, [], _∷_}
+use Rattle.base.specs.Limits.{mostHours, mostMinutes, mostSeconds}
+use Rattle.text.specs.declared.decimal.Number.{Number}
+use Rattle.text.specs.declared.decimal.Number.the-variants.{Value, Bad as NoNumber}
+use Rattle.text.specs.Number.{number}
+use Rattle.text.specs.Find.{upTo, past}
+use Rattle.chars.specs.White.{trim}
+use Rattle.time.specs.Kind.{kindBad, unitsOf, markOf}
+use Rattle.stamp.specs.declared.read.Time.{Time}
+use Rattle.stamp.specs.declared.read.Time.the-variants.{At, Bad}
+
+-- the units of four parts, and the mark that was seen
+abbrev pub timeFrom : (U mark : ℕ) → Number → Number → Number → Number → Time
+timeFrom U mark (Value h) (Value m) (Value s) (Value f) = At (((h * 60 + m) * 60 + s) * U + f) mark
+timeFrom U mark (Value h) (Value m) (Value s) NoNumber = Bad
+timeFrom U mark (Value h) (Value m) NoNumber f = Bad
+timeFrom U mark (Value h) NoNumber s f = Bad
+timeFrom U mark NoNumber m s f = Bad
+
+-- `:`
+abbrev pub colon : List ℕ
+colon = 58 ∷ []
+
+-- h:m:s and then the mark and the fraction, each part a number within its limit, f below U. A missing `:` or mark leaves an empty part, which is no number.
+unfoldable pub timeWith : (U mark : ℕ) → List ℕ → Time
+timeWith U mark text =
+    timeFrom U mark
+    (number mostHours (upTo colon text))
+    (number mostMinutes (upTo colon (past colon text)))
+    (number mostSeconds (upTo (mark ∷ []) (past colon (past colon text))))
+    (number (U - 1) (past (mark ∷ []) (past colon (past colon text))))
+
+-- the time that a text, trimmed, says in a kind: `h:m:s.f` in ASS, `h:m:s,f` in SRT
+unfoldable pub timeIn : (kind : ℕ) → List ℕ → Time
+timeIn kind text = cond (kindBad kind) Bad (timeWith (unitsOf kind) (markOf kind) (trim text))
+
+-- the number of the answer (22, bad time), and its values
+abbrev pub timeNumber : Time → ℕ
+timeNumber (At units mark) = 0
+timeNumber Bad = 22
+
+abbrev pub timeUnits : Time → ℕ
+timeUnits (At units mark) = units
+timeUnits Bad = 0
+
+abbrev pub timeMark : Time → ℕ
+timeMark (At units mark) = mark
+timeMark Bad = 0
+
+-- a number that was read is at most k
+abbrev pub Below : ℕ → Number → Type 0
+Below k (Value n) = n ≤ k
+Below k NoNumber = Unit

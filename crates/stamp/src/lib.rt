@@ -1,0 +1,8 @@
+// A caption's time as text: read and written, by kind.
+mod read;
+mod write;
+
+pub use read::Time;
+pub use read::read_time;
+pub use write::write_time;
+pub use write::write_time_at;

@@ -1,0 +1,83 @@
+// A caption time as text, read.
+use text::Number;
+use time::kind_bad;
+use time::mark_of;
+use time::units_of;
+ghost use mathlib.Core.Path.{_≡_};
+ghost use Prim.Native.Nat.{_+_, _*_, _≤_};
+ghost use Rattle.base.specs.Limits.{mostHours, mostMinutes, mostSeconds};
+ghost use Rattle.text.specs.Find.{upTo, past};
+ghost use Rattle.stamp.specs.Read.{colon, timeFrom, timeWith, timeIn, Below};
+
+// A time that was read, in units, and the mark before its fraction.
+pub enum Time {
+    At(u64, u8),
+    Bad,
+}
+
+// The units of hours, minutes, seconds and a fraction.
+fn units_from(h: u32, m: u32, s: u32, f: u32, unit: u32) -> u64
+    requires { ⌜ (unit ≤ 1000) × ((h ≤ mostHours) × ((m ≤ mostMinutes) × ((s ≤ mostSeconds) × (f ≤ 999)))) ⌝ }
+    ensures { λ r. ⌜ r ≡ ((h * 60 + m) * 60 + s) * unit + f ⌝ }
+{
+    let minutes = (h as u64) * 60 + (m as u64);
+    let seconds = minutes * 60 + (s as u64);
+    seconds * (unit as u64) + (f as u64)
+}
+
+// The four parts put together.
+fn join(h: Number, m: Number, s: Number, f: Number, unit: u32, mark: u8) -> Time
+    requires { ⌜ (unit ≤ 1000) × (Below mostHours h × (Below mostMinutes m × (Below mostSeconds s × Below 999 f))) ⌝ }
+    ensures { λ r. ⌜ r ≡ timeFrom unit mark h m s f ⌝ }
+{
+    let Number::Value(hours) = h else {
+        return Time::Bad;
+    };
+    let Number::Value(minutes) = m else {
+        return Time::Bad;
+    };
+    let Number::Value(seconds) = s else {
+        return Time::Bad;
+    };
+    let Number::Value(fraction) = f else {
+        return Time::Bad;
+    };
+    let units = units_from(hours, minutes, seconds, fraction, unit);
+    Time::At(units, mark)
+}
+
+fn before_colon(s: &[u8]) -> &[u8]
+    ensures { λ r. ⌜ now r ≡ upTo colon (now (s .entry)) ⌝ }
+{
+    text::up_to(s, b":")
+}
+
+fn after_colon(s: &[u8]) -> &[u8]
+    ensures { λ r. ⌜ now r ≡ past colon (now (s .entry)) ⌝ }
+{
+    text::past(s, b":")
+}
+
+fn read_with(text: &[u8], unit: u32, mark: u8) -> Time
+    requires { ⌜ (1 ≤ unit) × (unit ≤ 1000) ⌝ }
+    ensures { λ r. ⌜ r ≡ timeWith unit mark (now (text .entry)) ⌝ }
+{
+    let sign = [mark];
+    let h = text::number_to(before_colon(text), base::MOST_HOURS);
+    let rest = after_colon(text);
+    let m = text::number_to(before_colon(rest), base::MOST_MINUTES);
+    let last = after_colon(rest);
+    let s = text::number_to(text::up_to(last, &sign), base::MOST_SECONDS);
+    let f = text::number_to(text::past(last, &sign), unit - 1);
+    join(h, m, s, f, unit, mark)
+}
+
+// Reads a time, trimmed first.
+pub fn read_time(text: &[u8], kind: u32) -> Time
+    ensures { λ r. ⌜ r ≡ timeIn kind (now (text .entry)) ⌝ }
+{
+    if kind_bad(kind) {
+        return Time::Bad;
+    }
+    read_with(chars::trimmed(text), units_of(kind), mark_of(kind))
+}

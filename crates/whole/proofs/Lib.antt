@@ -1,0 +1,4 @@
+-- The blocks of a text, and worked texts of each kind.
+pub mod BlockShape
+mod AssTexts
+mod SrtTexts

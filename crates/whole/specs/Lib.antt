@@ -1,0 +1,3 @@
+-- What a whole text of each kind says.
+pub mod Ass
+pub mod Srt

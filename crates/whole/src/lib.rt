@@ -1,0 +1,1 @@
+// Whole texts of each kind, as definitions. There is no code here.
