@@ -92,6 +92,3 @@ module _ (ls : List (List ℕ)) (f : Finished ls) where
 
   pub held-block : (k : Style) (first : ℕ) → blockSays k first (linesOf (concat ls)) ≡ blockSays k first ls
   held-block k first = ap (blockSays k first) lines-held
-
-  pub open-block : (k : Style) (first : ℕ) (r : List ℕ) → 0 < length r → hasLf r ≡ false → blockSays k first (linesOf (concat ls ++ r)) ≡ blockSays k first (ls ++ r ∷ [])
-  open-block k first r h e = ap (blockSays k first) (lines-open r h e)

@@ -58,6 +58,3 @@ native-view s e = is-native (view s) (sym (foreign-view s) ∙ e)
 module _ (s : Session) (e : foreignOf s ≡ false) where
   pub native-room : s .«held_len» ≤ mostHeld
   native-room = omega (arith, native-view s e .holds .few, held-length (s .«held_len») (s .held))
-
-  pub native-held : length (s .held) ≡ mostHeld → view s .held ≡ take (s .«held_len») (s .held)
-  native-held r = held-plain (s .«held_len») (s .held) (omega (arith, native-room, r))

@@ -56,11 +56,6 @@ pub count-none : (c : Counts) → countAll c [] ≡ c
 unfolding countAll
 count-none c = refl
 
-pub captions-append : (xs ys : List Emit) → captions (xs ++ ys) ≡ captions xs + captions ys
-unfolding captions
-captions-append [] ys = omega arith
-captions-append (e ∷ xs) ys = omega (arith, captions-append xs ys)
-
 -- ---- captions by the text alone
 pub parts-append : (xs ys : List Part) → captionsIn (xs ++ ys) ≡ captionsIn xs + captionsIn ys
 unfolding captionsIn

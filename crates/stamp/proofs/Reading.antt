@@ -170,9 +170,6 @@ module _ (kind n k : ℕ) (text : List ℕ) (e : timeIn kind text ≡ At n k) wh
   pub time-most : n ≤ mostUnits
   time-most = omega (arith, time-below, units-high kind (read-known kind n k text e .0))
 
-  -- it was read in a known kind, and with its mark
-  pub time-kind : kindBad kind ≡ false
-  time-kind = read-known kind n k text e .0
-
+  -- it was read with the mark of its kind
   pub time-mark : k ≡ markOf kind
   time-mark = with-mark (unitsOf kind) n (markOf kind) k (trim text) (read-known kind n k text e .1)

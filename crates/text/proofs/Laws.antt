@@ -82,14 +82,6 @@ equals-other (a ∷ p) (b ∷ s) h = go (eqb a b) (equals-other p s (λ q. h (ap
     go true e = e
     go false e = refl
 
-equals-self : (s : List ℕ) → equals s s ≡ true
-unfolding equals
-equals-self [] = refl
-equals-self (b ∷ s) = sym (yes! _ (eq-eqb b b refl) (sym (equals-self s)))
-
-pub equals-same : (p s : List ℕ) → p ≡ s → equals p s ≡ true
-equals-same p s e = ap (equals p) (sym e) ∙ equals-self p
-
 pub equals-true : (p s : List ℕ) → equals p s ≡ true → p ≡ s
 unfolding equals
 equals-true [] [] e = refl
