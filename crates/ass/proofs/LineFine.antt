@@ -7,7 +7,7 @@ use native.Mathlib.Omega.{arith}
 use borrow.Author.Tests.{le-ltb}
 use lib.Dec.{eqb, ltb}
 use lib.ListN.{length, drop}
-use Rattle.chars.specs.White.{trim}
+use Rattle.white.specs.White.{trim}
 use Rattle.text.specs.Find.{starts, equals}
 use Rattle.text.specs.Line.{textOf, terminatorOf}
 use Rattle.stamp.specs.declared.read.Time.{Time}

@@ -6,7 +6,7 @@ use Prim.Native.Nat.{ℕ, suc, _+_, _*_, _≤_, _<_, _^_}
 use native.Mathlib.Omega.{arith}
 use lib.Dec.{eqb, ltb}
 use lib.ListN.{length, drop}
-use Rattle.chars.specs.White.{trim}
+use Rattle.white.specs.White.{trim}
 use Rattle.text.specs.Find.{starts, equals}
 use Rattle.text.specs.Line.{textOf, terminatorOf}
 use Rattle.stamp.specs.declared.read.Time.{Time}

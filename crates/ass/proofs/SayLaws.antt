@@ -9,7 +9,7 @@ use borrow.Author.Tests.{lt-ltb, le-ltb, eq-eqb, ne-eqb, leb-true, leb-false}
 use lib.Dec.{eqb, ltb, leb}
 use lib.ListN.{length, take, drop, length-append, length-drop}
 use Rattle.base.specs.Put.{put}
-use Rattle.chars.specs.White.{trim}
+use Rattle.white.specs.White.{trim}
 use Rattle.text.specs.Find.{starts, equals}
 use Rattle.text.specs.Line.{textOf, terminatorOf}
 use Rattle.text.proofs.LineLaws.{text-terminator}

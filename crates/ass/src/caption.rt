@@ -290,7 +290,7 @@ pub fn line(
         let told = refused(16);
         return LineTold { told, columns };
     }
-    let t = chars::trimmed(text::text_of(text));
+    let t = white::trimmed(text::text_of(text));
     if is_section(t) {
         let next = in_section(names_events(t), columns);
         let told = stayed(text, out);

@@ -9,7 +9,7 @@ use borrow.Author.Tests.{eq-eqb, ne-eqb, eqb-true, eqb-false}
 use lib.Dec.{eqb}
 use lib.ListN.{length, take, drop, getD, length-drop}
 use lib.Seq.{take-all}
-use Rattle.chars.specs.White.{trim}
+use Rattle.white.specs.White.{trim}
 use Rattle.text.specs.Find.{equals, first}
 use Rattle.text.specs.Piece.{pieces, comma}
 use Rattle.text.proofs.Laws.{equals-true}

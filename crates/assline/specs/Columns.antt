@@ -3,7 +3,7 @@ use mathlib.Core.Bool.{Bool, true, false, cond}
 use mathlib.Core.List.{List, [], _∷_, map}
 use Prim.Native.Nat.{ℕ, zero, suc}
 use lib.ListN.{length}
-use Rattle.chars.specs.White.{trim}
+use Rattle.white.specs.White.{trim}
 use Rattle.text.specs.Find.{equals, contains, upTo, past}
 use Rattle.text.specs.Piece.{comma, pieces}
 use Rattle.assline.specs.declared.layout.Columns.{Columns}

@@ -45,7 +45,7 @@ pub fn columns_of(s: &[u8]) -> Columns
     let mut end: usize = 0;
     loop {
         let i = text::find(t, b",");
-        let name = chars::trimmed(base::front(t, i));
+        let name = white::trimmed(base::front(t, i));
         columns += 1;
         start = first_place(start, columns, is_start(name));
         end = first_place(end, columns, is_end(name));

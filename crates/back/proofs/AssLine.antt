@@ -7,10 +7,10 @@ use native.Mathlib.Omega.{arith}
 use borrow.Author.Tests.{ne-eqb, eqb-true, eqb-false, ltb-true, ltb-false}
 use lib.Dec.{eqb, ltb}
 use lib.ListN.{length, take, drop}
-use Rattle.chars.specs.White.{white, whiteHigh, keepFrom, trimHead, trimTail, trim}
+use Rattle.white.specs.White.{white, whiteHigh, keepFrom, trimHead, trimTail, trim}
 use Rattle.text.specs.Find.{starts, equals}
 use Rattle.text.specs.Line.{textOf, terminatorOf}
-use Rattle.chars.proofs.Laws.{white-ascii, head-none}
+use Rattle.white.proofs.Laws.{white-ascii, head-none}
 use Rattle.text.proofs.LineEnds.{lastOf, last-append, last-some, Ended, ended-swap, text-again, terminator-again, line-ended}
 use Rattle.stamp.specs.declared.read.Time.{Time}
 use Rattle.stamp.specs.declared.read.Time.the-variants.{At, Bad}

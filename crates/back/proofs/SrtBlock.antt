@@ -9,9 +9,9 @@ use lib.Dec.{ltb, eqb}
 use lib.Seq.{drop-drop, getD-drop}
 use lib.ListN.{length, drop, getD, length-append, drop-of-length-le}
 use Rattle.base.specs.Width.{byWidth}
-use Rattle.chars.specs.Utf8.{tail}
+use Rattle.utf8.specs.Utf8.{tail}
 use Rattle.text.specs.Find.{first, contains, upTo, past}
-use Rattle.chars.specs.White.{whiteHead, headFrom, trimHead}
+use Rattle.white.specs.White.{whiteHead, headFrom, trimHead}
 use Rattle.text.specs.Line.{ontoFirst, linesOf, concat, lineCount, textOf, terminatorOf, endsLine, hasLf}
 use Rattle.text.proofs.LineLaws.{text-terminator, line-then, line-last}
 use Rattle.text.proofs.LineEnds.{lastOf, last-append, last-drop, Ended, ended-swap, text-again, terminator-again, line-ended}

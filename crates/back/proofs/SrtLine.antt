@@ -7,9 +7,9 @@ use native.Mathlib.Omega.{arith}
 use borrow.Author.Tests.{lt-ltb, le-ltb, lt-leb, ne-eqb}
 use lib.Seq.{take-at, drop-at, getD-append-add}
 use lib.ListN.{length, take, drop, getD, length-append}
-use Rattle.chars.specs.Utf8.{tail}
+use Rattle.utf8.specs.Utf8.{tail}
 use Rattle.text.specs.Find.{starts, first, contains, upTo, past}
-use Rattle.chars.specs.White.{white, whiteHigh, trimHead, trimTail, trim}
+use Rattle.white.specs.White.{white, whiteHigh, trimHead, trimTail, trim}
 use Rattle.text.specs.Line.{textOf, terminatorOf, hasLf}
 use Rattle.unicode.specs.Encode.{Scalar}
 use Rattle.unicode.proofs.Encoding.{head-white, head-other}

@@ -1,7 +1,7 @@
 // C functions for measurements alone, each with the contract of what it calls.
 ghost use mathlib.Core.Path.{_≡_};
 ghost use mathlib.Core.Bool.{cond};
-ghost use Rattle.chars.specs.Utf8.{utf8};
+ghost use Rattle.utf8.specs.Utf8.{utf8};
 ghost use Rattle.segmap.specs.Map.{mapOf};
 
 // 1 for UTF-8, else 0.
@@ -9,7 +9,7 @@ ghost use Rattle.segmap.specs.Map.{mapOf};
 pub extern "C" fn bench_is_utf8(text: &[u8]) -> u32
     ensures { λ r. ⌜ r ≡ cond (utf8 (now (text .entry))) 1 0 ⌝ }
 {
-    if chars::is_utf8(text) {
+    if utf8::is_utf8(text) {
         return 1;
     }
     0

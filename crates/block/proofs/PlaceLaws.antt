@@ -9,8 +9,8 @@ use borrow.Author.Tests.{lt-ltb, le-ltb}
 use lib.Seq.{length-take-le, take-at, drop-at}
 use lib.ListN.{length, take, drop, getD, length-drop, length-append}
 use Rattle.base.proofs.Laws.{yes!, no! }
-use Rattle.chars.specs.Utf8.{tail}
-use Rattle.chars.specs.White.{trimHead}
+use Rattle.utf8.specs.Utf8.{tail}
+use Rattle.white.specs.White.{trimHead}
 use Rattle.text.specs.Find.{contains, past}
 use Rattle.text.specs.Line.{lineLength, linesOf, concat, lineCount, textOf}
 use Rattle.text.proofs.LineLaws.{line-some, line-le, lines-cut, lines-end, lines-joined}

@@ -9,7 +9,7 @@ use Rattle.base.specs.Put.{put, placedAt, placeAfter}
 use Rattle.base.proofs.PartLaws.{part-lengths}
 use Rattle.base.proofs.PutLaws.{put-nil, then-placed}
 use Rattle.text.specs.Find.{upTo, past}
-use Rattle.chars.specs.White.{trimHead}
+use Rattle.white.specs.White.{trimHead}
 use Rattle.text.specs.Line.{textOf, terminatorOf}
 use Rattle.text.proofs.LineLaws.{text-terminator, up-past, trim-head-length}
 use Rattle.stamp.specs.declared.read.Time.the-variants.{At}

@@ -3,7 +3,7 @@ use mathlib.Core.Bool.{false, cond}
 use mathlib.Core.List.{List, [], _∷_}
 use Prim.Native.Nat.{ℕ, _+_}
 use lib.ListN.{take, drop}
-use Rattle.chars.specs.White.{trimHead}
+use Rattle.white.specs.White.{trimHead}
 use Rattle.text.specs.Find.{contains, upTo, past}
 use Rattle.text.specs.Line.{concat, lineCount, textOf, terminatorOf}
 use Rattle.stamp.specs.declared.read.Time.{Time}

@@ -4,7 +4,7 @@ use mathlib.Core.List.{List}
 use Prim.Native.Nat.{ℕ}
 use lib.Dec.{ltb, eqb}
 use lib.ListN.{length, getD}
-use Rattle.chars.specs.Utf8.{tail}
+use Rattle.utf8.specs.Utf8.{tail}
 use Rattle.text.specs.Line.{blank}
 use Rattle.stamp.specs.Read.{timeIn}
 use Rattle.stamp.specs.declared.read.Time.{Time}

@@ -32,7 +32,7 @@ pub fn before_arrow(s: &[u8]) -> &[u8]
 pub fn after_arrow(s: &[u8]) -> &[u8]
     ensures { λ r. ⌜ now r ≡ afterArrow (now (s .entry)) ⌝ }
 {
-    chars::trim_head(text::past(s, b"-->"))
+    white::trim_head(text::past(s, b"-->"))
 }
 
 // How many bytes of what follows the arrow are the end time.
@@ -42,7 +42,7 @@ pub fn end_length(r: &[u8]) -> usize
     if r.len() < 12 {
         return r.len();
     }
-    if chars::is_tail(base::byte(r, 12)) {
+    if utf8::is_tail(base::byte(r, 12)) {
         return r.len();
     }
     12

@@ -12,7 +12,7 @@ use lib.Seq.{length-take-le, take-suc, take-length, take-append-seam}
 use borrow.Author.Tests.{lt-ltb, le-ltb, ltb-false, eq-eqb, ne-eqb}
 use Rattle.base.specs.Limits.{mostLine, mostBlock, mostHeld}
 use Rattle.base.proofs.Laws.{or-left, or-right}
-use Rattle.chars.specs.Utf8.{utf8}
+use Rattle.utf8.specs.Utf8.{utf8}
 use Rattle.text.specs.Line.{concat, linesOf, lineLength, hasLf}
 use Rattle.text.proofs.LineLaws.{lines-back, lines-cut, lines-end, line-some}
 use Rattle.block.specs.Style.{blankIn}

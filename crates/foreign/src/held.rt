@@ -2,7 +2,7 @@
 ghost use mathlib.Core.Path.{_≡_};
 ghost use mathlib.Core.Bool.{_||_, not};
 ghost use lib.ListN.{length};
-ghost use Rattle.chars.specs.Utf8.{utf8};
+ghost use Rattle.utf8.specs.Utf8.{utf8};
 ghost use Rattle.text.specs.Line.{concat, linesOf};
 ghost use Rattle.block.specs.Style.{blankIn};
 ghost use Rattle.machine.specs.Cut.{closedLines};
@@ -29,7 +29,7 @@ fn line_bad(kind: u32, line: &[u8]) -> bool
     if block::is_blank_in(kind, line) {
         return true;
     }
-    !chars::is_utf8(line)
+    !utf8::is_utf8(line)
 }
 
 // Whether one of the lines is such a line.

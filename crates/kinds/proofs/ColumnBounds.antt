@@ -9,7 +9,7 @@ use lib.ListN.{length, drop, length-drop, length-take, length-map}
 use borrow.Author.Tests.{le-ltb, ltb-false}
 use Rattle.base.specs.Limits.{mostLine, mostColumns}
 use Rattle.base.proofs.Laws.{or-left, or-right}
-use Rattle.chars.specs.White.{trim}
+use Rattle.white.specs.White.{trim}
 use Rattle.text.specs.Find.{starts, equals}
 use Rattle.text.specs.Piece.{piecesFrom, pieces, comma}
 use Rattle.text.specs.Line.{ontoFirst, terminatorLength, textOf, terminatorOf}

@@ -8,7 +8,7 @@ use lib.Dec.{ltb, leb}
 use lib.ListN.{length, length-append}
 use borrow.Author.Tests.{le-ltb, leb-true}
 use Rattle.base.specs.Limits.{mostLine, mostBlock}
-use Rattle.chars.specs.Utf8.{utf8}
+use Rattle.utf8.specs.Utf8.{utf8}
 use Rattle.text.specs.Line.{concat, lineCount, hasLf, endsLine}
 use Rattle.text.proofs.LineLaws.{Finished}
 use Rattle.time.specs.Kind.{kindBad}

@@ -7,8 +7,8 @@ use native.Mathlib.Omega.{arith}
 use lib.Dec.{leb}
 use lib.ListN.{length, length-append}
 use Rattle.base.specs.Limits.{mostBlock}
-use Rattle.chars.specs.Utf8.{utf8}
-use Rattle.chars.specs.White.{headFrom, trimHead}
+use Rattle.utf8.specs.Utf8.{utf8}
+use Rattle.white.specs.White.{headFrom, trimHead}
 use Rattle.text.specs.Line.{linesOf, concat, lineCount, hasLf, blank}
 use Rattle.text.proofs.LineLaws.{Finished, lines-end}
 use Rattle.segmap.specs.declared.segment.Segment.{Segment}

@@ -5,7 +5,7 @@ use Prim.Native.Nat.{ℕ}
 use lib.Dec.{ltb, eqb}
 use lib.ListN.{length}
 use Rattle.base.specs.Limits.{mostLine, mostBlock, mostColumns}
-use Rattle.chars.specs.Utf8.{utf8}
+use Rattle.utf8.specs.Utf8.{utf8}
 use Rattle.text.specs.Line.{concat, hasLf}
 use Rattle.assline.specs.declared.layout.Columns.{Columns}
 use Rattle.block.specs.Style.{blankIn}

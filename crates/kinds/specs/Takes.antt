@@ -5,7 +5,7 @@ use Prim.Native.Nat.{ℕ, suc, _+_, _-_}
 use lib.Dec.{leb, eqb}
 use lib.ListN.{length}
 use Rattle.base.specs.Limits.{mostBlock}
-use Rattle.chars.specs.Utf8.{utf8}
+use Rattle.utf8.specs.Utf8.{utf8}
 use Rattle.text.specs.Line.{concat, lineCount}
 use Rattle.event.specs.Says.{Part, stays, notUtf8, longBlock}
 use Rattle.assline.specs.declared.layout.Columns.{Columns}

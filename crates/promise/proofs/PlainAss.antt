@@ -8,8 +8,8 @@ use lib.Dec.{eqb, leb}
 use lib.ListN.{length}
 use Rattle.base.specs.Limits.{mostLine}
 use Rattle.base.specs.Refusal.{_orElse_, faultUnless}
-use Rattle.chars.specs.Utf8.{utf8}
-use Rattle.chars.specs.White.{trim}
+use Rattle.utf8.specs.Utf8.{utf8}
+use Rattle.white.specs.White.{trim}
 use Rattle.text.specs.Line.{textOf}
 use Rattle.event.specs.Says.{notUtf8}
 use Rattle.assline.specs.declared.layout.Columns.{Columns}

@@ -6,7 +6,7 @@ use lib.Dec.{leb, eqb}
 use lib.ListN.{length}
 use Rattle.base.specs.Limits.{mostLine, mostBlock}
 use Rattle.base.specs.Refusal.{_orElse_, faultUnless}
-use Rattle.chars.specs.Utf8.{utf8}
+use Rattle.utf8.specs.Utf8.{utf8}
 use Rattle.text.specs.Line.{linesOf, lineCount}
 use Rattle.event.specs.Says.{Part, stays, faultNumber}
 use Rattle.event.specs.Mark.{marked, behindMark, markWritten}

@@ -13,7 +13,7 @@ use Rattle.base.specs.Put.{put, putAt}
 use Rattle.base.proofs.Laws.{and-right}
 use Rattle.base.proofs.PutLaws.{put-nil, put-append, tail-back, putAt-nil}
 use Rattle.text.specs.Find.{equals}
-use Rattle.chars.specs.Utf8.{utf8}
+use Rattle.utf8.specs.Utf8.{utf8}
 use Rattle.text.specs.Line.{concat, linesOf, lineCount, hasLf}
 use Rattle.time.specs.Kind.{kindBad}
 use Rattle.event.specs.declared.setting.Config.{Config}

@@ -11,7 +11,7 @@ use borrow.Author.Tests.{le-leb, lt-leb, eq-eqb, ne-eqb}
 use Rattle.base.specs.Limits.{mostBlock}
 use Rattle.base.specs.Put.{put, placedAt, placeAfter}
 use Rattle.base.proofs.PutLaws.{put-nil, after-yes, then-placed}
-use Rattle.chars.specs.Utf8.{utf8}
+use Rattle.utf8.specs.Utf8.{utf8}
 use Rattle.text.specs.Line.{concat, linesOf, lineCount, lineLength}
 use Rattle.text.proofs.LineLaws.{line-some, lines-cut, lines-end}
 use Rattle.segmap.specs.Segment.{segmentsOf}

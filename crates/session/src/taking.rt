@@ -151,7 +151,7 @@ fn ass_line(
     ensures { λ r. ⌜ ((s : State) → columns ≡ s .columns → s .block ≡ [] → Done config (now (map .entry)) s (now (line .entry)) (lineTakes s n (now (line .entry))) counts r (now (out .entry)) (now (out .exit)) (now (warnings .entry)) (now (warnings .exit))) ⌝ }
     ensures { λ r. ⌜ (r .skip ≡ 0) × (r .written ≤ length (now (out .entry))) × (r .warned ≤ length (now (warnings .entry))) ⌝ }
 {
-    if !chars::is_utf8(line) {
+    if !utf8::is_utf8(line) {
         return quiet(20, false, counts, columns);
     }
     let said = ass::line(config, map, columns, n, line, out, warnings);
@@ -221,7 +221,7 @@ fn srt_line(
     ensures { λ r. ⌜ ((s : State) → columns ≡ s .columns → now (block .entry) ≡ concat (s .block) → Parsed false (s .block) → Done config (now (map .entry)) s (now (line .entry)) (blockTakes srt s n (now (line .entry))) counts r (now (out .entry)) (now (out .exit)) (now (warnings .entry)) (now (warnings .exit))) ⌝ }
     ensures { λ r. ⌜ (r .skip ≡ 0) × (r .written ≤ length (now (out .entry))) × (r .warned ≤ length (now (warnings .entry))) ⌝ }
 {
-    if !chars::is_utf8(line) {
+    if !utf8::is_utf8(line) {
         return quiet(20, false, counts, columns);
     }
     if block::is_blank_in(1, line) {

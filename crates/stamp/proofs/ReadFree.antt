@@ -14,8 +14,8 @@ use Rattle.base.specs.Limits.{mostHours, mostMinutes, mostSeconds}
 use Rattle.text.specs.declared.decimal.Number.{Number}
 use Rattle.text.specs.declared.decimal.Number.the-variants.{Value, Bad as NoNumber}
 use Rattle.text.specs.Number.{digit, digits, valueFrom, natural, unsigned, number}
-use Rattle.chars.specs.Utf8.{charWidth, codeHead}
-use Rattle.chars.specs.White.{white, whiteHead, endsWhite, whiteTail, headFrom, keepFrom, trimHead, trimTail, trim}
+use Rattle.utf8.specs.Utf8.{charWidth, codeHead}
+use Rattle.white.specs.White.{white, whiteHead, endsWhite, whiteTail, headFrom, keepFrom, trimHead, trimTail, trim}
 use Rattle.text.specs.Find.{starts, first, upTo, past}
 use Rattle.unicode.specs.Encode.{encode}
 use Rattle.unicode.proofs.Encoding.{encoded}

@@ -12,7 +12,7 @@ use Rattle.base.proofs.Laws.{yes!, no! }
 use Rattle.text.specs.declared.decimal.Number.the-variants.{Value}
 use Rattle.text.specs.Number.{digits, valueFrom, natural, number}
 use Rattle.text.specs.Find.{upTo, past}
-use Rattle.chars.specs.White.{white, whiteHigh, trimHead, trimTail, trim}
+use Rattle.white.specs.White.{white, whiteHigh, trimHead, trimTail, trim}
 use Rattle.unicode.specs.Encode.{encode, Scalar}
 use Rattle.text.proofs.Laws.{digit-some, natural-value, unsigned-none}
 use Rattle.unicode.proofs.Encoding.{head-other}

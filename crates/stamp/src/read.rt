@@ -79,5 +79,5 @@ pub fn read_time(text: &[u8], kind: u32) -> Time
     if kind_bad(kind) {
         return Time::Bad;
     }
-    read_with(chars::trimmed(text), units_of(kind), mark_of(kind))
+    read_with(white::trimmed(text), units_of(kind), mark_of(kind))
 }

@@ -6,8 +6,8 @@ use Prim.Native.Nat.{ℕ}
 use Prim.Native.String.{String}
 use Rattle.base.specs.Ascii.{ascii}
 use Rattle.base.specs.Part.{last}
-use Rattle.chars.specs.Utf8.{leadLen, secondLow, secondHigh, tail, widthBy, charWidth, codeBy, codeHead}
-use Rattle.chars.specs.White.{whiteHigh, white, whiteHead, endsWhite, whiteTail, headFrom, keepFrom, trimHead, trimTail, trim}
+use Rattle.utf8.specs.Utf8.{leadLen, secondLow, secondHigh, tail, widthBy, charWidth, codeBy, codeHead}
+use Rattle.white.specs.White.{whiteHigh, white, whiteHead, endsWhite, whiteTail, headFrom, keepFrom, trimHead, trimTail, trim}
 use Rattle.text.specs.Find.{starts, equals, first, contains, upTo, past}
 use Rattle.text.specs.Piece.{piecesFrom, pieces}
 use Rattle.text.specs.Number.{digit, digits, valueFrom, natural, unsigned, number}

@@ -13,7 +13,7 @@ use lib.ListN.{length, take, drop, getD, length-drop, length-take, length-append
 use mathlib.Core.Bool.{true≢false}
 use Rattle.base.specs.Width.{byWidth}
 use Rattle.base.proofs.Laws.{yes!, no! }
-use Rattle.chars.specs.White.{whiteHead, headFrom, keepFrom, trimHead, trimTail, trim}
+use Rattle.white.specs.White.{whiteHead, headFrom, keepFrom, trimHead, trimTail, trim}
 use Rattle.text.specs.declared.decimal.Number.{Number}
 use Rattle.text.specs.declared.decimal.Number.the-variants.{Value, Bad}
 use Rattle.text.specs.Number.{digits, valueFrom, natural, unsigned, number}

@@ -4,7 +4,7 @@ use mathlib.Core.Bool.{Bool, true, false, cond}
 use mathlib.Core.List.{List, [], _∷_, _++_}
 use lib.Dec.{eqb}
 use lib.ListN.{length, getD, take, drop}
-use Rattle.chars.specs.White.{trimHead}
+use Rattle.white.specs.White.{trimHead}
 
 -- how many bytes the first line of s has, with its LF
 unfoldable pub lineLength : List ℕ → ℕ

@@ -48,5 +48,5 @@ pub fn terminator_of(l: &[u8]) -> &[u8]
 pub fn is_blank(l: &[u8]) -> bool
     ensures { λ r. ⌜ r ≡ blank (now (l .entry)) ⌝ }
 {
-    chars::trim_head(l).len() == 0
+    white::trim_head(l).len() == 0
 }

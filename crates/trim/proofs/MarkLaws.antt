@@ -11,11 +11,11 @@ use lib.Dec.{eqb, ltb}
 use lib.ListN.{length, take, drop, getD, length-drop}
 use lib.Seq.{drop-nil, take-length}
 use Rattle.base.proofs.Laws.{yes!, no! }
-use Rattle.chars.specs.White.{white, whiteHigh, whiteHead, whiteTail, trimHead, trimTail, trim}
+use Rattle.white.specs.White.{white, whiteHigh, whiteHead, whiteTail, trimHead, trimTail, trim}
 use Rattle.text.specs.Find.{starts, first}
 use Rattle.text.proofs.Laws.{first-hit, first-miss, first-end, stands-other}
-use Rattle.chars.proofs.Laws.{white-ascii, head-none, keep-found}
-use Rattle.chars.proofs.LastBytes.{tail-ascii}
+use Rattle.white.proofs.Laws.{white-ascii, head-none, keep-found}
+use Rattle.white.proofs.LastBytes.{tail-ascii}
 use Rattle.trim.specs.Token.{mark}
 
 -- ---- the mark

@@ -14,7 +14,7 @@ use Rattle.base.specs.Put.{put}
 use Rattle.base.proofs.Laws.{yes!, no! }
 use Rattle.base.proofs.RefusalLaws.{else-zero, else-none, held, unless-held}
 use Rattle.base.proofs.PutLaws.{take-put}
-use Rattle.chars.specs.Utf8.{utf8}
+use Rattle.utf8.specs.Utf8.{utf8}
 use Rattle.text.specs.Line.{blank}
 use Rattle.trim.specs.declared.list.Parsed.{Parsed}
 use Rattle.trim.specs.TrimList.{tokensOf, tokensNumber, headNumber, listNumber, rangeCount, rangesOf, parsed, listAnswer, parseNumber, parseOf, rangePlaces}

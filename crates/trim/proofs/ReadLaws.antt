@@ -14,7 +14,7 @@ use Rattle.base.specs.Put.{put}
 use Rattle.base.proofs.Laws.{yes!, no! }
 use Rattle.base.proofs.RefusalLaws.{else-found, else-none}
 use Rattle.base.proofs.PutLaws.{take-put, put-take, sets-put}
-use Rattle.chars.specs.Utf8.{utf8}
+use Rattle.utf8.specs.Utf8.{utf8}
 use Rattle.text.specs.Line.{blank}
 use Rattle.text.specs.Find.{first}
 use Rattle.trim.specs.declared.token.Token.{Token}

@@ -10,7 +10,7 @@ use lib.ListN.{length, take, drop, getD}
 use lib.Seq.{take-all}
 use Rattle.base.specs.Limits.{mostFrame}
 use Rattle.base.proofs.Laws.{yes!, no! }
-use Rattle.chars.specs.White.{trim}
+use Rattle.white.specs.White.{trim}
 use Rattle.text.specs.Find.{starts, first}
 use Rattle.text.specs.Piece.{pieces, comma}
 use Rattle.text.specs.Number.{number}

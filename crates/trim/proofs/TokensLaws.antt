@@ -11,7 +11,7 @@ use Rattle.base.specs.Limits.{mostFrame}
 use Rattle.base.specs.Refusal.{_orElse_}
 use Rattle.base.proofs.Laws.{yes!, no! }
 use Rattle.base.proofs.RefusalLaws.{else-none, else-found, else-zero}
-use Rattle.chars.specs.White.{trim}
+use Rattle.white.specs.White.{trim}
 use Rattle.text.specs.Find.{first}
 use Rattle.text.specs.Piece.{pieces}
 use Rattle.text.proofs.PieceLaws.{pieces-head, pieces-one}

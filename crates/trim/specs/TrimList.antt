@@ -7,8 +7,8 @@ use lib.Dec.{eqb, ltb, leb}
 use Rattle.base.specs.Limits.{mostListBytes, mostTrims, mostPlaces}
 use Rattle.base.specs.Refusal.{_orElse_, faultUnless}
 use Rattle.base.specs.Put.{put}
-use Rattle.chars.specs.Utf8.{utf8}
-use Rattle.chars.specs.White.{trim}
+use Rattle.utf8.specs.Utf8.{utf8}
+use Rattle.white.specs.White.{trim}
 use Rattle.text.specs.Line.{blank}
 use Rattle.text.specs.Piece.{pieces}
 use Rattle.trim.specs.Token.{mark, tokenOf, stepOf, tokenNumber, tokenRange, tokenEnd}

@@ -59,7 +59,7 @@ fn head_number(list: &[u8]) -> u32
     if base::MOST_LIST_BYTES < list.len() {
         return 7;
     }
-    if chars::is_utf8(list) {
+    if utf8::is_utf8(list) {
         if text::is_blank(list) {
             return 1;
         }

@@ -6,7 +6,7 @@ ghost use lib.Dec.{ltb};
 ghost use Rattle.text.specs.Find.{starts, first};
 ghost use Rattle.trim.specs.Token.{opening, rangeOf, boundsOf, pairOf, closedOf, tokenOf, stepOf};
 ghost use Rattle.text.specs.Piece.{pieces, comma};
-ghost use Rattle.chars.specs.White.{trim};
+ghost use Rattle.white.specs.White.{trim};
 
 // What a token says: a range, end excluded, or the number of its refusal.
 pub enum Token {
@@ -72,7 +72,7 @@ fn bare(s: &[u8]) -> &[u8]
             return s;
         }
     }
-    chars::trimmed(s)
+    white::trimmed(s)
 }
 
 // The range that `a,b` says: exactly one comma.
@@ -117,7 +117,7 @@ fn token_of(t: &[u8]) -> Token
 pub fn step_of(prev: u32, t: &[u8]) -> Token
     ensures { λ r. ⌜ r ≡ stepOf prev (now (t .entry)) ⌝ }
 {
-    let k = token_of(chars::trimmed(t));
+    let k = token_of(white::trimmed(t));
     match k {
         Token::Fault(n) => Token::Fault(n),
         Token::Range(a, e) => {

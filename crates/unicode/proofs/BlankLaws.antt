@@ -10,8 +10,8 @@ use lib.ListN.{length, take, drop, take-append-drop, drop-of-length-le}
 use lib.Seq.{take-nil, length-take-le}
 use Rattle.base.specs.Width.{byWidth}
 use Rattle.base.specs.Part.{last}
-use Rattle.chars.specs.Utf8.{charWidth, codeHead}
-use Rattle.chars.specs.White.{white, whiteHead, endsWhite, whiteTail, headFrom, keepFrom, trimHead, trimTail, trim}
+use Rattle.utf8.specs.Utf8.{charWidth, codeHead}
+use Rattle.white.specs.White.{white, whiteHead, endsWhite, whiteTail, headFrom, keepFrom, trimHead, trimTail, trim}
 use Rattle.text.specs.Line.{isEmpty, blank}
 use Rattle.unicode.specs.Encode.{encode, Scalar}
 use Rattle.unicode.proofs.Encoding.{white-encoded, encode-long}

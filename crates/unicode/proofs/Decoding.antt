@@ -10,13 +10,13 @@ use borrow.Author.Tests.{lt-ltb, le-ltb, eq-eqb, ne-eqb, ltb-true, ltb-false, eq
 use lib.Dec.{eqb, ltb, leb}
 use lib.ListN.{length, take, drop, getD}
 use mathlib.Core.Bool.{cond}
-use Rattle.chars.specs.Utf8.{leadLen, secondLow, secondHigh, tail, widthBy, charWidth, utf8, codeBy, codeHead}
+use Rattle.utf8.specs.Utf8.{leadLen, secondLow, secondHigh, tail, widthBy, charWidth, utf8, codeBy, codeHead}
 use Rattle.unicode.specs.Encode.{encode, Scalar, encodeAll, Scalars, none, more}
 use Rattle.base.proofs.Laws.{yes!, no!, drop-less}
-use Rattle.chars.proofs.Laws.{utf8-end, utf8-bad, utf8-step}
+use Rattle.utf8.proofs.Laws.{utf8-end, utf8-bad, utf8-step}
 use Rattle.unicode.proofs.Encoding.{utf8-encoded}
 use Rattle.unicode.proofs.Trailing.{enc-1, enc-2, enc-3, enc-4}
-use Rattle.chars.proofs.LastBytes.{low-least, high-most}
+use Rattle.white.proofs.LastBytes.{low-least, high-most}
 
 -- what the bytes of a character of width w are known to be
 data Form : ℕ → ℕ → ℕ → ℕ → ℕ → Type 0 where

@@ -10,11 +10,12 @@ use lib.ListN.{length, take, drop, getD, length-append}
 use lib.Seq.{drop-at}
 use mathlib.Core.Bool.{cond}
 use Rattle.base.specs.Width.{byWidth}
-use Rattle.chars.specs.Utf8.{leadLen, secondLow, secondHigh, tail, widthBy, charWidth, utf8From, utf8, codeBy, codeHead}
-use Rattle.chars.specs.White.{white, whiteHead, trimHead}
+use Rattle.utf8.specs.Utf8.{leadLen, secondLow, secondHigh, tail, widthBy, charWidth, utf8From, utf8, codeBy, codeHead}
+use Rattle.white.specs.White.{white, whiteHead, trimHead}
 use Rattle.unicode.specs.Encode.{encode, Scalar}
 use Rattle.base.proofs.Laws.{yes!, no! }
-use Rattle.chars.proofs.Laws.{utf8-step, head-step, head-none}
+use Rattle.utf8.proofs.Laws.{utf8-step}
+use Rattle.white.proofs.Laws.{head-step, head-none}
 
 lead-1 : (a : ℕ) → a < 0x80 → 1 ≡ leadLen a
 unfolding leadLen

@@ -11,14 +11,14 @@ use lib.ListN.{length, take, drop, getD, length-append, length-drop}
 use lib.Seq.{take-suc, getD-drop, getD-append-add, drop-append-add, take-append-le, take-append-seam, take-length}
 use mathlib.Core.Bool.{cond}
 use Rattle.base.specs.Width.{byWidth}
-use Rattle.chars.specs.Utf8.{leadLen, secondLow, secondHigh, tail, widthBy, charWidth, codeBy, codeHead}
+use Rattle.utf8.specs.Utf8.{leadLen, secondLow, secondHigh, tail, widthBy, charWidth, codeBy, codeHead}
 use Rattle.base.specs.Part.{last}
-use Rattle.chars.specs.White.{white, whiteHigh, whiteHead, endsWhite, whiteTail, keepFrom, trimTail}
+use Rattle.white.specs.White.{white, whiteHigh, whiteHead, endsWhite, whiteTail, keepFrom, trimTail}
 use Rattle.unicode.specs.Encode.{encode, Scalar}
 use Rattle.base.proofs.Laws.{yes!, no! }
-use Rattle.chars.proofs.Laws.{keep-step, keep-none, white-ascii}
+use Rattle.white.proofs.Laws.{keep-step, keep-none, white-ascii}
 use Rattle.unicode.proofs.Encoding.{encoded, encode-long, white-encoded}
-use Rattle.chars.proofs.LastBytes.{case-1, case-2, case-3, case-4, white-far}
+use Rattle.white.proofs.LastBytes.{case-1, case-2, case-3, case-4, white-far}
 
 -- ---- the four forms of the encoding
 pub enc-1 : (u : ℕ) → u < 0x80 → u ∷ [] ≡ encode u

@@ -3,7 +3,7 @@ use mathlib.Core.Path.{_≡_, refl, sym, ap, subst, _∙_}
 use mathlib.Core.Bool.{Bool, true, false, cond}
 use mathlib.Core.List.{List, [], _∷_, _++_, append-assoc, append-nil}
 use Prim.Native.Nat.{ℕ}
-use Rattle.chars.specs.White.{white, headFrom, keepFrom, trimHead, trimTail, trim}
+use Rattle.white.specs.White.{white, headFrom, keepFrom, trimHead, trimTail, trim}
 use Rattle.unicode.specs.Encode.{encode, Scalar, Scalars, encodeAll, stripHead, stripTail, ifLeft}
 use Rattle.unicode.proofs.Encoding.{head-white, head-other}
 use Rattle.unicode.proofs.Trailing.{tail-white, tail-other}

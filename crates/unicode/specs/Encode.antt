@@ -3,7 +3,7 @@ use Prim.Native.Nat.{ℕ, _+_, _/_, _%_, _<_, _≤_}
 use mathlib.Core.List.{List, [], _∷_, _++_}
 use lib.Dec.{ltb}
 use mathlib.Core.Bool.{cond}
-use Rattle.chars.specs.White.{white}
+use Rattle.white.specs.White.{white}
 
 unfoldable pub encode : ℕ → List ℕ
 encode u =

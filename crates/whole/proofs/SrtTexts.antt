@@ -5,8 +5,8 @@ use mathlib.Core.Path.{_≡_, refl}
 use mathlib.Core.List.{List, [], _∷_, _++_}
 use Rattle.base.specs.Ascii.{ascii}
 use Rattle.base.specs.Part.{last}
-use Rattle.chars.specs.Utf8.{leadLen, secondLow, secondHigh, tail, widthBy, charWidth, codeBy, codeHead}
-use Rattle.chars.specs.White.{whiteHigh, white, whiteHead, endsWhite, whiteTail, headFrom, keepFrom, trimHead, trimTail, trim}
+use Rattle.utf8.specs.Utf8.{leadLen, secondLow, secondHigh, tail, widthBy, charWidth, codeBy, codeHead}
+use Rattle.white.specs.White.{whiteHigh, white, whiteHead, endsWhite, whiteTail, headFrom, keepFrom, trimHead, trimTail, trim}
 use Rattle.text.specs.Find.{starts, first, contains, upTo, past}
 use Rattle.text.specs.Number.{digit, digits, valueFrom, natural, unsigned, number}
 use Rattle.text.specs.Line.{linesOf, textOf, terminatorLength, terminatorOf, blank}

@@ -4,7 +4,7 @@ use Rattle.bench.proofs.bench_is_utf8.Statement.{statement}
 use Rattle.bench.proofs.bench_is_utf8.Tie as tie
 use Rattle.bench.proofs.bench_is_utf8.Reads as reads
 use Rattle.bench.proofs.bench_is_utf8.Lts as lts
-use Rattle.chars.proofs.is_utf8.Reads as is-utf8-reads
+use Rattle.utf8.proofs.is_utf8.Reads as is-utf8-reads
 
 is-utf8-requires : tie.Need-is-utf8-requires
 is-utf8-requires c κs = search needs

@@ -13,7 +13,7 @@ use Rattle.assline.proofs.in_section.Reads as in-section-reads
 use Rattle.assline.proofs.is_section.Reads as is-section-reads
 use Rattle.assline.proofs.names_events.Reads as names-events-reads
 use Rattle.text.proofs.text_of.Reads as text-of-reads
-use Rattle.chars.proofs.trimmed.Reads as trimmed-reads
+use Rattle.white.proofs.trimmed.Reads as trimmed-reads
 
 refused-requires : tie.Need-refused-requires
 refused-requires c κs = search needs

@@ -13,7 +13,7 @@ use Rattle.assline.proofs.layout.is_start.Reads as is-start-reads
 use Rattle.base.proofs.front.Reads as front-reads
 use Rattle.base.proofs.rest.Reads as rest-reads
 use Rattle.text.proofs.find.Reads as find-reads
-use Rattle.chars.proofs.trimmed.Reads as trimmed-reads
+use Rattle.white.proofs.trimmed.Reads as trimmed-reads
 
 abbrev Inv-loop : tie.InvT-loop
 Inv-loop s t₀ columns₀ start₀ end₀ t9 t columns start end = Left s t columns start end

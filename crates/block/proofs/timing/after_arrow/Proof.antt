@@ -5,7 +5,7 @@ use Rattle.block.proofs.timing.after_arrow.Tie as tie
 use Rattle.block.proofs.timing.after_arrow.Reads as reads
 use Rattle.block.proofs.timing.after_arrow.Lts as lts
 use Rattle.text.proofs.past.Reads as past-reads
-use Rattle.chars.proofs.trim_head.Reads as trim-head-reads
+use Rattle.white.proofs.trim_head.Reads as trim-head-reads
 
 slice-aggregate-past : tie.Need-slice-aggregate-past
 slice-aggregate-past c = search needs

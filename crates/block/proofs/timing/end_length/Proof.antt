@@ -5,7 +5,7 @@ use Rattle.block.proofs.timing.end_length.Tie as tie
 use Rattle.block.proofs.timing.end_length.Reads as reads
 use Rattle.block.proofs.timing.end_length.Lts as lts
 use Rattle.base.proofs.byte.Reads as byte-reads
-use Rattle.chars.proofs.is_tail.Reads as is-tail-reads
+use Rattle.utf8.proofs.is_tail.Reads as is-tail-reads
 
 returns : tie.Need-returns
 returns c = search end-1

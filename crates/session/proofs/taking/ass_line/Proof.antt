@@ -1,7 +1,7 @@
 use mathlib.Core.Path.{_≡_, refl, sym, _∙_}
 use mathlib.Core.Bool.{true, false}
 use borrow.Author.Tests.{not-true, not-false}
-use Rattle.chars.specs.Utf8.{utf8}
+use Rattle.utf8.specs.Utf8.{utf8}
 use lib.ListN.{length}
 use Rattle.segmap.specs.Segment.{segmentsOf}
 use Rattle.ass.specs.Answer.{lineIn}
@@ -14,7 +14,7 @@ use Rattle.session.proofs.taking.ass_line.Lts as lts
 use Rattle.ass.proofs.line.Reads as line-reads
 use Rattle.session.proofs.taking.count.Reads as count-reads
 use Rattle.session.proofs.taking.quiet.Reads as quiet-reads
-use Rattle.chars.proofs.is_utf8.Reads as is-utf8-reads
+use Rattle.utf8.proofs.is_utf8.Reads as is-utf8-reads
 
 is-utf8-requires : tie.Need-is-utf8-requires
 is-utf8-requires c κs = search needs

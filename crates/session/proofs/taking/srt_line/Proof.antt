@@ -1,7 +1,7 @@
 use mathlib.Core.Path.{_≡_, sym, _∙_}
 use mathlib.Core.Bool.{true, false}
 use borrow.Author.Tests.{not-true, not-false}
-use Rattle.chars.specs.Utf8.{utf8}
+use Rattle.utf8.specs.Utf8.{utf8}
 use Rattle.block.specs.Style.{blankIn}
 use Rattle.session.proofs.TakenLaws.{srt-20, srt-22, srt-blank, srt-21, srt-add, quiet-small, blank-fits}
 use borrow.Author.Needs.{needs}
@@ -14,7 +14,7 @@ use Rattle.block.proofs.is_blank_in.Reads as is-blank-in-reads
 use Rattle.session.proofs.taking.blank.Reads as blank-reads
 use Rattle.session.proofs.taking.end_block.Reads as end-block-reads
 use Rattle.session.proofs.taking.quiet.Reads as quiet-reads
-use Rattle.chars.proofs.is_utf8.Reads as is-utf8-reads
+use Rattle.utf8.proofs.is_utf8.Reads as is-utf8-reads
 
 is-utf8-requires : tie.Need-is-utf8-requires
 is-utf8-requires c κs = search needs

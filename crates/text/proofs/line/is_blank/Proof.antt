@@ -4,7 +4,7 @@ use Rattle.text.proofs.line.is_blank.Statement.{statement}
 use Rattle.text.proofs.line.is_blank.Tie as tie
 use Rattle.text.proofs.line.is_blank.Reads as reads
 use Rattle.text.proofs.line.is_blank.Lts as lts
-use Rattle.chars.proofs.trim_head.Reads as trim-head-reads
+use Rattle.white.proofs.trim_head.Reads as trim-head-reads
 
 trim-head-requires : tie.Need-trim-head-requires
 trim-head-requires c κs = search needs

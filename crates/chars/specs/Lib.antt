@@ -1,3 +1,0 @@
--- What a character is: UTF-8, White_Space.
-pub mod Utf8
-pub mod White

@@ -1,0 +1,19 @@
+use Rattle.base.proofs.Laws.{chain}
+use Rattle.utf8.specs.Utf8.{secondLow}
+use Rattle.utf8.proofs.utf8.second_low.Statement.{statement}
+use Rattle.utf8.proofs.utf8.second_low.Tie as tie
+
+returns : tie.Need-returns
+unfolding secondLow
+returns c = search chain depth 12
+
+returns-2 : tie.Need-returns-2
+unfolding secondLow
+returns-2 c = search chain depth 12
+
+returns-3 : tie.Need-returns-3
+unfolding secondLow
+returns-3 c = search chain depth 12
+
+pub second-low-spec : {M : Type 1} → statement M
+second-low-spec = tie.close (tie.spec returns returns-2 returns-3)

@@ -1,0 +1,2 @@
+-- What a character is: UTF-8.
+pub mod Utf8

@@ -1,0 +1,169 @@
+// UTF-8 (RFC 3629).
+ghost use mathlib.Core.Path.{_≡_};
+ghost use Rattle.utf8.specs.Utf8.{asciiRun, leadLen, secondLow, secondHigh, tail, widthBy, charWidth, utf8, codeBy, codeHead};
+
+fn lead_len(a: u8) -> usize
+    ensures { λ r. ⌜ r ≡ leadLen a ⌝ }
+{
+    if a < 0x80 {
+        return 1;
+    }
+    if a < 0xC2 {
+        return 0;
+    }
+    if a < 0xE0 {
+        return 2;
+    }
+    if a < 0xF0 {
+        return 3;
+    }
+    if a < 0xF5 {
+        return 4;
+    }
+    0
+}
+
+fn second_low(a: u8) -> u8
+    ensures { λ r. ⌜ r ≡ secondLow a ⌝ }
+{
+    if a == 0xE0 {
+        return 0xA0;
+    }
+    if a == 0xF0 {
+        return 0x90;
+    }
+    0x80
+}
+
+fn second_high(a: u8) -> u8
+    ensures { λ r. ⌜ r ≡ secondHigh a ⌝ }
+{
+    if a == 0xED {
+        return 0x9F;
+    }
+    if a == 0xF4 {
+        return 0x8F;
+    }
+    0xBF
+}
+
+// Whether `b` is a continuation byte.
+pub fn is_tail(b: u8) -> bool
+    ensures { λ r. ⌜ r ≡ tail b ⌝ }
+{
+    if b < 0x80 {
+        return false;
+    }
+    b < 0xC0
+}
+
+fn width_by(n: usize, a: u8, b: u8, c: u8, d: u8) -> usize
+    ensures { λ r. ⌜ r ≡ widthBy n a b c d ⌝ }
+{
+    if n < 2 {
+        return n;
+    }
+    if b < second_low(a) {
+        return 0;
+    }
+    if second_high(a) < b {
+        return 0;
+    }
+    if n == 2 {
+        return 2;
+    }
+    if is_tail(c) {
+        if n == 3 {
+            return 3;
+        }
+        if is_tail(d) {
+            return 4;
+        }
+        return 0;
+    }
+    0
+}
+
+// The width of the character at the head of `s`; 0: `s` begins with none.
+pub fn char_width(s: &[u8]) -> usize
+    ensures { λ r. ⌜ r ≡ charWidth (now (s .entry)) ⌝ }
+{
+    let a = base::byte(s, 0);
+    if a < 0x80 {
+        return 1;
+    }
+    width_by(
+        lead_len(a),
+        a,
+        base::byte(s, 1),
+        base::byte(s, 2),
+        base::byte(s, 3),
+    )
+}
+
+// How many bytes below 80 `s` begins with.
+fn ascii_run(s: &[u8]) -> usize
+    ensures { λ r. ⌜ r ≡ asciiRun (now (s .entry)) ⌝ }
+{
+    let mut i = 0;
+    while i < s.len() {
+        if s[i] >= 0x80 {
+            return i;
+        }
+        i += 1;
+    }
+    i
+}
+
+// Whether `s` is well-formed UTF-8.
+pub fn is_utf8(s: &[u8]) -> bool
+    ensures { λ r. ⌜ r ≡ utf8 (now (s .entry)) ⌝ }
+{
+    let mut t = s;
+    while t.len() > 0 {
+        let n = ascii_run(t);
+        let v = base::rest(t, n);
+        if v.len() == 0 {
+            return true;
+        }
+        let w = char_width(v);
+        if w == 0 {
+            return false;
+        }
+        let u = base::rest(v, w);
+        t = u;
+    }
+    true
+}
+
+fn code_by(w: usize, a: u8, b: u8, c: u8, d: u8) -> u32
+    ensures { λ r. ⌜ r ≡ codeBy w a b c d ⌝ }
+{
+    let x = a as u32;
+    let y = b as u32;
+    let z = c as u32;
+    let q = d as u32;
+    if w == 1 {
+        return x;
+    }
+    if w == 2 {
+        return x % 32 * 64 + y % 64;
+    }
+    if w == 3 {
+        return x % 16 * 4096 + y % 64 * 64 + z % 64;
+    }
+    x % 8 * 262144 + y % 64 * 4096 + z % 64 * 64 + q % 64
+}
+
+// The code point of the character at the head of `s`.
+pub fn code_head(s: &[u8]) -> u32
+    ensures { λ r. ⌜ r ≡ codeHead (now (s .entry)) ⌝ }
+{
+    code_by(
+        char_width(s),
+        base::byte(s, 0),
+        base::byte(s, 1),
+        base::byte(s, 2),
+        base::byte(s, 3),
+    )
+}

@@ -1,0 +1,2 @@
+-- White_Space, and a text stripped of it.
+pub mod White

@@ -1,0 +1,8 @@
+// White_Space, and texts stripped of it.
+mod white;
+
+pub use white::trim_head;
+pub use white::trim_tail;
+pub use white::trimmed;
+pub use white::white_head;
+pub use white::white_tail;
