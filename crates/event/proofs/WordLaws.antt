@@ -4,6 +4,7 @@ use mathlib.Core.Bool.{Bool, true, false, cond}
 use mathlib.Core.List.{List}
 use Prim.Native.Nat.{ℕ, _*_, _≤_, _<_, _^_}
 use native.Mathlib.Omega.{arith}
+use native.Mathlib.Nat.{le-refl, mul-le-mul}
 use Rattle.time.specs.Kind.{unitsOf}
 use Rattle.time.specs.Convert.{startUnits, endUnits, coreTicks, coreHolds, startWithin, endWithin}
 use Rattle.time.proofs.Conversions.{start-low, end-start}
@@ -20,6 +21,12 @@ abbrev pub Words : Decision → Type 0
 Words Strange = Unit {0}
 Words Dropped = Unit {0}
 Words (Kept r) = (r .start < 2 ^ 64) × (r .stop < 2 ^ 64)
+
+scaled-below : (x T ticks U : ℕ) → x * T ≤ ticks * U → 1 ≤ T → ticks ≤ coreTicks → U ≤ 1000 → x < 2 ^ 63
+scaled-below x T ticks U h t k u =
+    let a : x * 1 ≤ x * T = mul-le-mul (le-refl x) t in
+    let b : ticks * U ≤ coreTicks * 1000 = mul-le-mul k u in
+    omega arith
 
 module _ (kind T ticks : ℕ) where
   start-of : (b : Bool) → coreHolds kind T ticks coreTicks ≡ b → cond b (startUnits T (unitsOf kind) ticks) 0 < 2 ^ 63
