@@ -28,7 +28,7 @@ use Rattle.assline.specs.Section.{bracketed, inside}
 use Rattle.assline.specs.Frame.{pieceAt, fieldPieces}
 use Rattle.ass.specs.Line.{captionSays, wordSays, textSays, lineSays}
 use Rattle.table.specs.Example.{setting}
-use Rattle.machine.specs.Calls.{readingOf}
+use Rattle.machine.specs.Calls.{readerRefusal, readingOf}
 use Rattle.promise.specs.Demand.{CueRight, AllRight}
 use Rattle.promise.specs.Plain.{lineFault, assRead, linesSay, plainRead}
 use Rattle.example.specs.Worked.{plainMap, plainFour}
@@ -37,7 +37,7 @@ use Rattle.example.proofs.Four.{fates}
 use Rattle.example.proofs.AssRun.{known}
 
 said-is : readingOf (plainRead 0) (plainFour 0 assFirst assRest .reader) .parts ≡ assParts
-unfolding leadLen secondLow secondHigh tail widthBy charWidth utf8From utf8 codeBy codeHead whiteHigh white whiteHead last endsWhite whiteTail headFrom keepFrom trimHead trimTail trim starts equals first contains upTo past piecesFrom pieces digit digits valueFrom natural unsigned number linesOf textOf terminatorLength terminatorOf kindBad unitsOf markOf timeWith timeIn namesIn placeIn columnsIn fields fieldAt holdsAny bracketed inside pieceAt fieldPieces captionSays wordSays textSays lineSays faultUnless _orElse_ lineFault assRead linesSay plainRead flatOf segmentsOf endBad segmentBad anyBad mapBad
+unfolding leadLen secondLow secondHigh tail widthBy charWidth utf8From utf8 codeBy codeHead whiteHigh white whiteHead last endsWhite whiteTail headFrom keepFrom trimHead trimTail trim starts equals first contains upTo past piecesFrom pieces digit digits valueFrom natural unsigned number linesOf textOf terminatorLength terminatorOf kindBad unitsOf markOf timeWith timeIn namesIn placeIn columnsIn fields fieldAt holdsAny bracketed inside pieceAt fieldPieces captionSays wordSays textSays lineSays faultUnless _orElse_ lineFault assRead linesSay plainRead flatOf segmentsOf endBad segmentBad anyBad mapBad readerRefusal
 said-is = refl
 
 flat-back : segmentsOf (flatOf (plainMap .segments)) ≡ plainMap .segments

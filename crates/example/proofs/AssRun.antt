@@ -26,7 +26,7 @@ use Rattle.assline.specs.Section.{bracketed, inside}
 use Rattle.assline.specs.Frame.{pieceAt, fieldPieces}
 use Rattle.ass.specs.Line.{captionSays, wordSays, textSays, lineSays}
 use Rattle.machine.specs.Counts.{countAll}
-use Rattle.machine.specs.Calls.{Heard}
+use Rattle.machine.specs.Calls.{Heard, readerRefusal}
 use Rattle.promise.specs.Runs.{outcome}
 use Rattle.promise.specs.Plain.{lineFault, assRead, linesSay, plainRead}
 use Rattle.example.specs.Worked.{plainMap, openAnswer, madeCalls, toldBy, readBy, plainFour}
@@ -42,7 +42,7 @@ heard =
     }
 
 heard-is : plainFour 0 assFirst assRest ≡ heard
-unfolding leadLen secondLow secondHigh tail widthBy charWidth utf8From utf8 codeBy codeHead whiteHigh white whiteHead last endsWhite whiteTail headFrom keepFrom trimHead trimTail trim starts equals first contains upTo past piecesFrom pieces digit digits valueFrom natural unsigned number linesOf textOf terminatorLength terminatorOf kindBad unitsOf markOf timeWith timeIn namesIn placeIn columnsIn fields fieldAt holdsAny bracketed inside pieceAt fieldPieces captionSays wordSays textSays lineSays faultUnless _orElse_ lineFault assRead linesSay plainRead flatOf segmentsOf endBad segmentBad anyBad mapBad
+unfolding leadLen secondLow secondHigh tail widthBy charWidth utf8From utf8 codeBy codeHead whiteHigh white whiteHead last endsWhite whiteTail headFrom keepFrom trimHead trimTail trim starts equals first contains upTo past piecesFrom pieces digit digits valueFrom natural unsigned number linesOf textOf terminatorLength terminatorOf kindBad unitsOf markOf timeWith timeIn namesIn placeIn columnsIn fields fieldAt holdsAny bracketed inside pieceAt fieldPieces captionSays wordSays textSays lineSays faultUnless _orElse_ lineFault assRead linesSay plainRead flatOf segmentsOf endBad segmentBad anyBad mapBad readerRefusal
 heard-is = refl
 
 read-is : readBy 0 plainMap heard ≡ assTold

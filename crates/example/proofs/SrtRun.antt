@@ -23,7 +23,7 @@ use Rattle.event.specs.Emit.{emitBy, emitsOf, render, outputOf, warningsOf}
 use Rattle.block.specs.Style.{blankIn, srtEnd}
 use Rattle.block.specs.Block.{timingOf, afterArrow, timingLineSays, blockSays}
 use Rattle.machine.specs.Counts.{countAll}
-use Rattle.machine.specs.Calls.{Heard}
+use Rattle.machine.specs.Calls.{Heard, readerRefusal}
 use Rattle.promise.specs.Runs.{outcome}
 use Rattle.whole.specs.Srt.{blocksOf}
 use Rattle.promise.specs.Plain.{lineFault, bodyLineFault, bodyFault, srtRead, linesSay, plainRead}
@@ -40,7 +40,7 @@ heard =
     }
 
 heard-is : plainFour 1 srtFirst srtRest ≡ heard
-unfolding leadLen secondLow secondHigh tail widthBy charWidth utf8From utf8 codeBy codeHead whiteHigh white whiteHead last endsWhite whiteTail headFrom keepFrom trimHead trimTail trim starts equals first contains upTo past piecesFrom pieces digit digits valueFrom natural unsigned number linesOf textOf terminatorLength terminatorOf kindBad unitsOf markOf timeWith timeIn blank srtEnd blankIn timingOf afterArrow timingLineSays blockSays faultUnless _orElse_ lineFault bodyLineFault blocksOf bodyFault srtRead linesSay plainRead flatOf segmentsOf endBad segmentBad anyBad mapBad
+unfolding leadLen secondLow secondHigh tail widthBy charWidth utf8From utf8 codeBy codeHead whiteHigh white whiteHead last endsWhite whiteTail headFrom keepFrom trimHead trimTail trim starts equals first contains upTo past piecesFrom pieces digit digits valueFrom natural unsigned number linesOf textOf terminatorLength terminatorOf kindBad unitsOf markOf timeWith timeIn blank srtEnd blankIn timingOf afterArrow timingLineSays blockSays faultUnless _orElse_ lineFault bodyLineFault blocksOf bodyFault srtRead linesSay plainRead flatOf segmentsOf endBad segmentBad anyBad mapBad readerRefusal
 heard-is = refl
 
 read-is : readBy 1 plainMap heard ≡ srtTold

@@ -5,6 +5,7 @@ pub mod Bytes
 pub mod Resume
 pub mod Laws
 pub mod Native
+pub mod ReaderGate
 pub mod Lists
 pub mod Refine
 pub mod Numbers

@@ -20,11 +20,12 @@ use Rattle.machine.specs.Machine.{Machine, Run, going, stopped, run, fin
 use Rattle.machine.specs.Reader.{Reading, reading, readText}
 use Rattle.machine.specs.Session.{configBad, Session, Kit, Call, feed, finish, lentOf, pieceOf, argumentBad, refuse, gate}
 use Rattle.machine.specs.Session.{foreign, blankOf, fresh, Answer, settle, resume, accepted, respond, answer, emitted}
-use Rattle.machine.specs.Calls.{Played, Reader, Heard, ReaderAnswer, play, ProperCall, Proper, readerAccepts, readerResponds, readerAnswer, newReader, hear, readingOf, SameAsReader}
+use Rattle.machine.specs.Calls.{Played, Reader, Heard, ReaderAnswer, play, ProperCall, Proper, readerAccepts, readerAnswer, newReader, hear, readingOf, SameAsReader}
 use Rattle.machine.proofs.Emits.{emits-append, emits-none, output-append, output-none, warnings-append, warnings-none, count-append, count-none, total-parts}
 use Rattle.machine.proofs.Bytes.{ranTo, begin, bytes-reading}
 use Rattle.machine.proofs.Resume.{after, ByFault, run-append, run-after, finish-after, run-fault, Stopped, finish-stops}
 use Rattle.machine.proofs.CutLaws.{has-none}
+use Rattle.machine.proofs.ReaderGate.{readerResponds, reader-gated}
 use Rattle.machine.proofs.Laws.{Lawful}
 use Rattle.machine.proofs.Native.{GoingOk, Ok, text-ok, finish-ok, not-foreign}
 
@@ -228,12 +229,15 @@ module _ {σ κ : Type 0} (K : Kit σ κ) (c : Config) (m : List ℕ) (L : Lawfu
       subst (λ (b : Bool). Kept (respond K (gate b false (mapBad (lentOf x .map)) (argumentBad (length t) x)) (liveSession (length t) s n h (counted ps)) x) ps
       (readerAnswer read (readerAt t false false) x))
       (sym (live-native t s n h ps e q))
-      (gated t s n h ps e q x p (mapBad (lentOf x .map)) (argumentBad (length t) x) refl refl)
+      (subst (Kept (respond K (gate false false (mapBad (lentOf x .map)) (argumentBad (length t) x)) (liveSession (length t) s n h (counted ps)) x) ps)
+      (sym (reader-gated read (readerAt t false false) x))
+      (gated t s n h ps e q x p (mapBad (lentOf x .map)) (argumentBad (length t) x) refl refl))
   keeps _ _ _ (dead t f k ps w o q) x p =
       subst (λ (b : Bool). Kept (respond K (gate b true (mapBad (lentOf x .map)) (argumentBad (length t) x)) (deadSession (length t) k (counted ps)) x) ps
       (readerAnswer read (readerAt t f true) x))
       (sym (dead-native (length t) k ps o q))
-      (refused _ ps _ 18 x (dead t f k ps w o q))
+      (subst (Kept (respond K (refuse 18) (deadSession (length t) k (counted ps)) x) ps) (sym (reader-gated read (readerAt t f true) x))
+      (refused _ ps _ 18 x (dead t f k ps w o q)))
 
   -- the list
   record Matches (ps : List Part) (p : Played κ) (h : Heard) : Type 0 where

@@ -3,15 +3,17 @@ use mathlib.Core.Path.{_≡_}
 use mathlib.Core.Logic.{_⊎_}
 use mathlib.Core.Bool.{Bool, true, false, not}
 use mathlib.Core.List.{List, [], _∷_, _++_}
-use Prim.Native.Nat.{ℕ}
-use lib.Dec.{eqb}
+use Prim.Native.Nat.{ℕ, zero, suc, _+_}
+use lib.Dec.{leb, eqb}
 use lib.ListN.{length}
+use Rattle.base.specs.Limits.{mostPiece, leastOutput, leastPlaces, mostTaken}
+use Rattle.base.specs.Refusal.{_orElse_, faultUnless}
 use Rattle.segmap.specs.Segment.{mapBad}
 use Rattle.event.specs.declared.setting.Config.{Config}
 use Rattle.event.specs.Emit.{Emit, Warning, outputOf, warningsOf}
 use Rattle.machine.specs.Counts.{countsOf}
 use Rattle.machine.specs.Reader.{Reading}
-use Rattle.machine.specs.Session.{Session, Kit, Call, feed, finish, lentOf, argumentBad, Gate, refuse, admit, gate, answer, emitted}
+use Rattle.machine.specs.Session.{Session, Kit, Call, feed, finish, lentOf, pieceOf, answer, emitted}
 
 -- ---- by sessions, each call given the one that the last call returned
 -- the numbers in order, the last session, and what the calls wrote, joined in their order
@@ -58,6 +60,16 @@ pub record Heard : Type 0 where
   pub numbers : List ℕ
   pub reader : Reader
 
+-- ended, it answers 18; else 15 for the map, and 16 for a piece, an output or warning places of a wrong length or for too long a text
+unfoldable pub readerRefusal : Reader → Call → ℕ
+readerRefusal r c =
+    faultUnless (not (r .ended)) 18 orElse
+    faultUnless (not (mapBad (lentOf c .map))) 15 orElse
+    faultUnless (leb (length (pieceOf c)) mostPiece) 16 orElse
+    faultUnless (leb leastOutput (lentOf c .outLength)) 16 orElse
+    faultUnless (leb leastPlaces (lentOf c .placeCount)) 16 orElse
+    faultUnless (leb (length (r .text) + length (pieceOf c)) mostTaken) 16
+
 -- how a text is read from the start, finished or not
 module _ (read : (finished : Bool) → (text : List ℕ) → Reading) where
   -- a feed adds its piece to the text, a finish ends the reader; the first fault is the answer, else 0, and ends it too
@@ -70,13 +82,13 @@ module _ (read : (finished : Bool) → (text : List ℕ) → Reading) where
   readerAccepts r (finish l) =
       record { number = read true (r .text) .fault; reader = record { text = r .text; finished = true; ended = true } }
 
-  abbrev pub readerResponds : Gate → Reader → Call → ReaderAnswer
-  readerResponds (refuse k) r c = record { number = k; reader = r }
-  readerResponds admit r c = readerAccepts r c
+  -- refused, it stays as it was
+  abbrev pub readerBy : (refusal : ℕ) → Reader → Call → ReaderAnswer
+  readerBy zero r c = readerAccepts r c
+  readerBy (suc k) r c = record { number = suc k; reader = r }
 
-  -- ended, it answers 18; else 15 or 16 by the arguments, taken being the text's length
   abbrev pub readerAnswer : Reader → Call → ReaderAnswer
-  readerAnswer r c = readerResponds (gate false (r .ended) (mapBad (lentOf c .map)) (argumentBad (length (r .text)) c)) r c
+  readerAnswer r c = readerBy (readerRefusal r c) r c
 
   abbrev pub hear : Reader → List Call → Heard
   hear r [] = record { numbers = []; reader = r }

@@ -1,5 +1,5 @@
 -- No call of a run from a session that open answered with 0 is answered 17: the sessions that calls return are never foreign.
-use mathlib.Core.Path.{_≡_, refl, sym, subst, _∙_}
+use mathlib.Core.Path.{_≡_, refl, sym, ap, subst, _∙_}
 use mathlib.Core.Logic.{inl, inr}
 use mathlib.Core.Bool.{Bool, true, false}
 use mathlib.Core.List.{List, [], _∷_, _++_}
@@ -14,7 +14,8 @@ use Rattle.machine.specs.Cut.{closedLines, unfinished}
 use Rattle.machine.specs.Machine.{Machine, Says, faulty, says, withBom, takeLine, Rest, nothing, bomAlone, lastLine, restOf}
 use Rattle.machine.specs.Reader.{Reading, readLine, readClose, readLast, readRest, readLines}
 use Rattle.machine.specs.Session.{Call, feed, finish, lentOf, argumentBad, gate}
-use Rattle.machine.specs.Calls.{Proper, Reader, newReader, readerAccepts, readerResponds, readerAnswer, hear}
+use Rattle.machine.specs.Calls.{Proper, Reader, ReaderAnswer, newReader, readerAccepts, readerAnswer, hear}
+use Rattle.machine.proofs.ReaderGate.{readerResponds, reader-gated}
 use Rattle.machine.proofs.Numbers.{OfText, fault-of-text, opened}
 use Rattle.kinds.specs.Takes.{machineOf, blankState}
 use Rattle.kinds.specs.Kit.{kit}
@@ -82,7 +83,7 @@ module _ (read : Bool → List ℕ → Reading) (texts : (f : Bool) (t : List �
   heard-17 : (r : Reader) (xs : List Call) → Not17 (hear read r xs .numbers)
   heard-17 r [] = tt
   heard-17 r (x ∷ xs) =
-      (by-gate (r .ended) (mapBad (lentOf x .map)) (argumentBad (length (r .text)) x) r x, heard-17 (readerAnswer read r x .reader) xs)
+      (λ z. by-gate (r .ended) (mapBad (lentOf x .map)) (argumentBad (length (r .text)) x) r x (sym (ap (λ (a : ReaderAnswer). a .number) (reader-gated read r x)) ∙ z), heard-17 (readerAnswer read r x .reader) xs)
 
 -- ---- the run
 known : (kind T : ℕ) (m : List ℕ) (o : Opened) → OpenAnswered kind T m o → o .number ≡ 0 → kindBad kind ≡ false
