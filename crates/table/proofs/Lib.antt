@@ -1,3 +1,2 @@
 pub mod TheMap
 pub mod Table
-pub mod Rows

@@ -1,2 +1,3 @@
--- The example that document 01's table is computed on.
+-- The example of document 01, and its table over the map of the example's bytes.
 pub mod Example
+pub mod Table
