@@ -86,30 +86,35 @@ fn print_value(c: time::Converted) {
     io::write_all(STDOUT_FILENO, b"\n");
 }
 
-pub fn answer(head: &[u8], x: &[u8], y: &[u8], z: &[u8], all: &mut [u8], notes: &mut [u8]) {
-    let op = blocks::word(head, 0);
-    let first = blocks::word(head, 1);
-    let second = blocks::word(head, 2);
-    let plan = blocks::word(head, 4);
+// An op that has no text.
+fn answer_plain(op: u32, head: &[u8], x: &[u8], y: &[u8]) {
     if op == 1 {
         print_list(x);
         return;
     }
     if op == 2 {
-        mapfile::print_map_of(x, y, first);
-        return;
-    }
-    if op == 3 {
-        through_made(x, y, first, second, plan, z, all, notes);
+        mapfile::print_map_of(x, y, blocks::word(head, 1));
         return;
     }
     if op == 4 {
         print_converted(head, x);
         return;
     }
+    mapfile::print_number(b"unknown op ", op);
+}
+
+pub fn answer(head: &[u8], x: &[u8], y: &[u8], z: &[u8], all: &mut [u8], notes: &mut [u8]) {
+    let op = blocks::word(head, 0);
+    let first = blocks::word(head, 1);
+    let second = blocks::word(head, 2);
+    let plan = blocks::word(head, 4);
+    if op == 3 {
+        through_made(x, y, first, second, plan, z, all, notes);
+        return;
+    }
     if op == 5 {
         through_given(first, second, plan, x, z, all, notes);
         return;
     }
-    mapfile::print_number(b"unknown op ", op);
+    answer_plain(op, head, x, y);
 }

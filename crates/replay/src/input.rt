@@ -14,11 +14,19 @@ fn skip(n: usize) {
 }
 
 // Reads n bytes to the start of buf where they fit, and answers whether they did.
-pub fn take(buf: &mut [u8], n: usize) -> bool {
+fn take(buf: &mut [u8], n: usize) -> bool {
     if buf.len() < n {
         skip(n);
         return false;
     }
     io::read_full(0, &mut buf[..n]);
     true
+}
+
+// Reads three parts, each to a slice of its own, and answers whether all did fit.
+pub fn take_parts(x: &mut [u8], n: usize, y: &mut [u8], m: usize, z: &mut [u8], l: usize) -> bool {
+    let first = take(x, n);
+    let second = take(y, m);
+    let third = take(z, l);
+    first && second && third
 }

@@ -8,37 +8,36 @@ mod retiming;
 
 use libc::STDOUT_FILENO;
 
+fn print_head(k: u64) {
+    io::write_all(STDOUT_FILENO, b"case ");
+    io::print_decimal(STDOUT_FILENO, k);
+    io::write_all(STDOUT_FILENO, b"\n");
+}
+
 // One case, of which the head is read; its parts go to the lent slices. `too large` where one does not fit.
 fn run_case(
     head: &[u8],
-    k: u64,
     x: &mut [u8],
     y: &mut [u8],
     z: &mut [u8],
     all: &mut [u8],
     notes: &mut [u8],
 ) {
-    io::write_all(STDOUT_FILENO, b"case ");
-    io::print_decimal(STDOUT_FILENO, k);
-    io::write_all(STDOUT_FILENO, b"\n");
     let n = blocks::word(head, 5) as usize;
     let m = blocks::word(head, 6) as usize;
     let l = blocks::word(head, 7) as usize;
-    let first = input::take(x, n);
-    let second = input::take(y, m);
-    let third = input::take(z, l);
-    if first && second && third {
-        answer::answer(
-            head,
-            base::front(x, n),
-            base::front(y, m),
-            base::front(z, l),
-            all,
-            notes,
-        );
+    if !input::take_parts(x, n, y, m, z, l) {
+        io::write_all(STDOUT_FILENO, b"too large\n");
         return;
     }
-    io::write_all(STDOUT_FILENO, b"too large\n");
+    answer::answer(
+        head,
+        base::front(x, n),
+        base::front(y, m),
+        base::front(z, l),
+        all,
+        notes,
+    );
 }
 
 // Case by case, up to the end of the input.
@@ -50,7 +49,8 @@ fn run_cases(x: &mut [u8], y: &mut [u8], z: &mut [u8], all: &mut [u8], notes: &m
         if n < 32 {
             return;
         }
-        run_case(&head, k, x, y, z, all, notes);
+        print_head(k);
+        run_case(&head, x, y, z, all, notes);
         k += 1;
     }
 }

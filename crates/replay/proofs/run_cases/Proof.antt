@@ -8,6 +8,7 @@ use Rattle.replay.proofs.run_cases.Tie as tie
 use Rattle.replay.proofs.run_cases.Reads as reads
 use Rattle.replay.proofs.run_cases.Lts as lts
 use Rattle.io.proofs.read_full.Reads as read-full-reads
+use Rattle.replay.proofs.print_head.Reads as print-head-reads
 use Rattle.replay.proofs.run_case.Reads as run-case-reads
 
 abbrev Inv-loop : tie.InvT-loop
@@ -43,6 +44,9 @@ same-length-5 c = search needs
 
 returns : tie.Need-returns Inv-loop μ-loop
 returns c = search needs
+
+print-head-requires : tie.Need-print-head-requires Inv-loop μ-loop
+print-head-requires c κs = search needs
 
 slice-aggregate-run-case : tie.Need-slice-aggregate-run-case Inv-loop μ-loop
 slice-aggregate-run-case c = search needs
@@ -92,6 +96,7 @@ run-cases-spec =
     same-length-4
     same-length-5
     returns
+    print-head-requires
     slice-aggregate-run-case
     run-case-requires
     add-k
