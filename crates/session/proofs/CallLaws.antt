@@ -40,7 +40,8 @@ use Rattle.foreign.proofs.ViewLaws.{held-length, held-plain, foreign-view, nati
 use Rattle.session.specs.declared.calling.Fed.{Fed}
 use Rattle.session.specs.declared.calling.Opened.{Opened}
 use Rattle.session.specs.declared.running.Going.{Going}
-use Rattle.session.specs.Taken.{Ready, Below}
+use Rattle.lines.specs.Done.{Ready, Below}
+use Rattle.lines.proofs.LentLaws.{none-above}
 use Rattle.session.specs.Stand.{Holds, Shows, Opening, resumeAt}
 use Rattle.session.specs.Answer.{feedCall, finishCall, answerOf, sessionGate, gateNumber, lengthsBad, refusalOf, nextBy, nextOf, Answered, endedSession, unchangedFed, endedFed, heldFed, beginAt, OpenAnswered, openOf}
 
@@ -99,15 +100,7 @@ passed-ready s map piece out places p =
     record { kind-known = p .native .kind-known; timescale-good = p .native .timescale-good; map-good = p .map-good }
 
 counts-below : (t : ℕ) (c : Counts) → countsAbove t c ≡ false → t ≤ mostTaken → Below c mostTaken
-counts-below t c e h =
-    let d1 = or-right (ltb t (c .shifted)) _ e in
-    let d2 = or-right (ltb t (c .clipped)) _ d1 in
-    record {
-      shifted = omega (arith, ltb-false t (c .shifted) (or-left (ltb t (c .shifted)) _ e));
-      clipped = omega (arith, ltb-false t (c .clipped) (or-left (ltb t (c .clipped)) _ d1));
-      dropped = omega (arith, ltb-false t (c .dropped) (or-left (ltb t (c .dropped)) _ d2));
-      passed = omega (arith, ltb-false t (c .passed) (or-right (ltb t (c .dropped)) _ d2));
-    }
+counts-below t c e h = let d = none-above t c e in omega arith
 
 pub passed-opening : (s : Session) (map : List ℕ) (piece out places : ℕ) (r : Going) → length (s .held) ≡ mostHeld → Passed s map piece out places → r ≡ beginAt s
     → Opening (s .config) r (s .held) out places

@@ -5,13 +5,13 @@ use mathlib.Core.List.{List, [], _∷_, _++_, append-nil}
 use Prim.Native.Nat.{ℕ, zero, suc, _+_, _-_, _≤_, _<_}
 use native.Mathlib.Omega.{arith}
 use lib.Dec.{eqb}
-use lib.ListN.{length, take, drop, length-append}
-use lib.Seq.{take-take, drop-at, length-take-le}
+use lib.ListN.{length, take, drop, length-append, length-take}
+use lib.Seq.{take-take, length-take-le}
 use borrow.Author.Tests.{eq-eqb, ne-eqb, eqb-false}
 use Rattle.base.specs.Limits.{mostBlock}
-use Rattle.base.specs.Put.{put, putAt}
+use Rattle.base.specs.Put.{put, placed}
 use Rattle.base.proofs.Laws.{and-right}
-use Rattle.base.proofs.PutLaws.{put-nil, put-append, tail-back, putAt-nil}
+use Rattle.base.proofs.PutLaws.{put-nil, tail-back, putAt-nil, placed-yes, length-tail}
 use Rattle.text.specs.Find.{equals}
 use Rattle.utf8.specs.Utf8.{utf8}
 use Rattle.text.specs.Line.{concat, linesOf, lineCount, hasLf}
@@ -40,11 +40,15 @@ use Rattle.kinds.proofs.KindLaws.{takes-ass, takes-srt, Fit, known-two, lawful-
 use Rattle.kinds.proofs.Native.{Native}
 use Rattle.kinds.proofs.KindRoom.{srt-last}
 use Rattle.kinds.proofs.Fits.{places-two, room-of}
-use Rattle.session.specs.declared.taking.Ended.{Ended}
+use Rattle.lines.specs.declared.telling.Ended.{Ended}
 use Rattle.session.specs.declared.running.Going.{Going}
-use Rattle.session.specs.Taken.{Wrote, Ends, Ready, Parsed}
+use Rattle.lines.specs.Answer.{endIn, EndTells}
+use Rattle.lines.specs.Done.{Wrote, Ends, Ready, Parsed}
+use Rattle.lines.proofs.TellLaws.{told-within}
+use Rattle.lines.proofs.BomLaws.{put-under, bom-placed}
+use Rattle.lines.proofs.DoneLaws.{end-done}
 use Rattle.session.specs.Stand.{Shows, Room, CloseRoom, Opening, resumeAt, stoppedAt, closingTo, bomTo, bomAloneOf}
-use Rattle.session.proofs.StandLaws.{drop-take, lent, back, wrote-more, counts-more, held-block, held-line}
+use Rattle.session.proofs.StandLaws.{drop-take, lent, back, told-sums, wrote-more, counts-more, held-block, held-line}
 use Rattle.session.proofs.RunLaws.{counts-grown, fit-parsed, places-none, s₀, begun, begin-sizes, begin-native, begin-shows, L}
 
 -- ---- what a finish says in each kind
@@ -73,6 +77,24 @@ module _ (c : Config) (m : List ℕ) (t : Counts) (e : Ended) (out y places z : 
       let l : linesOf bytes ≡ s .block = ap linesOf q ∙ subst (λ (a : Bool). Parsed a (s .block)) (ne-eqb kind 0 k) p in
       subst (λ (x : Says State). Ends c m x t e out y places z) (sym (finish-srt kind s n k))
       (lines-ended s n (s .block) (subst (λ (ls : List (List ℕ)). Ends c m (closes srt blankState n ls []) t e out y places z) l b))
+
+-- ---- a block's end with room for it
+module _ (c : Config) (m : List ℕ) (at : Going) (held out places : List ℕ) (R : CloseRoom at (length held) (length out) (length places)) (e : Ended) (y z : List ℕ)
+    (h : EndTells (endIn c (segmentsOf m) (at .lines) (at .counts) (take (at .start) held) (length (lent (at .written) out)) (length (lent (at .warned) places)))
+    (at .counts) e (lent (at .written) out) y (lent (at .warned) places) z) where
+  pub block-done : Ready c m → Ends c m (closes srt blankState (at .lines) (linesOf (take (at .start) held)) []) (at .counts) e (lent (at .written) out) y (lent (at .warned) places) z
+  block-done d =
+      end-done c m (at .lines) (at .counts) (take (at .start) held) e (lent (at .written) out) y (lent (at .warned) places) z d
+      (record {
+        counts = R .counts;
+        room-long = omega (arith, R, length-take-le (at .start) held (R .block), length-tail (at .written) out);
+        places-long = omega (arith, R, length-tail (at .warned) places);
+      })
+      h
+
+  pub block-sums : length y ≡ length (lent (at .written) out) → length z ≡ length (lent (at .warned) places)
+      → (at .written + e .written ≤ length out) × (at .warned + e .warned ≤ length places)
+  block-sums i j = told-sums (at .written) (at .warned) out places y z _ _ e h (omega (arith, R)) (omega (arith, R)) i j
 
 -- ---- the end of the block
 module _ (c : Config) (m : List ℕ) (M : Machine State) (t : Counts) (s : State) (n : ℕ) (ps : List Part) (o w : List ℕ) (at : Going) (held out places : List ℕ)
@@ -117,21 +139,6 @@ module _ (c : Config) (m : List ℕ) (M : Machine State) (t : Counts) (s : State
         (block-ends c m (at .counts) e (lent (at .written) out) y (lent (at .warned) places) z kind s (at .lines) (take (at .start) held) k p q b))
 
 -- ---- a BOM alone
-front : (w l : List ℕ) → put w l ≡ w ++ drop (length w) l
-unfolding put
-front w l = refl
-
--- w written to the front, after v was written behind it
-pub put-under : (w v l : List ℕ) → length w ≤ length l → put w (putAt (length w) v l) ≡ put (w ++ v) l
-unfolding putAt
-put-under w v l h =
-    front w (take (length w) l ++ put v (drop (length w) l)) ∙
-    ap (λ (x : List ℕ). w ++ x) (drop-at (take (length w) l) (put v (drop (length w) l)) (length w) (length-take-le (length w) l h))
-    ∙ put-append w v l
-
-pub front-long : (n : ℕ) (l v : List ℕ) → n ≤ length l → n ≤ length (take n l ++ v)
-front-long n l v h = rw (length-append (take n l) v, length-take-le n l h) (omega arith)
-
 module _ (c : Config) (m : List ℕ) (ps : List Part) where
   bom-output : outputOf (emitted c m (stays bom ∷ ps)) ≡ bom ++ outputOf (emitted c m ps)
   unfolding emitsOf emitBy outputOf
@@ -147,7 +154,7 @@ module _ (c : Config) (m : List ℕ) (ps : List Part) where
 
 module _ (c : Config) (m : List ℕ) (M : Machine State) (at : Going) (held out places : List ℕ) (p : Opening c at held (length out) (length places)) where
   -- the BOM was written, then nothing
-  pub bom-only : (s : State) (x : Says State) (r : Going) (o : List ℕ) → x ≡ says s [] → r ≡ bomTo at → o ≡ put bom out
+  pub bom-only : (s : State) (x : Says State) (r : Going) (o : List ℕ) → x ≡ says s [] → r ≡ bomTo at → o ≡ placed bom out
       → Shows c m (at .counts) (closed M [] (withBom x)) out places r held o places
   bom-only s x r o e f g =
       let none = emits-none c (segmentsOf m) in
@@ -160,7 +167,7 @@ module _ (c : Config) (m : List ℕ) (M : Machine State) (at : Going) (held out 
             record {
               written = sym (ap length (bom-output c m [] ∙ ap (λ (es : List Emit). bom ++ outputOf es) none ∙ ap (λ (l : List ℕ). bom ++ l) output-none));
               warned = p .warned ∙ sym (ap (λ (ws : List Warning). length (placesOf ws)) (bom-warnings c m [] ∙ ap warningsOf none) ∙ ap length places-none);
-              text = g ∙ ap (λ (l : List ℕ). put l out) (sym (bom-output c m [] ∙ ap (λ (es : List Emit). bom ++ outputOf es) none ∙ ap (λ (l : List ℕ). bom ++ l) output-none));
+              text = g ∙ placed-yes bom out (omega (arith, p .out-long)) ∙ ap (λ (l : List ℕ). put l out) (sym (bom-output c m [] ∙ ap (λ (es : List Emit). bom ++ outputOf es) none ∙ ap (λ (l : List ℕ). bom ++ l) output-none));
               warnings =
                   sym (ap (λ (l : List ℕ). put l places) (ap placesOf (bom-warnings c m [] ∙ ap warningsOf none) ∙ places-none) ∙ put-nil places);
             };
@@ -191,7 +198,7 @@ module _ (c : Config) (m : List ℕ) (M : Machine State) (at : Going) (held out 
 
     -- the block passed
     bom-passed : (x : Says State) (next r : Going) (o : List ℕ) → Ends c m x (at .counts) e (lent 3 out) y places z → e .number ≡ 0 → next ≡ bomTo at → r ≡ closingTo next e
-        → o ≡ put bom (back 3 out y) → Shows c m (at .counts) (closed M [] (withBom x)) out places r held o z
+        → o ≡ placed bom (back 3 out y) → Shows c m (at .counts) (closed M [] (withBom x)) out places r held o z
     bom-passed (faulty g) next r o b k n f h = absurd (eqb-false (faultNumber g) 0 (fault-number g) (sym (b .number) ∙ k))
     bom-passed (says u new) next r o b k n f h =
         let w : 3 ≤ length out = omega (arith, p .out-long) in
@@ -205,12 +212,32 @@ module _ (c : Config) (m : List ℕ) (M : Machine State) (at : Going) (held out 
                 written = ap (λ (j : ℕ). 3 + j) (b .wrote .written) ∙ sym (ap length (bom-output c m new) ∙ v);
                 warned = omega (arith, p .warned, b .wrote .warned, ap (λ (ws : List Warning). length (placesOf ws)) (bom-warnings c m new));
                 text =
-                    h ∙ ap (put bom) (tail-back 3 (outputOf (emitted c m new)) out y (b .wrote .text)) ∙ put-under bom (outputOf (emitted c m new)) out w
+                    h ∙ bom-placed out (y ++ drop (length out - 3) (drop 3 out)) w ∙ ap (put bom) (tail-back 3 (outputOf (emitted c m new)) out y (b .wrote .text)) ∙ put-under bom (outputOf (emitted c m new)) out w
                     ∙ ap (λ (l : List ℕ). put l out) (sym (bom-output c m new));
                 warnings = b .wrote .warnings ∙ ap (λ (ws : List Warning). put (placesOf ws) places) (sym (bom-warnings c m new));
               };
           holds = tt;
         })
+
+    -- the open block's end, behind the room for the BOM
+    module _ (d : Ready c m) (h : EndTells (endIn c (segmentsOf m) (at .lines) (at .counts) (take (at .start) held) (length (lent 3 out)) (length places)) (at .counts) e (lent 3 out) y places z) where
+      start-small : at .start ≤ mostBlock
+      start-small = omega (arith, p .start, begin-native c m at held (length out) (length places) d p .holds .fit .small)
+
+      pub bom-ends : Ends c m (closes srt blankState (at .lines) (linesOf (take (at .start) held)) []) (at .counts) e (lent 3 out) y places z
+      bom-ends =
+          end-done c m (at .lines) (at .counts) (take (at .start) held) e (lent 3 out) y places z d
+          (record {
+            counts = omega (arith, p .counts);
+            room-long = omega (arith, p .out-long, start-small, length-take (at .start) held, length-tail 3 out);
+            places-long = omega (arith, p .places-long);
+          })
+          h
+
+      pub bom-sums : length y ≡ length (lent 3 out) → length z ≡ length places → (3 + e .written ≤ length out) × (e .warned ≤ length places)
+      bom-sums i j =
+          let w = told-within _ _ e (lent 3 out) y places z h i j in
+          (omega (arith, w, p .out-long, length-tail 3 out), omega (arith, w))
 
     module _ (kind : ℕ) (s : State) (k : kind ≡ 0 → ⊥) (q : take (at .start) held ≡ concat (s .block)) (g : Parsed (eqb kind 0) (s .block))
         (b : Ends c m (closes srt blankState (at .lines) (linesOf (take (at .start) held)) []) (at .counts) e (lent 3 out) y places z) where
@@ -218,7 +245,7 @@ module _ (c : Config) (m : List ℕ) (M : Machine State) (at : Going) (held out 
           → Shows c m (at .counts) (closed M [] (withBom (ends kind s (at .lines)))) out places r held (back 3 out y) z
       bom-stops r h f = bom-fault (ends kind s (at .lines)) r (block-ends c m (at .counts) e (lent 3 out) y places z kind s (at .lines) (take (at .start) held) k g q b) h f
 
-      pub bom-closes : (next r : Going) (o : List ℕ) → e .number ≡ 0 → next ≡ bomTo at → r ≡ closingTo next e → o ≡ put bom (back 3 out y)
+      pub bom-closes : (next r : Going) (o : List ℕ) → e .number ≡ 0 → next ≡ bomTo at → r ≡ closingTo next e → o ≡ placed bom (back 3 out y)
           → Shows c m (at .counts) (closed M [] (withBom (ends kind s (at .lines)))) out places r held o z
       bom-closes next r o h n f w =
           bom-passed (ends kind s (at .lines)) next r o (block-ends c m (at .counts) e (lent 3 out) y places z kind s (at .lines) (take (at .start) held) k g q b) h n f w

@@ -1,5 +1,3 @@
-pub mod TakenLaws
-pub mod BomLaws
 pub mod StandLaws
 pub mod RunLaws
 pub mod EndLaws

@@ -37,7 +37,7 @@ use Rattle.kinds.proofs.KindLaws.{Fit, known-two, lawful, lawful-size, lawful-p
 use Rattle.kinds.proofs.Native.{Native, is-native}
 use Rattle.kinds.proofs.Fits.{places-two, resume-ok, feed-room}
 use Rattle.session.specs.declared.running.Going.{Going}
-use Rattle.session.specs.Taken.{Wrote, Ready, Parsed}
+use Rattle.lines.specs.Done.{Wrote, Ready, Parsed}
 use Rattle.session.specs.Stand.{Joins, Shows, ByteRoom, ParsedIn, Opening, resumeAt, holdingTo}
 use Rattle.session.proofs.StandLaws.{held-sizes, byte-more}
 

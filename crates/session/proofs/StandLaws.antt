@@ -6,12 +6,13 @@ use Prim.Native.Nat.{ℕ, zero, suc, _+_, _-_, _≤_, _<_}
 use native.Mathlib.Omega.{arith}
 use native.Mathlib.Nat.{add-zero, suc-sub-suc, zero-sub, sub-zero}
 use native.Mathlib.Numerals.{add-one}
+use lib.Dec.{eqb}
 use lib.ListN.{length, take, drop, set, getD, length-append, length-drop}
 use lib.Seq.{take-nil, take-append-seam, drop-append-seam, drop-append-add, take-suc, take-suc-set, take-take, take-add, drop-drop, drop-set-lt, getD-drop, length-take-le}
 use borrow.Author.Tests.{le-leb, lt-leb, eq-eqb, ne-eqb, eqb-false}
 use Rattle.base.specs.Limits.{mostLine}
 use Rattle.base.specs.Put.{put}
-use Rattle.base.proofs.PutLaws.{put-back}
+use Rattle.base.proofs.PutLaws.{put-back, length-tail}
 use Rattle.text.specs.Line.{concat}
 use Rattle.segmap.specs.Segment.{segmentsOf}
 use Rattle.event.specs.declared.setting.Config.{Config}
@@ -23,11 +24,15 @@ use Rattle.machine.specs.Machine.{Machine, Says, faulty, says, Run, going, stop
 use Rattle.machine.specs.Session.{emitted}
 use Rattle.machine.proofs.Emits.{emits-append, output-append, warnings-append, places-append, count-append}
 use Rattle.machine.proofs.Resume.{fault-number}
-use Rattle.kinds.specs.Takes.{State}
+use Rattle.kinds.specs.Takes.{State, machineOf}
 use Rattle.kinds.proofs.KindLaws.{concat-snoc}
-use Rattle.session.specs.declared.taking.Taken.{Taken}
+use Rattle.lines.specs.declared.telling.Taken.{Taken}
+use Rattle.lines.specs.declared.telling.Ended.{Ended}
+use Rattle.lines.specs.Answer.{PartsAnswer, takeIn, EndTells, endedBy, LineTells}
+use Rattle.lines.proofs.TellLaws.{told-within}
+use Rattle.lines.proofs.DoneLaws.{take-done, take-skip}
 use Rattle.session.specs.declared.running.Going.{Going}
-use Rattle.session.specs.Taken.{stateAfter, Wrote, Done, Parsed}
+use Rattle.lines.specs.Done.{stateAfter, Ready, Ample, Wrote, Done, Parsed}
 use Rattle.session.specs.Stand.{Holds, Shows, Room, ByteRoom, ParsedIn, stoppedAt, holdingTo, linedTo}
 
 -- ---- parts of the held bytes
@@ -123,6 +128,48 @@ module _ (s : State) (n : ℕ) (l : List ℕ) (r : Going) (held : List ℕ) (h :
 
   pub held-sizes : r .start + length l ≡ r .held
   held-sizes = let q = h .count ∙ length-append (concat (s .block)) l in omega (arith, q, h .start)
+
+-- ---- what was told, behind what was written before
+pub told-sums : (a b : ℕ) (out places y z : List ℕ) (q : PartsAnswer) (t : Counts) (e : Ended) → EndTells q t e (lent a out) y (lent b places) z → a ≤ length out → b ≤ length places
+    → length y ≡ length (lent a out) → length z ≡ length (lent b places) → (a + e .written ≤ length out) × (b + e .warned ≤ length places)
+told-sums a b out places y z q t e h p r i j =
+    let w = told-within q t e (lent a out) y (lent b places) z h i j in
+    (omega (arith, w, length-tail a out), omega (arith, w, length-tail b places))
+
+-- ---- a line with room for it
+module _ (c : Config) (m : List ℕ) (at : Going) (held out places : List ℕ) (R : Room at (length held) (length out) (length places)) (told : Taken) (y z : List ℕ)
+    (h : LineTells (takeIn c (segmentsOf m) (at .lines) (at .counts) (at .columns) (take (at .held) held) (at .start) (length (lent (at .written) out)) (length (lent (at .warned) places)))
+    (at .counts) told (lent (at .written) out) y (lent (at .warned) places) z) where
+  held-size : length (take (at .held) held) ≡ at .held
+  held-size = length-take-le (at .held) held (omega (arith, R))
+
+  room-lent : Ample (at .counts) (length (take (at .held) held)) (length (lent (at .written) out)) (length (lent (at .warned) places))
+  room-lent =
+      record {
+        counts = R .counts;
+        room-long = omega (arith, R, held-size, length-tail (at .written) out);
+        places-long = omega (arith, R, length-tail (at .warned) places);
+      }
+
+  line-there : at .start ≤ length (take (at .held) held)
+  line-there = omega (arith, R, held-size)
+
+  pub line-done : Ready c m → (s : State) → at .columns ≡ s .columns → take (at .start) (take (at .held) held) ≡ concat (s .block) → Parsed (eqb (c .kind) 0) (s .block)
+      → Done c m s (drop (at .start) (take (at .held) held)) (takeLine (machineOf (c .kind)) s (at .lines) (drop (at .start) (take (at .held) held))) (at .counts) told
+      (lent (at .written) out) y (lent (at .warned) places) z
+  line-done d s e f p =
+      take-done c m (at .lines) (at .counts) (at .columns) (take (at .held) held) (at .start) told (lent (at .written) out) y (lent (at .warned) places) z room-lent line-there h d s e f p
+
+  pub line-skip : told .skip ≤ length (take (at .held) held) - at .start
+  line-skip =
+      take-skip c m (at .lines) (at .counts) (at .columns) (take (at .held) held) (at .start) told (lent (at .written) out) y (lent (at .warned) places) z room-lent line-there h
+
+  pub skip-held : told .skip ≤ at .held - at .start
+  skip-held = omega (arith, line-skip, held-size)
+
+  pub line-sums : length y ≡ length (lent (at .written) out) → length z ≡ length (lent (at .warned) places)
+      → (at .written + told .written ≤ length out) × (at .warned + told .warned ≤ length places)
+  line-sums i j = told-sums (at .written) (at .warned) out places y z _ _ (endedBy told) (h .said) (omega (arith, R)) (omega (arith, R)) i j
 
 -- ---- a line's end
 module _ (c : Config) (m : List ℕ) (M : Machine State) (t : Counts) (s : State) (n : ℕ) (l : List ℕ) (ps : List Part) (o w : List ℕ) (at : Going)

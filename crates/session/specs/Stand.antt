@@ -1,6 +1,6 @@
 -- How the loop's numbers and the lent slices stand for the text taken: for the private functions.
 use mathlib.Core.Path.{_≡_}
-use mathlib.Core.Bool.{Bool, true, false, cond, _&&_}
+use mathlib.Core.Bool.{Bool, true, false, _&&_}
 use mathlib.Core.List.{List, [], _∷_, _++_}
 use Prim.Native.Nat.{ℕ, _+_, _*_, _≤_, _<_, _^_}
 use lib.Dec.{eqb}
@@ -13,14 +13,14 @@ use Rattle.event.specs.Says.{Part}
 use Rattle.machine.specs.declared.counting.Counts.{Counts}
 use Rattle.machine.specs.Counts.{countAll}
 use Rattle.machine.specs.Cut.{closedLines, unfinished}
-use Rattle.machine.specs.Machine.{bom, hasBom, Run, going, stopped}
+use Rattle.machine.specs.Machine.{bom, Run, going, stopped}
 use Rattle.machine.specs.Session.{emitted}
 use Rattle.kinds.specs.Takes.{State}
 use Rattle.kinds.specs.Kit.{strange}
-use Rattle.session.specs.declared.taking.Taken.{Taken}
-use Rattle.session.specs.declared.taking.Ended.{Ended}
+use Rattle.lines.specs.declared.telling.Taken.{Taken}
+use Rattle.lines.specs.declared.telling.Ended.{Ended}
+use Rattle.lines.specs.Done.{Wrote, Below, Parsed}
 use Rattle.session.specs.declared.running.Going.{Going}
-use Rattle.session.specs.Taken.{Wrote, Below, Parsed}
 
 -- ---- a run as numbers and parts
 abbrev pub faultOf : Run State → ℕ
@@ -180,10 +180,6 @@ pub record Joins (number k b : ℕ) : Type 0 where
   pub live : number ≡ 0
   pub room : k < mostLine
   pub no-end : b ≡ 10 → ⊥
-
--- the bytes of the BOM that begins a line: 3 or 0
-unfoldable pub bomSize : (n : ℕ) → List ℕ → ℕ
-bomSize n l = cond (eqb n 0 && hasBom l) 3 0
 
 -- the text is a BOM with no line
 unfoldable pub bomAloneOf : (n : ℕ) → List ℕ → Bool

@@ -2,10 +2,10 @@
 use crate::running::Going;
 use crate::running::end_line;
 use crate::running::stop;
-use crate::taking::Ended;
-use crate::taking::end_block;
-use crate::taking::put_bom;
 use event::Config;
+use lines::Ended;
+use lines::end_block;
+use lines::put_bom;
 ghost use mathlib.Core.Path.{_≡_};
 ghost use mathlib.Core.List.{List, []};
 ghost use Prim.Native.Nat.{ℕ, _≤_, _<_, _+_, _^_};
@@ -16,7 +16,7 @@ ghost use Rattle.event.specs.Says.{Part};
 ghost use Rattle.machine.specs.declared.counting.Counts.{Counts};
 ghost use Rattle.machine.specs.Machine.{going, closed, withBom, finishRun};
 ghost use Rattle.kinds.specs.Takes.{State, ends, machineOf};
-ghost use Rattle.session.specs.Taken.{Ready, Parsed};
+ghost use Rattle.lines.specs.Done.{Ready, Parsed};
 ghost use Rattle.session.specs.Stand.{Shows, CloseRoom, Opening, resumeAt, closingTo, bomTo, bomAloneOf};
 
 // After the end of a block.

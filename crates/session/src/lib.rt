@@ -2,7 +2,6 @@
 mod calling;
 mod ending;
 mod running;
-mod taking;
 
 pub use calling::Fed;
 pub use calling::Opened;

@@ -1,8 +1,8 @@
 // A piece taken byte by byte.
-use crate::taking::Taken;
-use crate::taking::take_line;
 use assline::Columns;
 use event::Config;
+use lines::Taken;
+use lines::take_line;
 use machine::Counts;
 ghost use mathlib.Core.Path.{_≡_};
 ghost use mathlib.Core.Bool.{true};
@@ -14,7 +14,7 @@ ghost use Rattle.event.specs.Says.{Part};
 ghost use Rattle.machine.specs.declared.counting.Counts.{Counts};
 ghost use Rattle.machine.specs.Machine.{Run, going, lineEnd, takeLine, byteStep, run};
 ghost use Rattle.kinds.specs.Takes.{State, machineOf};
-ghost use Rattle.session.specs.Taken.{Ready, Parsed};
+ghost use Rattle.lines.specs.Done.{Ready, Parsed};
 ghost use Rattle.session.specs.Stand.{Joins, Shows, Room, ByteRoom, Opening, ParsedIn, resumeAt, stoppedAt, holdingTo, linedTo};
 
 // What the loop carries: the open block's bytes end at `start`, those of the unfinished line at `held`.

@@ -1,16 +1,15 @@
 use mathlib.Core.Path.{sym}
 use native.Mathlib.Omega.{arith}
-use lib.ListN.{length-take, length-drop}
 use lib.Seq.{length-take-le}
 use Rattle.kinds.specs.Takes.{machineOf, ends}
-use Rattle.session.proofs.EndLaws.{finish-ass, close-none, close-block}
+use Rattle.session.proofs.EndLaws.{finish-ass, block-done, block-sums, close-none, close-block}
 use borrow.Author.Needs.{needs}
 use Rattle.session.proofs.ending.close.Statement.{statement}
 use Rattle.session.proofs.ending.close.Tie as tie
 use Rattle.session.proofs.ending.close.Reads as reads
 use Rattle.session.proofs.ending.close.Lts as lts
 use Rattle.session.proofs.ending.closing.Reads as closing-reads
-use Rattle.session.proofs.taking.end_block.Reads as end-block-reads
+use Rattle.lines.proofs.end_block.Reads as end-block-reads
 
 returns : tie.Need-returns
 returns c =
@@ -46,21 +45,15 @@ part-end-block-end-2 : tie.Need-part-end-block-end-2
 part-end-block-end-2 c = search needs
 
 end-block-requires : tie.Need-end-block-requires
-end-block-requires c κs =
-    let S = c .before .before .before .before .before .before .before .before .before .before in
-    let A = S .args in
-    let R = S .pre .1 in
-    (S .pre .0, R .lines, R .counts, simp (length-take, length-drop) (omega (arith, R)), simp (length-take, length-drop) (omega (arith, R)))
+end-block-requires c κs = search needs
 
 closing-requires : tie.Need-closing-requires
 closing-requires c κs =
     let S = c .before .before .before .before .before .before .before .before .before .before .before .before .before .before .before in
     let A = S .args in
-    let R = S .pre .1 in
     let e = c .before .before .before .before .end-block in
-    let x = rw length-take at (e .ensures .1 .0) in
-    let y = rw (length-take, length-drop) at (e .ensures .1 .1) in
-    (omega (arith, x, R, S), omega (arith, y, R, S))
+    let x = block-sums (A .config) (A .map .now) (A .at) (A .held .now) (A .out .now) (A .warnings .now) (S .pre .1) (e .result) (e .last .1 .1 .1 .1 .1 .0) (e .last .1 .1 .1 .1 .1 .1 .0) (e .ensures) (e .kept .1 .1 .1 .1 .1 .0) (e .kept .1 .1 .1 .1 .1 .1 .0) in
+    (omega (arith, x, S), omega (arith, x, S))
 
 same-length : tie.Need-same-length
 same-length c = search needs
@@ -74,7 +67,7 @@ returns-2 c =
     let A = S .args in
     let e = c .before .before .before .before .before .end-block in
     λ t s n ps o w p sh. close-block (A .config) (A .map .now) (machineOf (A .config .kind)) t s n ps o w (A .at) (A .held .now) (A .out .now) (A .warnings .now) sh
-    (e .last .1 .1 .1 .1 .1 .0) (e .last .1 .1 .1 .1 .1 .1 .0) (e .result) _ (c .closing .ensures) (A .config .kind) (c .before .before .before .before .before .before .before .before .before .before .if1 .left) p (e .ensures .0)
+    (e .last .1 .1 .1 .1 .1 .0) (e .last .1 .1 .1 .1 .1 .1 .0) (e .result) _ (c .closing .ensures) (A .config .kind) (c .before .before .before .before .before .before .before .before .before .before .if1 .left) p (block-done (A .config) (A .map .now) (A .at) (A .held .now) (A .out .now) (A .warnings .now) (S .pre .1) (e .result) (e .last .1 .1 .1 .1 .1 .0) (e .last .1 .1 .1 .1 .1 .1 .0) (e .ensures) (S .pre .0))
 
 pub close-spec : {M : Type 1} → statement M
 close-spec =

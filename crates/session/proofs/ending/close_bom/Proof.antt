@@ -1,11 +1,11 @@
 use mathlib.Core.Path.{sym, ap}
 use native.Mathlib.Omega.{arith}
-use lib.ListN.{length, length-take, length-drop}
+use lib.ListN.{length}
 use lib.Seq.{length-take-le}
 use Rattle.kinds.specs.Takes.{machineOf, ends}
 use Rattle.session.specs.declared.running.Going.{Going}
 use Rattle.session.proofs.RunLaws.{begin-sizes}
-use Rattle.session.proofs.EndLaws.{finish-ass, front-long, bom-only, bom-stops, bom-closes}
+use Rattle.session.proofs.EndLaws.{finish-ass, bom-only, bom-ends, bom-sums, bom-stops, bom-closes}
 use borrow.Author.Needs.{needs}
 use Rattle.session.proofs.ending.close_bom.Statement.{statement}
 use Rattle.session.proofs.ending.close_bom.Tie as tie
@@ -14,8 +14,8 @@ use Rattle.session.proofs.ending.close_bom.Lts as lts
 use Rattle.session.proofs.ending.after_bom.Reads as after-bom-reads
 use Rattle.session.proofs.ending.closing.Reads as closing-reads
 use Rattle.session.proofs.running.stop.Reads as stop-reads
-use Rattle.session.proofs.taking.end_block.Reads as end-block-reads
-use Rattle.session.proofs.taking.put_bom.Reads as put-bom-reads
+use Rattle.lines.proofs.end_block.Reads as end-block-reads
+use Rattle.lines.proofs.put_bom.Reads as put-bom-reads
 
 after-bom-requires : tie.Need-after-bom-requires
 after-bom-requires c κs = search needs
@@ -52,12 +52,7 @@ part-end-block-end : tie.Need-part-end-block-end
 part-end-block-end c = search needs
 
 end-block-requires : tie.Need-end-block-requires
-end-block-requires c κs =
-    let S = c .before .before .before .before .before .before .before .before .before .before .before in
-    let A = S .args in
-    let p = S .pre .1 in
-    let z = begin-sizes (A .config) (A .map .now) (A .at) (A .held .now) (length (A .out .now)) (length (A .warnings .now)) (S .pre .0) p in
-    (S .pre .0, omega (arith, p .lines), omega (arith, p .counts), simp (length-take, length-drop) (omega (arith, z, p)), omega (arith, p .places-long))
+end-block-requires c κs = search needs
 
 stop-requires : tie.Need-stop-requires
 stop-requires c κs = search needs
@@ -75,14 +70,10 @@ returns-2 c =
     let p = S .pre .1 in
     let e = c .before .before .before .before .before .before .before .end-block in
     λ s a q g. bom-stops (A .config) (A .map .now) (machineOf (A .config .kind)) (A .at) (A .held .now) (A .out .now) (A .warnings .now) p (e .last .1 .1 .1 .1 .1 .0) (e .last .1 .1 .1 .1 .1 .1 .0) (e .result)
-    (A .config .kind) s (c .before .before .before .before .before .before .before .before .before .before .before .before .if1 .left) q g (e .ensures .0) _ (c .before .if2 .taken) (c .stop .ensures)
+    (A .config .kind) s (c .before .before .before .before .before .before .before .before .before .before .before .before .if1 .left) q g (bom-ends (A .config) (A .map .now) (machineOf (A .config .kind)) (A .at) (A .held .now) (A .out .now) (A .warnings .now) p (e .last .1 .1 .1 .1 .1 .0) (e .last .1 .1 .1 .1 .1 .1 .0) (e .result) (S .pre .0) (e .ensures)) _ (c .before .if2 .taken) (c .stop .ensures)
 
 put-bom-requires-2 : tie.Need-put-bom-requires-2
-put-bom-requires-2 c κs =
-    let S = c .before .before .before .before .before .before .before .before .before .before .before .before .before .before .before .before .before .before .before in
-    let A = S .args in
-    let p = S .pre .1 in
-    front-long 3 (A .out .now) _ (omega (arith, p .out-long))
+put-bom-requires-2 c κs = search needs
 
 closing-requires : tie.Need-closing-requires
 closing-requires c κs =
@@ -90,12 +81,11 @@ closing-requires c κs =
     let A = S .args in
     let p = S .pre .1 in
     let e = c .before .before .before .before .before .before .before .before .before .before .end-block in
-    let z = begin-sizes (A .config) (A .map .now) (A .at) (A .held .now) (length (A .out .now)) (length (A .warnings .now)) (S .pre .0) p in
     let n = c .before .before .before .before .before .before .before .before .before .before .before .before .before .before .before .before .before .after-bom in
-    let x = rw length-take at (e .ensures .1 .0) in
+    let x = bom-sums (A .config) (A .map .now) (machineOf (A .config .kind)) (A .at) (A .held .now) (A .out .now) (A .warnings .now) p (e .last .1 .1 .1 .1 .1 .0) (e .last .1 .1 .1 .1 .1 .1 .0) (e .result) (S .pre .0) (e .ensures) (e .kept .1 .1 .1 .1 .1 .0) (e .kept .1 .1 .1 .1 .1 .1 .0) in
     let u = ap (λ (g : Going). g .written) (n .ensures) in
     let v = ap (λ (g : Going). g .warned) (n .ensures) in
-    (omega (arith, x, u, z, p), omega (arith, e .ensures .1 .1, v, p, S))
+    (omega (arith, x, u, S), omega (arith, x, v, p .warned, S))
 
 same-length-4 : tie.Need-same-length-4
 same-length-4 c = search needs
@@ -110,7 +100,7 @@ returns-3 c =
     let p = S .pre .1 in
     let e = c .before .before .before .before .before .before .before .before .before .before .before .end-block in
     λ s a q g. bom-closes (A .config) (A .map .now) (machineOf (A .config .kind)) (A .at) (A .held .now) (A .out .now) (A .warnings .now) p (e .last .1 .1 .1 .1 .1 .0) (e .last .1 .1 .1 .1 .1 .1 .0) (e .result)
-    (A .config .kind) s (c .before .before .before .before .before .before .before .before .before .before .before .before .before .before .before .before .if1 .left) q g (e .ensures .0) _ _ _
+    (A .config .kind) s (c .before .before .before .before .before .before .before .before .before .before .before .before .before .before .before .before .if1 .left) q g (bom-ends (A .config) (A .map .now) (machineOf (A .config .kind)) (A .at) (A .held .now) (A .out .now) (A .warnings .now) p (e .last .1 .1 .1 .1 .1 .0) (e .last .1 .1 .1 .1 .1 .1 .0) (e .result) (S .pre .0) (e .ensures)) _ _ _
     (c .before .before .before .before .before .if2 .left) (c .before .before .before .before .before .before .before .before .before .before .before .before .before .before .before .before .before .before .after-bom .ensures) (c .closing .ensures) (c .before .before .before .put-bom2 .ensures)
 
 pub close-bom-spec : {M : Type 1} → statement M

@@ -1,11 +1,10 @@
 use mathlib.Core.Path.{sym}
 use Prim.Native.Nat.{_≤_, _<_, _+_, _-_, _^_}
 use native.Mathlib.Omega.{arith}
-use lib.ListN.{length-take, length-drop}
 use lib.Seq.{length-take-le}
 use borrow.Author.Tests.{not-true, not-false}
 use Rattle.kinds.specs.Takes.{machineOf}
-use Rattle.session.proofs.StandLaws.{held-block, end-stop, end-empty, end-added}
+use Rattle.session.proofs.StandLaws.{held-block, line-done, line-skip, skip-held, line-sums, end-stop, end-empty, end-added}
 use borrow.Author.Needs.{needs}
 use Rattle.session.proofs.running.end_line.Statement.{statement}
 use Rattle.session.proofs.running.end_line.Tie as tie
@@ -14,7 +13,7 @@ use Rattle.session.proofs.running.end_line.Lts as lts
 use Rattle.session.proofs.running.lined.Reads as lined-reads
 use Rattle.session.proofs.running.move_down.Reads as move-down-reads
 use Rattle.session.proofs.running.stop.Reads as stop-reads
-use Rattle.session.proofs.taking.take_line.Reads as take-line-reads
+use Rattle.lines.proofs.take_line.Reads as take-line-reads
 
 slice-reshare-prefix-take-line : tie.Need-slice-reshare-prefix-take-line
 slice-reshare-prefix-take-line c = search needs
@@ -46,18 +45,7 @@ part-take-line-end-2 : tie.Need-part-take-line-end-2
 part-take-line-end-2 c = search needs
 
 take-line-requires : tie.Need-take-line-requires
-take-line-requires c κs =
-    let S = c .before .before .before .before .before .before .before .before .before in
-    let R = S .pre .1 in (
-      S .pre .0,
-      R .lines,
-      R .counts,
-      R .block,
-      simp length-take (omega (arith, R)),
-      simp length-take (omega (arith, R)),
-      simp (length-take, length-drop) (omega (arith, R)),
-      simp (length-take, length-drop) (omega (arith, R)),
-    )
+take-line-requires c κs = search needs
 
 stop-requires : tie.Need-stop-requires
 stop-requires c κs = search needs
@@ -78,25 +66,26 @@ returns c =
     let d = c .before .before .before .before .before .before .before .take-line in
     λ t s n l ps o w p sh. end-stop (A .config) (A .map .now) (machineOf (A .config .kind)) t s n l ps o w (A .at) (A .held .now) (A .out .now) (A .warnings .now) sh
     (d .result) (d .last .1 .1 .1 .1 .1 .1 .1 .0) (d .last .1 .1 .1 .1 .1 .1 .1 .1 .0) _
-    (d .ensures .0 s (sh .holds .columns) (held-block s n l (A .at) (A .held .now) (sh .holds)) p) (c .before .if1 .taken) (c .stop .ensures)
+    (line-done (A .config) (A .map .now) (A .at) (A .held .now) (A .out .now) (A .warnings .now) (S .pre .1) (d .result) (d .last .1 .1 .1 .1 .1 .1 .1 .0) (d .last .1 .1 .1 .1 .1 .1 .1 .1 .0) (d .ensures) (S .pre .0) s (sh .holds .columns) (held-block s n l (A .at) (A .held .now) (sh .holds)) p) (c .before .if1 .taken) (c .stop .ensures)
 
 -- the bytes of a BOM before a line that passed are some of its bytes
 skip-small : (c : tie.Else1) → c .before .before .before .before .before .before .take-line .result .skip ≤ c .before .before .before .before .before .before .before .before .before .before .before .before .before .before .before .before .args .at .held - c .before .before .before .before .before .before .before .before .before .before .before .before .before .before .before .before .args .at .start
 skip-small c =
-    let R = c .before .before .before .before .before .before .before .before .before .before .before .before .before .before .before .before .pre .1 in
-    let k = rw length-take at (c .before .before .before .before .before .before .take-line .ensures .1 .0 (c .if1 .left)) in
-    omega (arith, R, k)
+    let S = c .before .before .before .before .before .before .before .before .before .before .before .before .before .before .before .before in
+    let A = S .args in
+    let d = c .before .before .before .before .before .before .take-line in
+    skip-held (A .config) (A .map .now) (A .at) (A .held .now) (A .out .now) (A .warnings .now) (S .pre .1) (d .result) (d .last .1 .1 .1 .1 .1 .1 .1 .0) (d .last .1 .1 .1 .1 .1 .1 .1 .1 .0) (d .ensures)
 
 -- what a line writes is within the buffers
 lined-fits : (c : tie.Else1)
     → (c .before .before .before .before .before .before .before .before .before .before .before .before .before .before .before .before .args .at .lines ≤ 2 ^ 31) × (c .before .before .before .before .before .before .before .before .before .before .before .before .before .before .before .before .args .at .written + c .before .before .before .before .before .before .take-line .result .written < 2 ^ 64) × (c .before .before .before .before .before .before .before .before .before .before .before .before .before .before .before .before .args .at .warned + c .before .before .before .before .before .before .take-line .result .warned < 2 ^ 64)
 lined-fits c =
     let S = c .before .before .before .before .before .before .before .before .before .before .before .before .before .before .before .before in
+    let A = S .args in
     let R = S .pre .1 in
     let d = c .before .before .before .before .before .before .take-line in
-    let x = rw (length-take, length-drop) at (d .ensures .1 .1) in
-    let y = rw (length-take, length-drop) at (d .ensures .1 .2) in
-    (R .lines, omega (arith, x, R, S), omega (arith, y, R, S))
+    let x = line-sums (A .config) (A .map .now) (A .at) (A .held .now) (A .out .now) (A .warnings .now) R (d .result) (d .last .1 .1 .1 .1 .1 .1 .1 .0) (d .last .1 .1 .1 .1 .1 .1 .1 .1 .0) (d .ensures) (d .kept .1 .1 .1 .1 .1 .1 .1 .0) (d .kept .1 .1 .1 .1 .1 .1 .1 .1 .0) in
+    (R .lines, omega (arith, x, S), omega (arith, x, S))
 
 lined-requires : tie.Need-lined-requires
 lined-requires c κs = lined-fits (c .before .before)
@@ -117,7 +106,7 @@ returns-2 c =
     let d = c .before .before .before .before .before .before .before .before .before .take-line in
     λ t s n l ps o w p sh. end-empty (A .config) (A .map .now) (machineOf (A .config .kind)) t s n l ps o w (A .at) (A .held .now) (A .out .now) (A .warnings .now) sh
     (d .result) (d .last .1 .1 .1 .1 .1 .1 .1 .0) (d .last .1 .1 .1 .1 .1 .1 .1 .1 .0) _
-    (d .ensures .0 s (sh .holds .columns) (held-block s n l (A .at) (A .held .now) (sh .holds)) p) (c .before .before .before .if1 .left) (not-true _ (c .before .if2 .taken)) (c .lined .ensures)
+    (line-done (A .config) (A .map .now) (A .at) (A .held .now) (A .out .now) (A .warnings .now) (S .pre .1) (d .result) (d .last .1 .1 .1 .1 .1 .1 .1 .0) (d .last .1 .1 .1 .1 .1 .1 .1 .1 .0) (d .ensures) (S .pre .0) s (sh .holds .columns) (held-block s n l (A .at) (A .held .now) (sh .holds)) p) (c .before .before .before .if1 .left) (not-true _ (c .before .if2 .taken)) (c .lined .ensures)
 
 sub-move-down : tie.Need-sub-move-down
 sub-move-down c =
@@ -155,7 +144,7 @@ returns-3 c =
     let R = S .pre .1 in
     λ t s n l ps o w p sh. end-added (A .config) (A .map .now) (machineOf (A .config .kind)) t s n l ps o w (A .at) (A .held .now) (A .out .now) (A .warnings .now) sh
     (d .result) (d .last .1 .1 .1 .1 .1 .1 .1 .0) (d .last .1 .1 .1 .1 .1 .1 .1 .1 .0) _ _
-    (d .ensures .0 s (sh .holds .columns) (held-block s n l (A .at) (A .held .now) (sh .holds)) p) (c .before .before .before .before .before .before .before .if1 .left) (not-false _ (c .before .before .before .before .before .if2 .left)) (d .ensures .1 .0 (c .before .before .before .before .before .before .before .if1 .left)) (R .order) (omega (arith, R)) (c .before .before .before .move-down .ensures) (c .lined2 .ensures)
+    (line-done (A .config) (A .map .now) (A .at) (A .held .now) (A .out .now) (A .warnings .now) (S .pre .1) (d .result) (d .last .1 .1 .1 .1 .1 .1 .1 .0) (d .last .1 .1 .1 .1 .1 .1 .1 .1 .0) (d .ensures) (S .pre .0) s (sh .holds .columns) (held-block s n l (A .at) (A .held .now) (sh .holds)) p) (c .before .before .before .before .before .before .before .if1 .left) (not-false _ (c .before .before .before .before .before .if2 .left)) (line-skip (A .config) (A .map .now) (A .at) (A .held .now) (A .out .now) (A .warnings .now) R (d .result) (d .last .1 .1 .1 .1 .1 .1 .1 .0) (d .last .1 .1 .1 .1 .1 .1 .1 .1 .0) (d .ensures)) (R .order) (omega (arith, R)) (c .before .before .before .move-down .ensures) (c .lined2 .ensures)
 
 pub end-line-spec : {M : Type 1} → statement M
 end-line-spec =

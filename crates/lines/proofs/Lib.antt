@@ -1,0 +1,4 @@
+pub mod TellLaws
+pub mod BomLaws
+pub mod LentLaws
+pub mod DoneLaws

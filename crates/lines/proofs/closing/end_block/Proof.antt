@@ -1,0 +1,42 @@
+use Rattle.lines.proofs.LentLaws.{end-16, end-lent, lent-asked}
+use borrow.Author.Needs.{needs}
+use Rattle.lines.proofs.closing.end_block.Statement.{statement}
+use Rattle.lines.proofs.closing.end_block.Tie as tie
+use Rattle.lines.proofs.closing.end_block.Reads as reads
+use Rattle.lines.proofs.closing.end_block.Lts as lts
+use Rattle.lines.proofs.closing.close_block.Reads as close-block-reads
+use Rattle.lines.proofs.telling.lent_bad.Reads as lent-bad-reads
+use Rattle.lines.proofs.telling.still.Reads as still-reads
+
+lent-bad-requires : tie.Need-lent-bad-requires
+lent-bad-requires c κs = search needs
+
+still-requires : tie.Need-still-requires
+still-requires c κs = search needs
+
+returns : tie.Need-returns
+returns c = search end-16
+
+close-block-requires : tie.Need-close-block-requires
+close-block-requires c κs = search lent-asked
+
+same-length : tie.Need-same-length
+same-length c = search needs
+
+same-length-2 : tie.Need-same-length-2
+same-length-2 c = search needs
+
+returns-2 : tie.Need-returns-2
+returns-2 c = search end-lent
+
+pub end-block-spec : {M : Type 1} → statement M
+end-block-spec =
+    tie.close
+    (tie.spec
+    lent-bad-requires
+    still-requires
+    returns
+    close-block-requires
+    same-length
+    same-length-2
+    returns-2)

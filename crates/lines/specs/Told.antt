@@ -1,0 +1,33 @@
+-- What the private functions hand back.
+use mathlib.Core.Bool.{Bool, false}
+use Prim.Native.Nat.{ℕ, _+_, suc}
+use Rattle.event.specs.declared.telling.Counted.{Counted}
+use Rattle.event.specs.declared.telling.Counted.the-variants.{Nothing, Passed, Dropped, Shifted, Clipped}
+use Rattle.assline.specs.declared.layout.Columns.{Columns}
+use Rattle.machine.specs.declared.counting.Counts.{Counts}
+use Rattle.lines.specs.declared.telling.Taken.{Taken}
+use Rattle.lines.specs.declared.telling.Ended.{Ended}
+
+-- the counts with a caption that is counted so
+abbrev pub countBy : Counted → Counts → Counts
+countBy Nothing c = c
+countBy Passed c = record { shifted = c .shifted; clipped = c .clipped; dropped = c .dropped; passed = suc (c .passed) }
+countBy Dropped c = record { shifted = c .shifted; clipped = c .clipped; dropped = suc (c .dropped); passed = c .passed }
+countBy Shifted c = record { shifted = suc (c .shifted); clipped = c .clipped; dropped = c .dropped; passed = c .passed }
+countBy Clipped c = record { shifted = c .shifted; clipped = suc (c .clipped); dropped = c .dropped; passed = c .passed }
+
+-- a line that wrote nothing
+abbrev pub quietLine : ℕ → (added : Bool) → Counts → Columns → Taken
+quietLine k a t c = record { number = k; skip = 0; added = a; counts = t; columns = c; written = 0; warned = 0 }
+
+-- the end of a block that wrote nothing
+abbrev pub quietEnd : ℕ → Counts → Ended
+quietEnd k t = record { number = k; counts = t; written = 0; warned = 0 }
+
+-- a blank line that ended a block, with j bytes of both
+abbrev pub blankLine : Columns → Ended → (j : ℕ) → Taken
+blankLine c e j = record { number = 0; skip = 0; added = false; counts = e .counts; columns = c; written = j; warned = e .warned }
+
+-- a line that passed behind a BOM
+abbrev pub behindLine : Taken → Taken
+behindLine r = record { number = 0; skip = 3; added = r .added; counts = r .counts; columns = r .columns; written = 3 + r .written; warned = r .warned }

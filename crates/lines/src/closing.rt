@@ -1,0 +1,90 @@
+// The end of a block of SRT.
+use crate::telling::Ended;
+use crate::telling::count;
+use crate::telling::lent_bad;
+use crate::telling::still;
+use event::Config;
+use machine::Counts;
+ghost use mathlib.Core.Path.{_≡_};
+ghost use mathlib.Core.List.{[]};
+ghost use Prim.Native.Nat.{_≤_, _<_, _-_, _*_, suc};
+ghost use lib.ListN.{length};
+ghost use Rattle.text.specs.Line.{linesOf, lineCount};
+ghost use Rattle.segmap.specs.Segment.{segmentsOf};
+ghost use Rattle.block.specs.Style.{srt};
+ghost use Rattle.kinds.specs.Takes.{blankState, closes};
+ghost use Rattle.lines.specs.Answer.{answerIn, endIn, EndTells};
+ghost use Rattle.lines.specs.Done.{Ample};
+
+// How many lines a block has.
+fn lines_in(block: &[u8]) -> usize
+    ensures { λ r. ⌜ r ≡ lineCount (linesOf (now (block .entry))) ⌝ }
+{
+    let mut n = 0;
+    let mut t = block;
+    while t.len() > 0 {
+        let k = text::line_length(t);
+        let u = base::rest(t, k);
+        t = u;
+        n += 1;
+    }
+    n
+}
+
+// The number, from 1, of the first of k lines, at least one, that end with the n-th.
+fn first_line(n: u32, k: usize) -> u32
+    requires { ⌜ 0 < k ⌝ }
+    ensures { λ r. ⌜ r ≡ suc n - k ⌝ }
+{
+    base::less((n as usize) + 1, k) as u32
+}
+
+// The end of a block, with the room for it.
+pub fn close_block(
+    config: Config,
+    map: &[u64],
+    n: u32,
+    counts: Counts,
+    block: &[u8],
+    out: &mut [u8],
+    warnings: &mut [u64],
+) -> Ended
+    requires { ⌜ Ample counts (length (now block)) (length (now out)) (length (now warnings)) ⌝ }
+    ensures { λ r. ⌜ EndTells (answerIn config (segmentsOf (now (map .entry))) (closes srt blankState n (linesOf (now (block .entry))) [])) counts r (now (out .entry)) (now (out .exit)) (now (warnings .entry)) (now (warnings .exit)) ⌝ }
+    ensures { λ r. ⌜ r .written ≤ 3 * length (now (block .entry)) ⌝ }
+{
+    if block.len() == 0 {
+        return still(0, counts);
+    }
+    let first = first_line(n, lines_in(block));
+    let told = block::block(config, map, first, block, out, warnings);
+    if told.number != 0 {
+        return still(told.number, counts);
+    }
+    let counted = told.counted;
+    let more = count(counts, counted);
+    Ended {
+        number: 0,
+        counts: more,
+        written: told.written,
+        warned: told.warned,
+    }
+}
+
+// The end of a block: its lines end with the n-th line of the text.
+pub fn end_block(
+    config: Config,
+    map: &[u64],
+    n: u32,
+    counts: Counts,
+    block: &[u8],
+    out: &mut [u8],
+    warnings: &mut [u64],
+) -> Ended
+    ensures { λ r. ⌜ EndTells (endIn config (segmentsOf (now (map .entry))) n counts (now (block .entry)) (length (now (out .entry))) (length (now (warnings .entry)))) counts r (now (out .entry)) (now (out .exit)) (now (warnings .entry)) (now (warnings .exit)) ⌝ }
+{
+    if lent_bad(counts, block.len(), out.len(), warnings.len()) {
+        return still(16, counts);
+    }
+    close_block(config, map, n, counts, block, out, warnings)
+}
