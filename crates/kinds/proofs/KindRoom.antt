@@ -20,7 +20,7 @@ use Rattle.event.proofs.FineLaws.{Set}
 use Rattle.assline.specs.declared.layout.Columns.{Columns}
 use Rattle.ass.specs.Line.{LineSays, lineSays, faulty as lineFaulty, says as lineSaid}
 use Rattle.ass.proofs.LineFits.{line-fits}
-use Rattle.block.specs.Style.{srt, blankIn}
+use Rattle.timing.specs.Style.{srt, blankIn}
 use Rattle.block.specs.Block.{BlockSays, blockSays, faulty as blockFaulty, says as blockSaid}
 use Rattle.block.proofs.Fits.{block-fits}
 use Rattle.block.proofs.FineBlock.{lines-held, lines-open}

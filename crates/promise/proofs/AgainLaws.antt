@@ -19,7 +19,7 @@ use Rattle.ass.specs.Line.{LineSays, lineSays, faulty, says}
 use Rattle.ass.specs.Answer.{columnsAfter}
 use Rattle.assline.specs.Columns.{noColumns}
 use Rattle.back.proofs.AssLine.{line-back, line-apart}
-use Rattle.block.specs.Style.{srt}
+use Rattle.timing.specs.Style.{srt}
 use Rattle.block.specs.Block.{BlockSays, blockSays, faulty as blockFaulty, says as blockSaid}
 use Rattle.whole.specs.Srt.{Block, blocksOf}
 use Rattle.back.proofs.SrtBlock.{block-back}

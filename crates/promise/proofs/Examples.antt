@@ -21,8 +21,9 @@ use Rattle.assline.specs.Tags.{holdsAny}
 use Rattle.ass.specs.Line.{captionSays, wordSays, textSays, lineSays}
 use Rattle.assline.specs.Section.{bracketed, inside}
 use Rattle.assline.specs.Frame.{pieceAt, fieldPieces}
-use Rattle.block.specs.Style.{blankIn, srtEnd}
-use Rattle.block.specs.Block.{blockFrame, blockCue, timingOf, afterArrow, timingLineSays as blockLineSays, blockSays}
+use Rattle.timing.specs.Style.{blankIn, srtEnd}
+use Rattle.timing.specs.Arrow.{timingOf, afterArrow}
+use Rattle.block.specs.Block.{blockFrame, blockCue, timingLineSays as blockLineSays, blockSays}
 use Rattle.whole.specs.Srt.{blocksOf}
 use Rattle.event.specs.Mark.{bom}
 use Rattle.machine.specs.Reader.{reading, fails}

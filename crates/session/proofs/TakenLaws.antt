@@ -28,7 +28,7 @@ use Rattle.assline.specs.declared.layout.Columns.{Columns}
 use Rattle.ass.specs.Line.{LineSays, lineSays, faulty as lineFaulty, says as lineSaid}
 use Rattle.ass.specs.Answer.{lineIn, columnsNext, columnsAfter, lineAnswer as lineAnswer}
 use Rattle.ass.proofs.LineFine.{line-fine, columns-fine}
-use Rattle.block.specs.Style.{srt, blankIn}
+use Rattle.timing.specs.Style.{srt, blankIn}
 use Rattle.block.specs.Block.{BlockSays, blockSays, faulty as blockFaulty, says as blockSaid}
 use Rattle.block.specs.Answer.{blockIn, blockAnswer as blockAnswer}
 use Rattle.block.proofs.FineBlock.{block-fine}

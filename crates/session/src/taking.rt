@@ -11,7 +11,7 @@ ghost use lib.Dec.{eqb};
 ghost use lib.ListN.{length, take, drop};
 ghost use Rattle.base.specs.Put.{put};
 ghost use Rattle.text.specs.Line.{concat, linesOf, lineCount};
-ghost use Rattle.block.specs.Style.{srt};
+ghost use Rattle.timing.specs.Style.{srt};
 ghost use Rattle.machine.specs.Machine.{bom, hasBom, takeLine};
 ghost use Rattle.kinds.specs.Takes.{State, blankState, lineTakes, blockTakes, takes, closes, machineOf};
 ghost use Rattle.session.specs.Taken.{Ready, Below, Parsed, countBy, quietLine, quietEnd, blankLine, Ends, Done};
@@ -224,7 +224,7 @@ fn srt_line(
     if !utf8::is_utf8(line) {
         return quiet(20, false, counts, columns);
     }
-    if block::is_blank_in(1, line) {
+    if timing::is_blank_in(1, line) {
         let end = end_block(config, map, n, counts, block, out, warnings);
         if end.number != 0 {
             return quiet(end.number, false, counts, columns);

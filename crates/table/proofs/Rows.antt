@@ -28,8 +28,9 @@ use Rattle.assline.specs.Tags.{holdsAny}
 use Rattle.assline.specs.Section.{bracketed, inside}
 use Rattle.assline.specs.Frame.{pieceAt, fieldPieces}
 use Rattle.ass.specs.Line.{LineSays, faulty, says, captionSays, wordSays, textSays, lineSays}
-use Rattle.block.specs.Style.{srtEnd, srt}
-use Rattle.block.specs.Block.{timingOf, afterArrow, blockFrame, blockCue, timingLineSays as blockLineSays, blockSays, says as blockSaid}
+use Rattle.timing.specs.Style.{srtEnd, srt}
+use Rattle.timing.specs.Arrow.{timingOf, afterArrow}
+use Rattle.block.specs.Block.{blockFrame, blockCue, timingLineSays as blockLineSays, blockSays, says as blockSaid}
 use Rattle.table.specs.Example.{theSegments, setting}
 use Rattle.table.proofs.TheMap.{segments-is}
 

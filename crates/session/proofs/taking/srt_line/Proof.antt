@@ -2,7 +2,7 @@ use mathlib.Core.Path.{_≡_, sym, _∙_}
 use mathlib.Core.Bool.{true, false}
 use borrow.Author.Tests.{not-true, not-false}
 use Rattle.utf8.specs.Utf8.{utf8}
-use Rattle.block.specs.Style.{blankIn}
+use Rattle.timing.specs.Style.{blankIn}
 use Rattle.session.proofs.TakenLaws.{srt-20, srt-22, srt-blank, srt-21, srt-add, quiet-small, blank-fits}
 use borrow.Author.Needs.{needs}
 use Rattle.session.proofs.taking.srt_line.Statement.{statement}
@@ -10,7 +10,7 @@ use Rattle.session.proofs.taking.srt_line.Tie as tie
 use Rattle.session.proofs.taking.srt_line.Reads as reads
 use Rattle.session.proofs.taking.srt_line.Lts as lts
 use Rattle.base.proofs.bytes_at.Reads as bytes-at-reads
-use Rattle.block.proofs.is_blank_in.Reads as is-blank-in-reads
+use Rattle.timing.proofs.is_blank_in.Reads as is-blank-in-reads
 use Rattle.session.proofs.taking.blank.Reads as blank-reads
 use Rattle.session.proofs.taking.end_block.Reads as end-block-reads
 use Rattle.session.proofs.taking.quiet.Reads as quiet-reads

@@ -14,10 +14,10 @@ use Rattle.white.specs.White.{trimHead}
 use Rattle.text.specs.Find.{contains, past}
 use Rattle.text.specs.Line.{lineLength, linesOf, concat, lineCount, textOf}
 use Rattle.text.proofs.LineLaws.{line-some, line-le, lines-cut, lines-end, lines-joined}
-use Rattle.block.specs.declared.timing.Place.{Place}
-use Rattle.block.specs.Style.{srtEnd}
-use Rattle.block.specs.Block.{arrow, Timing, untimed, timed, later, timingOf, afterArrow}
-use Rattle.block.specs.Place.{nowhere, somewhere, timingPlace}
+use Rattle.timing.specs.declared.timing.Place.{Place}
+use Rattle.timing.specs.Style.{srtEnd}
+use Rattle.timing.specs.Arrow.{arrow, Timing, untimed, timed, later, timingOf, afterArrow}
+use Rattle.timing.specs.Place.{nowhere, somewhere, timingPlace}
 
 -- ---- the end time
 pub end-1 : (r : List ℕ) → length r < 12 → length r ≡ srtEnd r

@@ -1,9 +1,9 @@
-use Rattle.block.proofs.PlaceLaws.{after-found}
+use Rattle.timing.proofs.PlaceLaws.{after-found}
 use borrow.Author.Needs.{needs}
-use Rattle.block.proofs.timing.after_arrow.Statement.{statement}
-use Rattle.block.proofs.timing.after_arrow.Tie as tie
-use Rattle.block.proofs.timing.after_arrow.Reads as reads
-use Rattle.block.proofs.timing.after_arrow.Lts as lts
+use Rattle.timing.proofs.timing.after_arrow.Statement.{statement}
+use Rattle.timing.proofs.timing.after_arrow.Tie as tie
+use Rattle.timing.proofs.timing.after_arrow.Reads as reads
+use Rattle.timing.proofs.timing.after_arrow.Lts as lts
 use Rattle.text.proofs.past.Reads as past-reads
 use Rattle.white.proofs.trim_head.Reads as trim-head-reads
 

@@ -1,9 +1,9 @@
-use Rattle.block.proofs.PlaceLaws.{end-1, end-2, end-3}
+use Rattle.timing.proofs.PlaceLaws.{end-1, end-2, end-3}
 use borrow.Author.Needs.{needs}
-use Rattle.block.proofs.timing.end_length.Statement.{statement}
-use Rattle.block.proofs.timing.end_length.Tie as tie
-use Rattle.block.proofs.timing.end_length.Reads as reads
-use Rattle.block.proofs.timing.end_length.Lts as lts
+use Rattle.timing.proofs.timing.end_length.Statement.{statement}
+use Rattle.timing.proofs.timing.end_length.Tie as tie
+use Rattle.timing.proofs.timing.end_length.Reads as reads
+use Rattle.timing.proofs.timing.end_length.Lts as lts
 use Rattle.base.proofs.byte.Reads as byte-reads
 use Rattle.utf8.proofs.is_tail.Reads as is-tail-reads
 

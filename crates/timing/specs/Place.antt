@@ -5,8 +5,8 @@ use Prim.Native.Nat.{ℕ, _+_}
 use lib.ListN.{length}
 use Rattle.text.specs.Find.{contains}
 use Rattle.text.specs.Line.{textOf}
-use Rattle.block.specs.declared.timing.Place.{Place}
-use Rattle.block.specs.Block.{arrow}
+use Rattle.timing.specs.declared.timing.Place.{Place}
+use Rattle.timing.specs.Arrow.{arrow}
 
 abbrev pub nowhere : Place
 nowhere = record { found = false; at = 0; size = 0; lines = 0 }

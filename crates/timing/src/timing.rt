@@ -4,9 +4,9 @@ ghost use Prim.Native.Nat.{_≤_};
 ghost use lib.ListN.{length};
 ghost use Rattle.text.specs.Find.{contains, upTo};
 ghost use Rattle.text.specs.Line.{linesOf};
-ghost use Rattle.block.specs.Style.{srtEnd};
-ghost use Rattle.block.specs.Block.{arrow, afterArrow};
-ghost use Rattle.block.specs.Place.{timingPlace};
+ghost use Rattle.timing.specs.Style.{srtEnd};
+ghost use Rattle.timing.specs.Arrow.{arrow, afterArrow};
+ghost use Rattle.timing.specs.Place.{timingPlace};
 
 // Where the timing line stands in a block: its first byte, its length, and how many lines are before it.
 pub struct Place {

@@ -3,16 +3,16 @@ use Prim.Native.Nat.{_+_, _≤_}
 use lib.ListN.{length}
 use native.Mathlib.Omega.{arith}
 use Rattle.text.specs.Line.{linesOf}
-use Rattle.block.specs.Place.{timingPlace}
-use Rattle.block.proofs.PlaceLaws.{place-found, place-again, place-none, line-inside, rest-sum, lines-few}
+use Rattle.timing.specs.Place.{timingPlace}
+use Rattle.timing.proofs.PlaceLaws.{place-found, place-again, place-none, line-inside, rest-sum, lines-few}
 use borrow.Author.Needs.{needs}
-use Rattle.block.proofs.timing.locate.Statement.{statement}
-use Rattle.block.proofs.timing.locate.Tie as tie
-use Rattle.block.proofs.timing.locate.Reads as reads
-use Rattle.block.proofs.timing.locate.Lts as lts
+use Rattle.timing.proofs.timing.locate.Statement.{statement}
+use Rattle.timing.proofs.timing.locate.Tie as tie
+use Rattle.timing.proofs.timing.locate.Reads as reads
+use Rattle.timing.proofs.timing.locate.Lts as lts
 use Rattle.base.proofs.front.Reads as front-reads
 use Rattle.base.proofs.rest.Reads as rest-reads
-use Rattle.block.proofs.timing.has_arrow.Reads as has-arrow-reads
+use Rattle.timing.proofs.timing.has_arrow.Reads as has-arrow-reads
 use Rattle.text.proofs.line_length.Reads as line-length-reads
 use Rattle.text.proofs.text_of.Reads as text-of-reads
 use Rattle.text.proofs.LineLaws.{line-less}

@@ -1,10 +1,10 @@
-use Rattle.block.specs.Style.{blankIn}
+use Rattle.timing.specs.Style.{blankIn}
 use Rattle.base.proofs.Laws.{chain, calls}
 use borrow.Author.Needs.{needs}
-use Rattle.block.proofs.blank.is_blank_in.Statement.{statement}
-use Rattle.block.proofs.blank.is_blank_in.Tie as tie
-use Rattle.block.proofs.blank.is_blank_in.Reads as reads
-use Rattle.block.proofs.blank.is_blank_in.Lts as lts
+use Rattle.timing.proofs.blank.is_blank_in.Statement.{statement}
+use Rattle.timing.proofs.blank.is_blank_in.Tie as tie
+use Rattle.timing.proofs.blank.is_blank_in.Reads as reads
+use Rattle.timing.proofs.blank.is_blank_in.Lts as lts
 use Rattle.text.proofs.is_blank.Reads as is-blank-reads
 
 is-blank-requires : tie.Need-is-blank-requires
