@@ -24,7 +24,7 @@ use Rattle.event.specs.Says.{Part, stays, Fault, notUtf8, longBlock, faultNumbe
 use Rattle.event.specs.Emit.{Warning, Caption, none, decided, emitBy, emitOf, emitsOf, outputOf, warningsOf, placesOf}
 use Rattle.event.specs.Told.{Answer, refusal, answered, countedOf, Tells}
 use Rattle.event.proofs.FineLaws.{Set}
-use Rattle.assline.specs.declared.layout.Columns.{Columns}
+use Rattle.columns.specs.declared.layout.Columns.{Columns}
 use Rattle.ass.specs.Line.{LineSays, lineSays, faulty as lineFaulty, says as lineSaid}
 use Rattle.ass.specs.Answer.{lineIn, columnsNext, columnsAfter, lineAnswer as lineAnswer}
 use Rattle.ass.proofs.LineFine.{line-fine, columns-fine}

@@ -14,7 +14,7 @@ use Rattle.event.specs.declared.telling.Counted.{Counted}
 use Rattle.event.specs.declared.telling.Counted.the-variants.{Nothing, Passed, Dropped, Shifted, Clipped}
 use Rattle.event.specs.Says.{Part, faultNumber}
 use Rattle.event.specs.Emit.{outputOf, warningsOf, placesOf}
-use Rattle.assline.specs.declared.layout.Columns.{Columns}
+use Rattle.columns.specs.declared.layout.Columns.{Columns}
 use Rattle.machine.specs.declared.counting.Counts.{Counts}
 use Rattle.machine.specs.Counts.{countAll}
 use Rattle.machine.specs.Machine.{Says, faulty, says}

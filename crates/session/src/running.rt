@@ -1,7 +1,7 @@
 // A piece taken byte by byte.
 use crate::taking::Taken;
 use crate::taking::take_line;
-use assline::Columns;
+use columns::Columns;
 use event::Config;
 use machine::Counts;
 ghost use mathlib.Core.Path.{_≡_};

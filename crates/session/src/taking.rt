@@ -1,5 +1,5 @@
 // One line taken, and the end of a block.
-use assline::Columns;
+use columns::Columns;
 use event::Config;
 use event::Counted;
 use machine::Counts;

@@ -22,10 +22,10 @@ use Rattle.event.specs.Hit.{meetsParts, findFrom, lostRule}
 use Rattle.event.specs.Decide.{decideTicks, decideOf}
 use Rattle.event.specs.Says.{Part, stays, passes, cue, unplaced, short, faultNumber}
 use Rattle.event.specs.Emit.{Warning, warning, emitBy, emitOf, render}
-use Rattle.assline.specs.declared.layout.Columns.{Columns}
-use Rattle.assline.specs.Columns.{namesIn, placeIn, columnsIn, fields, fieldAt}
+use Rattle.columns.specs.declared.layout.Columns.{Columns}
+use Rattle.columns.specs.Columns.{namesIn, placeIn, columnsIn, fields, fieldAt}
 use Rattle.assline.specs.Tags.{holdsAny}
-use Rattle.assline.specs.Section.{bracketed, inside}
+use Rattle.columns.specs.Section.{bracketed, inside}
 use Rattle.assline.specs.Frame.{pieceAt, fieldPieces}
 use Rattle.ass.specs.Line.{LineSays, faulty, says, captionSays, wordSays, textSays, lineSays}
 use Rattle.timing.specs.Style.{srtEnd, srt}

@@ -9,7 +9,7 @@ use lib.Dec.{ltb, leb}
 use lib.ListN.{length, take, drop, length-drop}
 use lib.Seq.{take-all}
 use Rattle.text.specs.Find.{first, contains, upTo, past}
-use Rattle.assline.specs.Columns.{fields, fieldAt}
+use Rattle.columns.specs.Columns.{fields, fieldAt}
 use Rattle.text.specs.Piece.{comma}
 
 pub fields-some : (n : ℕ) (s : List ℕ) → first comma s < length s → fields (suc (suc n)) s ≡ take (first comma s) s ∷ fields (suc n) (drop (first comma s + 1) s)

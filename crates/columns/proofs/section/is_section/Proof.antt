@@ -1,9 +1,9 @@
-use Rattle.assline.proofs.SectionLaws.{section-short, section-other, section-last}
+use Rattle.columns.proofs.SectionLaws.{section-short, section-other, section-last}
 use borrow.Author.Needs.{needs}
-use Rattle.assline.proofs.section.is_section.Statement.{statement}
-use Rattle.assline.proofs.section.is_section.Tie as tie
-use Rattle.assline.proofs.section.is_section.Reads as reads
-use Rattle.assline.proofs.section.is_section.Lts as lts
+use Rattle.columns.proofs.section.is_section.Statement.{statement}
+use Rattle.columns.proofs.section.is_section.Tie as tie
+use Rattle.columns.proofs.section.is_section.Reads as reads
+use Rattle.columns.proofs.section.is_section.Lts as lts
 use Rattle.base.proofs.byte.Reads as byte-reads
 
 returns : tie.Need-returns

@@ -4,7 +4,7 @@ ghost use mathlib.Core.Bool.{cond};
 ghost use lib.Dec.{leb};
 ghost use lib.ListN.{length};
 ghost use Rattle.text.specs.Find.{first};
-ghost use Rattle.assline.specs.Columns.{fields, fieldAt};
+ghost use Rattle.columns.specs.Columns.{fields, fieldAt};
 ghost use Rattle.text.specs.Piece.{comma};
 
 // How many bytes the first of at most `left` fields has.
@@ -59,11 +59,4 @@ pub fn field(s: &[u8], columns: usize, place: usize) -> &[u8]
         k -= 1;
     }
     base::front(t, field_length(t, left))
-}
-
-// A column's text: the old field, or a fresh time in its place.
-pub fn column_text<'a>(old: &'a [u8], fresh: &'a [u8], replaced: bool) -> &'a [u8]
-    ensures { λ r. ⌜ now r ≡ cond replaced (now (fresh .entry)) (now (old .entry)) ⌝ }
-{
-    if replaced { fresh } else { old }
 }

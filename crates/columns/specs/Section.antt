@@ -4,7 +4,7 @@ use mathlib.Core.List.{List, [], _∷_}
 use Prim.Native.Nat.{ℕ, _-_}
 use lib.Dec.{eqb, ltb}
 use lib.ListN.{length, take, drop, getD}
-use Rattle.assline.specs.declared.layout.Columns.{Columns}
+use Rattle.columns.specs.declared.layout.Columns.{Columns}
 
 -- `Events`
 abbrev pub eventsName : List ℕ

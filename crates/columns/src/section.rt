@@ -2,7 +2,7 @@
 use crate::layout::Columns;
 ghost use mathlib.Core.Path.{_≡_};
 ghost use Rattle.text.specs.Find.{equals};
-ghost use Rattle.assline.specs.Section.{eventsName, bracketed, inside, inSection};
+ghost use Rattle.columns.specs.Section.{eventsName, bracketed, inside, inSection};
 
 // Whether a trimmed line goes from `[` to `]`.
 pub fn is_section(t: &[u8]) -> bool

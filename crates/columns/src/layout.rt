@@ -3,7 +3,7 @@ ghost use mathlib.Core.Path.{_≡_};
 ghost use mathlib.Core.Bool.{cond};
 ghost use lib.Dec.{eqb};
 ghost use Rattle.text.specs.Find.{equals};
-ghost use Rattle.assline.specs.Columns.{startName, endName, columnsIn};
+ghost use Rattle.columns.specs.Columns.{startName, endName, columnsIn};
 
 // Whether the section is Events, how many columns the last `Format:` line had, and the places of Start and End among them, from 1; 0: absent.
 pub struct Columns {

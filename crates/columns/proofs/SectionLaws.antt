@@ -7,7 +7,7 @@ use borrow.Author.Tests.{lt-ltb, le-ltb, eq-eqb, ne-eqb}
 use lib.Dec.{eqb}
 use lib.ListN.{length, take, drop, getD}
 use Rattle.text.specs.Find.{equals}
-use Rattle.assline.specs.Section.{eventsName, bracketed, inside}
+use Rattle.columns.specs.Section.{eventsName, bracketed, inside}
 
 pub section-short : (t : List ℕ) → length t < 2 → false ≡ bracketed t
 unfolding bracketed

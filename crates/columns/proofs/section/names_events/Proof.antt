@@ -1,9 +1,9 @@
-use Rattle.assline.proofs.SectionLaws.{section-name}
+use Rattle.columns.proofs.SectionLaws.{section-name}
 use borrow.Author.Needs.{needs}
-use Rattle.assline.proofs.section.names_events.Statement.{statement}
-use Rattle.assline.proofs.section.names_events.Tie as tie
-use Rattle.assline.proofs.section.names_events.Reads as reads
-use Rattle.assline.proofs.section.names_events.Lts as lts
+use Rattle.columns.proofs.section.names_events.Statement.{statement}
+use Rattle.columns.proofs.section.names_events.Tie as tie
+use Rattle.columns.proofs.section.names_events.Reads as reads
+use Rattle.columns.proofs.section.names_events.Lts as lts
 use Rattle.base.proofs.front.Reads as front-reads
 use Rattle.base.proofs.less.Reads as less-reads
 use Rattle.base.proofs.rest.Reads as rest-reads

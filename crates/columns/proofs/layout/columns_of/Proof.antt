@@ -1,15 +1,15 @@
-use Rattle.assline.proofs.FieldLaws.{rest-less}
+use Rattle.columns.proofs.FieldLaws.{rest-less}
 use lib.ListN.{length}
-use Rattle.assline.proofs.ColumnLaws.{Left, left-all, left-done, left-again}
+use Rattle.columns.proofs.ColumnLaws.{Left, left-all, left-done, left-again}
 use native.Mathlib.Omega.{arith}
 use borrow.Author.Needs.{needs}
-use Rattle.assline.proofs.layout.columns_of.Statement.{statement}
-use Rattle.assline.proofs.layout.columns_of.Tie as tie
-use Rattle.assline.proofs.layout.columns_of.Reads as reads
-use Rattle.assline.proofs.layout.columns_of.Lts as lts
-use Rattle.assline.proofs.layout.first_place.Reads as first-place-reads
-use Rattle.assline.proofs.layout.is_end.Reads as is-end-reads
-use Rattle.assline.proofs.layout.is_start.Reads as is-start-reads
+use Rattle.columns.proofs.layout.columns_of.Statement.{statement}
+use Rattle.columns.proofs.layout.columns_of.Tie as tie
+use Rattle.columns.proofs.layout.columns_of.Reads as reads
+use Rattle.columns.proofs.layout.columns_of.Lts as lts
+use Rattle.columns.proofs.layout.first_place.Reads as first-place-reads
+use Rattle.columns.proofs.layout.is_end.Reads as is-end-reads
+use Rattle.columns.proofs.layout.is_start.Reads as is-start-reads
 use Rattle.base.proofs.front.Reads as front-reads
 use Rattle.base.proofs.rest.Reads as rest-reads
 use Rattle.text.proofs.find.Reads as find-reads

@@ -6,7 +6,7 @@ use lib.ListN.{length}
 use Rattle.white.specs.White.{trim}
 use Rattle.text.specs.Find.{equals, contains, upTo, past}
 use Rattle.text.specs.Piece.{comma, pieces}
-use Rattle.assline.specs.declared.layout.Columns.{Columns}
+use Rattle.columns.specs.declared.layout.Columns.{Columns}
 
 -- `Start`, `End`
 abbrev pub startName : List ℕ

@@ -1,16 +1,16 @@
-use Rattle.assline.proofs.FieldLaws.{rest-part}
+use Rattle.columns.proofs.FieldLaws.{rest-part}
 use lib.ListN.{length}
 use Prim.Native.Nat.{_≤_}
 use mathlib.Core.Path.{_≡_, refl}
 use native.Mathlib.Omega.{arith}
-use Rattle.assline.specs.Columns.{fields, fieldAt}
-use Rattle.assline.proofs.FieldLaws.{field-absent, field-past, field-short, field-again, field-found}
+use Rattle.columns.specs.Columns.{fields, fieldAt}
+use Rattle.columns.proofs.FieldLaws.{field-absent, field-past, field-short, field-again, field-found}
 use borrow.Author.Needs.{needs}
-use Rattle.assline.proofs.fields.field.Statement.{statement}
-use Rattle.assline.proofs.fields.field.Tie as tie
-use Rattle.assline.proofs.fields.field.Reads as reads
-use Rattle.assline.proofs.fields.field.Lts as lts
-use Rattle.assline.proofs.fields.field_length.Reads as field-length-reads
+use Rattle.columns.proofs.fields.field.Statement.{statement}
+use Rattle.columns.proofs.fields.field.Tie as tie
+use Rattle.columns.proofs.fields.field.Reads as reads
+use Rattle.columns.proofs.fields.field.Lts as lts
+use Rattle.columns.proofs.fields.field_length.Reads as field-length-reads
 use Rattle.base.proofs.front.Reads as front-reads
 use Rattle.base.proofs.rest.Reads as rest-reads
 use Rattle.text.proofs.find.Reads as find-reads

@@ -14,8 +14,8 @@ use Rattle.text.specs.Find.{equals, first}
 use Rattle.text.specs.Piece.{pieces, comma}
 use Rattle.text.proofs.Laws.{equals-true}
 use Rattle.text.proofs.PieceLaws.{pieces-none, pieces-some}
-use Rattle.assline.specs.declared.layout.Columns.{Columns}
-use Rattle.assline.specs.Columns.{startName, endName, namesIn, further, placeIn, columnsIn}
+use Rattle.columns.specs.declared.layout.Columns.{Columns}
+use Rattle.columns.specs.Columns.{startName, endName, namesIn, further, placeIn, columnsIn}
 
 -- ---- the first place that was met
 pub place-kept : (e p : ℕ) (m : Bool) → (e ≡ 0 → ⊥) → e ≡ cond (eqb e 0) (cond m p 0) e

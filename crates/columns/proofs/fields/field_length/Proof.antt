@@ -1,9 +1,9 @@
 use Rattle.base.proofs.Laws.{chain}
 use borrow.Author.Needs.{needs}
-use Rattle.assline.proofs.fields.field_length.Statement.{statement}
-use Rattle.assline.proofs.fields.field_length.Tie as tie
-use Rattle.assline.proofs.fields.field_length.Reads as reads
-use Rattle.assline.proofs.fields.field_length.Lts as lts
+use Rattle.columns.proofs.fields.field_length.Statement.{statement}
+use Rattle.columns.proofs.fields.field_length.Tie as tie
+use Rattle.columns.proofs.fields.field_length.Reads as reads
+use Rattle.columns.proofs.fields.field_length.Lts as lts
 use Rattle.text.proofs.find.Reads as find-reads
 
 returns : tie.Need-returns

@@ -1,16 +1,16 @@
 use Prim.Native.Nat.{_≤_}
 use native.Mathlib.Omega.{arith}
-use Rattle.assline.proofs.FieldLaws.{rest-part}
+use Rattle.columns.proofs.FieldLaws.{rest-part}
 use lib.Dec.{leb}
 use lib.ListN.{length}
 use mathlib.Core.Path.{_≡_, refl}
-use Rattle.assline.specs.Columns.{fields}
-use Rattle.assline.proofs.FieldLaws.{enough-few, enough-again, enough-all}
+use Rattle.columns.specs.Columns.{fields}
+use Rattle.columns.proofs.FieldLaws.{enough-few, enough-again, enough-all}
 use borrow.Author.Needs.{needs}
-use Rattle.assline.proofs.fields.enough.Statement.{statement}
-use Rattle.assline.proofs.fields.enough.Tie as tie
-use Rattle.assline.proofs.fields.enough.Reads as reads
-use Rattle.assline.proofs.fields.enough.Lts as lts
+use Rattle.columns.proofs.fields.enough.Statement.{statement}
+use Rattle.columns.proofs.fields.enough.Tie as tie
+use Rattle.columns.proofs.fields.enough.Reads as reads
+use Rattle.columns.proofs.fields.enough.Lts as lts
 use Rattle.base.proofs.rest.Reads as rest-reads
 use Rattle.text.proofs.find.Reads as find-reads
 
