@@ -21,9 +21,9 @@ use Rattle.event.specs.Says.{Cue, unplaced, short, Part, stays, passes, cue}
 use Rattle.event.specs.Emit.{emitBy, emitOf}
 use Rattle.event.specs.Told.{partIn}
 use Rattle.event.proofs.FineLaws.{Set, cue-fine}
-use Rattle.assline.specs.declared.layout.Columns.{Columns}
-use Rattle.assline.specs.Columns.{columnsIn, fields, fieldAt}
-use Rattle.assline.specs.Section.{eventsName, bracketed, inside, inSection}
+use Rattle.columns.specs.declared.layout.Columns.{Columns}
+use Rattle.columns.specs.Columns.{columnsIn, fields, fieldAt}
+use Rattle.columns.specs.Section.{eventsName, bracketed, inside, inSection}
 use Rattle.ass.specs.Line.{formatWord, dialogueWord, commentWord, LineSays, faulty, says, timesSay, captionSays, wordSays, textSays, lineSays}
 use Rattle.ass.specs.Answer.{columnsAfter, lineAnswer, lineAnswerIn, lineIn, columnsNext}
 

@@ -27,9 +27,9 @@ use Rattle.event.specs.Emit.{Emit, warnIf, cueEmit, emitBy, emitOf}
 use Rattle.event.specs.Told.{refusal, cueIn, partIn}
 use Rattle.event.proofs.FineLaws.{Set, decide-fine}
 use Rattle.event.proofs.WordLaws.{Words, decide-words}
-use Rattle.assline.specs.declared.layout.Columns.{Columns}
-use Rattle.assline.specs.Columns.{columnsIn, fields, fieldAt}
-use Rattle.assline.specs.Section.{eventsName, bracketed, inside, inSection}
+use Rattle.columns.specs.declared.layout.Columns.{Columns}
+use Rattle.columns.specs.Columns.{columnsIn, fields, fieldAt}
+use Rattle.columns.specs.Section.{eventsName, bracketed, inside, inSection}
 use Rattle.assline.specs.Frame.{lineFrame}
 use Rattle.ass.specs.Line.{formatWord, dialogueWord, commentWord, LineSays, faulty, says, lineCue, timesSay, captionSays, wordSays, textSays, lineSays}
 use Rattle.ass.specs.Answer.{lineAnswerIn, lineIn}

@@ -25,9 +25,9 @@ use Rattle.event.specs.Says.{Reason, unplaced, short, reasonNumber, Part, stays
 use Rattle.event.specs.Emit.{none, decided, emit, emitBy, warning}
 use Rattle.event.specs.Told.{refusal, answered, cueIn, partIn, Tells, refusedWith}
 use Rattle.event.proofs.TellLaws.{tells-same, tells-refused}
-use Rattle.assline.specs.declared.layout.Columns.{Columns}
-use Rattle.assline.specs.Columns.{columnsIn, fields, fieldAt}
-use Rattle.assline.specs.Section.{eventsName, bracketed, inside, inSection}
+use Rattle.columns.specs.declared.layout.Columns.{Columns}
+use Rattle.columns.specs.Columns.{columnsIn, fields, fieldAt}
+use Rattle.columns.specs.Section.{eventsName, bracketed, inside, inSection}
 use Rattle.assline.specs.Frame.{lineFrame, frameMost}
 use Rattle.ass.specs.Line.{formatWord, dialogueWord, commentWord, LineSays, faulty, says, lineCue, timesSay, captionSays, wordSays, textSays, lineSays}
 use Rattle.ass.specs.Answer.{columnsAfter, lineAnswerIn, lineIn, columnsNext, stayedWith}

@@ -17,8 +17,8 @@ use Rattle.event.specs.Fates.{passed, fateFor}
 use Rattle.event.specs.Says.{Piece, bytes, start, stop}
 use Rattle.event.specs.Emit.{Warning, none, decided, emit, warning, warnIf, placesOf, render, keptEmit}
 use Rattle.event.specs.Told.{answered, countedOf, Tells}
-use Rattle.assline.specs.declared.layout.Columns.{Columns}
-use Rattle.assline.specs.Columns.{fields, fieldAt}
+use Rattle.columns.specs.declared.layout.Columns.{Columns}
+use Rattle.columns.specs.Columns.{fields, fieldAt}
 use Rattle.assline.specs.Tags.{tagged}
 use Rattle.assline.specs.Frame.{lineFrame, framePlaced, frameAfter, frameMost}
 use Rattle.ass.specs.Line.{lineCue}

@@ -11,7 +11,7 @@ use Rattle.event.specs.declared.telling.Counted.the-variants.{Nothing}
 use Rattle.event.specs.Says.{faultNumber}
 use Rattle.event.specs.Emit.{emitOf}
 use Rattle.event.specs.Told.{Answer, refusal, answered, partIn}
-use Rattle.assline.specs.declared.layout.Columns.{Columns}
+use Rattle.columns.specs.declared.layout.Columns.{Columns}
 use Rattle.ass.specs.Line.{LineSays, faulty, says, lineSays}
 
 -- the columns after a line: as they were where it is faulty

@@ -11,9 +11,9 @@ use Rattle.stamp.specs.Read.{timeIn}
 use Rattle.stamp.specs.declared.read.Time.{Time}
 use Rattle.stamp.specs.declared.read.Time.the-variants.{At, Bad}
 use Rattle.event.specs.Says.{unplaced, short, Cue, Part, stays, passes, cue, Fault, badTime}
-use Rattle.assline.specs.declared.layout.Columns.{Columns}
-use Rattle.assline.specs.Columns.{columnsIn, fields, fieldAt}
-use Rattle.assline.specs.Section.{eventsName, bracketed, inside, inSection}
+use Rattle.columns.specs.declared.layout.Columns.{Columns}
+use Rattle.columns.specs.Columns.{columnsIn, fields, fieldAt}
+use Rattle.columns.specs.Section.{eventsName, bracketed, inside, inSection}
 use Rattle.assline.specs.Tags.{tagged}
 use Rattle.assline.specs.Frame.{lineFrame}
 

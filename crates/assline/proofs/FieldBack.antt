@@ -12,9 +12,9 @@ use Rattle.text.proofs.LineEnds.{lastOf, last-append, last-drop, last-some}
 use Rattle.text.proofs.Free.{Free, first-free, up-byte, past-byte}
 use Rattle.event.specs.Says.{Piece, bytes, start, stop}
 use Rattle.event.specs.Emit.{render}
-use Rattle.assline.specs.Columns.{fields, fieldAt}
+use Rattle.columns.specs.Columns.{fields, fieldAt}
 use Rattle.assline.specs.Frame.{pieceAt, fieldPieces, pieceText}
-use Rattle.assline.proofs.FieldLaws.{fields-some, fields-one, fields-last}
+use Rattle.columns.proofs.FieldLaws.{fields-some, fields-one, fields-last}
 use Rattle.assline.proofs.WriteLaws.{frame-one, pieces-more, piece-text, is-bytes, render-step, render-nil}
 use Rattle.text.specs.Piece.{comma}
 

@@ -13,10 +13,10 @@ use Rattle.stamp.specs.declared.read.Time.the-variants.{At}
 use Rattle.stamp.specs.Read.{timeIn}
 use Rattle.stamp.proofs.Reading.{time-long}
 use Rattle.event.specs.Says.{Piece, bytes, start, stop}
-use Rattle.assline.specs.declared.layout.Columns.{Columns}
-use Rattle.assline.specs.Columns.{fields, fieldAt}
+use Rattle.columns.specs.declared.layout.Columns.{Columns}
+use Rattle.columns.specs.Columns.{fields, fieldAt}
 use Rattle.assline.specs.Frame.{pieceAt, fieldPieces, lineFrame, frameMost}
-use Rattle.assline.proofs.FieldLaws.{fields-more, fields-last, fields-none, fields-one, fields-least, at-first, at-next}
+use Rattle.columns.proofs.FieldLaws.{fields-more, fields-last, fields-none, fields-one, fields-least, at-first, at-next}
 use Rattle.assline.proofs.WriteLaws.{frame-one, pieces-more}
 use Rattle.text.specs.Piece.{comma}
 

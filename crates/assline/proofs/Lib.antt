@@ -1,7 +1,4 @@
-pub mod ColumnLaws
-pub mod SectionLaws
 pub mod TagLaws
-pub mod FieldLaws
 pub mod WriteLaws
 pub mod FieldBack
 pub mod FitLaws

@@ -13,10 +13,10 @@ use Rattle.base.proofs.PutLaws.{put-nil, length-put, take-put, placed-yes, leng
 use Rattle.text.specs.Find.{first}
 use Rattle.event.specs.Says.{Piece, bytes, start, stop}
 use Rattle.event.specs.Emit.{render}
-use Rattle.assline.specs.declared.layout.Columns.{Columns}
-use Rattle.assline.specs.Columns.{fields}
+use Rattle.columns.specs.declared.layout.Columns.{Columns}
+use Rattle.columns.specs.Columns.{fields}
 use Rattle.assline.specs.Frame.{pieceAt, fieldPieces, lineFrame, pieceText, framePlaced, frameAfter}
-use Rattle.assline.proofs.FieldLaws.{fields-none, fields-least, head-last, head-two, head-more}
+use Rattle.columns.proofs.FieldLaws.{fields-none, fields-least, head-last, head-two, head-more}
 use Rattle.text.specs.Piece.{comma}
 
 -- ---- the pieces of fields

@@ -6,7 +6,7 @@ use lib.Dec.{eqb}
 use lib.ListN.{length}
 use Rattle.base.specs.Put.{placedAt, placeAfter}
 use Rattle.event.specs.Says.{Piece, bytes, start, stop}
-use Rattle.assline.specs.declared.layout.Columns.{Columns}
+use Rattle.columns.specs.declared.layout.Columns.{Columns}
 use Rattle.text.specs.Piece.{comma}
 
 -- the piece of the field at place k: the end's time, the start's, or the field as it stands. (Where both have one place, the end's wins.)

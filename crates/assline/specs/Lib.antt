@@ -1,5 +1,3 @@
--- The structure of ASS lines: columns, sections, fields, relative timing tags, and the frame of a caption around its times.
-pub mod Columns
-pub mod Section
+-- Captions of ASS: relative timing tags, and the frame of a caption around its times.
 pub mod Tags
 pub mod Frame

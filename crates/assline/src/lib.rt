@@ -1,19 +1,9 @@
-// The structure of ASS lines: columns, sections, fields, tags, and the new line of a caption.
-mod fields;
-mod layout;
-mod section;
+// ASS lines: the tags of a caption, and its new line.
 mod tags;
 mod writing;
 
-pub use fields::column_text;
-pub use fields::enough;
-pub use fields::field;
-pub use layout::Columns;
-pub use layout::columns_of;
-pub use section::in_section;
-pub use section::is_section;
-pub use section::names_events;
 pub use tags::has_tag;
 pub use writing::Times;
+pub use writing::column_text;
 pub use writing::write_kept;
 pub use writing::write_line;

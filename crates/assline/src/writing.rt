@@ -1,11 +1,11 @@
 // The new line of a caption that is kept, written piece by piece into the rest of the output.
-use crate::fields::column_text;
-use crate::fields::field_length;
-use crate::layout::Columns;
+use columns::Columns;
+use columns::field_length;
 ghost use mathlib.Core.Path.{_≡_};
+ghost use mathlib.Core.Bool.{cond};
 ghost use Rattle.stamp.specs.Write.{timeText};
 ghost use Rattle.base.specs.Put.{placedAt, placeAfter};
-ghost use Rattle.assline.specs.Columns.{fields};
+ghost use Rattle.columns.specs.Columns.{fields};
 ghost use Rattle.assline.specs.Frame.{pieceAt, fieldPieces, lineFrame, pieceText, framePlaced, frameAfter};
 ghost use Rattle.text.specs.Piece.{comma};
 
@@ -15,6 +15,13 @@ pub struct Times {
     pub start_mark: u8,
     pub stop: u64,
     pub stop_mark: u8,
+}
+
+// A column's text: the old field, or a fresh time in its place.
+pub fn column_text<'a>(old: &'a [u8], fresh: &'a [u8], replaced: bool) -> &'a [u8]
+    ensures { λ r. ⌜ now r ≡ cond replaced (now (fresh .entry)) (now (old .entry)) ⌝ }
+{
+    if replaced { fresh } else { old }
 }
 
 // Writes the field `old` of column `k`, or a time in its place.

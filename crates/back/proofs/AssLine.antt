@@ -24,13 +24,13 @@ use Rattle.stamp.proofs.Written.{text-some}
 use Rattle.stamp.proofs.RoundTrip.{time-back, text-free}
 use Rattle.event.specs.Says.{Piece, bytes, start, stop, unplaced, short, Cue, withTimes, stays, passes, cue}
 use Rattle.event.specs.Emit.{render}
-use Rattle.assline.specs.declared.layout.Columns.{Columns}
-use Rattle.assline.specs.Columns.{columnsIn, fields, fieldAt}
-use Rattle.assline.specs.Section.{eventsName, bracketed, inside, inSection}
+use Rattle.columns.specs.declared.layout.Columns.{Columns}
+use Rattle.columns.specs.Columns.{columnsIn, fields, fieldAt}
+use Rattle.columns.specs.Section.{eventsName, bracketed, inside, inSection}
 use Rattle.assline.specs.Tags.{tags, holdsAny, tagged}
 use Rattle.assline.specs.Frame.{fieldPieces, lineFrame}
-use Rattle.assline.proofs.ColumnLaws.{Apart, format-apart}
-use Rattle.assline.proofs.FieldLaws.{at-none, fields-most}
+use Rattle.columns.proofs.ColumnLaws.{Apart, format-apart}
+use Rattle.columns.proofs.FieldLaws.{at-none, fields-most}
 use Rattle.assline.proofs.FieldBack.{newField, newFields, new-length, new-start, new-end, new-at, new-pieces, written, fields-back, last-back}
 use Rattle.ass.specs.Line.{formatWord, dialogueWord, commentWord, LineSays, faulty, says, lineCue, timesSay, captionSays, wordSays, textSays, lineSays}
 use Rattle.ass.specs.Answer.{columnsAfter}

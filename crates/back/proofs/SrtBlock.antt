@@ -23,9 +23,10 @@ use Rattle.stamp.specs.Write.{timeText}
 use Rattle.stamp.proofs.Reading.{time-mark}
 use Rattle.event.specs.Says.{Cue, stays, passes, cue}
 use Rattle.event.specs.Emit.{render}
-use Rattle.block.specs.Style.{srtEnd, srt}
-use Rattle.block.specs.Block
-use Rattle.block.specs.Block.{arrow, writtenArrow, afterArrow, blockFrame, blockCue, bothSay, endText, trailing, timingLineSays, timingSays, blockSays, later, timingOf, Timing, BlockSays, faulty, says}
+use Rattle.timing.specs.Style.{srtEnd, srt}
+use Rattle.timing.specs.Arrow
+use Rattle.timing.specs.Arrow.{arrow, afterArrow, later, timingOf, Timing}
+use Rattle.block.specs.Block.{writtenArrow, blockFrame, blockCue, bothSay, endText, trailing, timingLineSays, timingSays, blockSays, BlockSays, faulty, says}
 use Rattle.block.proofs.WriteLaws.{frame-pieces}
 use Rattle.back.proofs.SrtLine.{Plain, plain-text, lf-plain, text-12, lineText, arrow-back, line-back}
 use Rattle.text.proofs.LfLaws.{lf-append, ends-append, lf-drop, lf-get, text-lf}
@@ -194,10 +195,10 @@ module _ (l m : List ℕ) (f : endsLine l ≡ true → endsLine m ≡ true) (g :
 
 -- ---- another timing line in its place is the timing line
 abbrev Swaps : List (List ℕ) → Timing → Type 0
-Swaps ls Block.untimed = Unit {0}
-Swaps ls (Block.timed b l a) = (ls ≡ b ++ l ∷ a) × ((m : List ℕ) → contains arrow (textOf m) ≡ true → timingOf (b ++ m ∷ a) ≡ Block.timed b m a)
+Swaps ls Arrow.untimed = Unit {0}
+Swaps ls (Arrow.timed b l a) = (ls ≡ b ++ l ∷ a) × ((m : List ℕ) → contains arrow (textOf m) ≡ true → timingOf (b ++ m ∷ a) ≡ Arrow.timed b m a)
 
-timing-here : (m : List ℕ) (a : List (List ℕ)) → contains arrow (textOf m) ≡ true → timingOf (m ∷ a) ≡ Block.timed [] m a
+timing-here : (m : List ℕ) (a : List (List ℕ)) → contains arrow (textOf m) ≡ true → timingOf (m ∷ a) ≡ Arrow.timed [] m a
 unfolding timingOf
 timing-here m a h = rw h
 
@@ -206,8 +207,8 @@ unfolding timingOf
 timing-later x ls h = rw h
 
 later-swaps : (x : List ℕ) (ls : List (List ℕ)) (t : Timing) → contains arrow (textOf x) ≡ false → Swaps ls t → Swaps (x ∷ ls) (later x t)
-later-swaps x ls Block.untimed e h = tt
-later-swaps x ls (Block.timed b l a) e h =
+later-swaps x ls Arrow.untimed e h = tt
+later-swaps x ls (Arrow.timed b l a) e h =
     (ap (λ (y : List (List ℕ)). x ∷ y) (h .0), λ m k. timing-later x (b ++ m ∷ a) e ∙ ap (later x) (h .1 m k))
 
 timing-swaps : (ls : List (List ℕ)) → Swaps ls (timingOf ls)
@@ -215,7 +216,7 @@ unfolding timingOf
 timing-swaps [] = tt
 timing-swaps (x ∷ ls) = go (contains arrow (textOf x)) refl (timing-swaps ls)
   where
-    go : (t : Bool) → contains arrow (textOf x) ≡ t → Swaps ls (timingOf ls) → Swaps (x ∷ ls) (cond t (Block.timed [] x ls) (later x (timingOf ls)))
+    go : (t : Bool) → contains arrow (textOf x) ≡ t → Swaps ls (timingOf ls) → Swaps (x ∷ ls) (cond t (Arrow.timed [] x ls) (later x (timingOf ls)))
     go true e ih = (refl, λ m k. timing-here m ls k)
     go false e ih = later-swaps x ls (timingOf ls) e ih
 
@@ -235,7 +236,7 @@ Back first (says (cue q)) =
     (s e : ℕ) → s < 36000000 * 1000 → e < 360000 * 1000
     → blockSays srt first (linesOf (render (q .frame) (timeText 1 (q .startMark) s) (timeText 1 (q .stopMark) e))) ≡ says (cue (blockCue (q .line) s (q .startMark) e (q .stopMark) (q .frame)))
 
-module _ (first : ℕ) (b : List (List ℕ)) (l : List ℕ) (a : List (List ℕ)) (cut : Cut (b ++ l ∷ a)) (found : (m : List ℕ) → contains arrow (textOf m) ≡ true → timingOf (b ++ m ∷ a) ≡ Block.timed b m a) where
+module _ (first : ℕ) (b : List (List ℕ)) (l : List ℕ) (a : List (List ℕ)) (cut : Cut (b ++ l ∷ a)) (found : (m : List ℕ) → contains arrow (textOf m) ≡ true → timingOf (b ++ m ∷ a) ≡ Arrow.timed b m a) where
   written-back : (s e : ℕ) → s < 36000000 * 1000 → e < 360000 * 1000
       → blockSays srt first (linesOf (render (blockFrame (concat b) (trailing srt (textOf l)) (terminatorOf l) (concat a)) (timeText 1 44 s) (timeText 1 44 e)))
       ≡ says (cue (blockCue (first + lineCount b) s 44 e 44 (blockFrame (concat b) (trailing srt (textOf l)) (terminatorOf l) (concat a))))
@@ -266,8 +267,8 @@ module _ (first : ℕ) (b : List (List ℕ)) (l : List ℕ) (a : List (List ℕ)
           written-back)
 
 timing-back : (first : ℕ) (ls : List (List ℕ)) (t : Timing) → Cut ls → Swaps ls t → Back first (timingSays srt first ls t)
-timing-back first ls Block.untimed c h = tt
-timing-back first ls (Block.timed b l a) c h = line-again first b l a (subst Cut (h .0) c) (h .1)
+timing-back first ls Arrow.untimed c h = tt
+timing-back first ls (Arrow.timed b l a) c h = line-again first b l a (subst Cut (h .0) c) (h .1)
 
 says-back : (first : ℕ) (s : List ℕ) → Back first (blockSays srt first (linesOf s))
 unfolding blockSays

@@ -22,8 +22,9 @@ use Rattle.stamp.specs.Write.{pad, widest, textWith, timeText}
 use Rattle.stamp.proofs.Written.{text-some, srt-12, text-10}
 use Rattle.stamp.proofs.RoundTrip.{time-back}
 use Rattle.event.specs.Says.{cue}
-use Rattle.block.specs.Style.{srtEnd, srt}
-use Rattle.block.specs.Block.{arrow, writtenArrow, afterArrow, blockFrame, blockCue, bothSay, endText, trailing, timingLineSays, says}
+use Rattle.timing.specs.Style.{srtEnd, srt}
+use Rattle.timing.specs.Arrow.{arrow, afterArrow}
+use Rattle.block.specs.Block.{writtenArrow, blockFrame, blockCue, bothSay, endText, trailing, timingLineSays, says}
 
 -- ---- the bytes of a written time: digits, `:` and `,`
 abbrev pub Plain : List ℕ → Type 0

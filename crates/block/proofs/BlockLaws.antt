@@ -32,13 +32,14 @@ use Rattle.event.proofs.TellLaws.{tells-same, tells-refused}
 use Rattle.block.specs.declared.srt.Times.{Times}
 use Rattle.block.specs.declared.srt.Reading.{Reading}
 use Rattle.block.specs.declared.srt.Reading.the-variants.{Bad as Unread, Both}
-use Rattle.block.specs.declared.timing.Place.{Place}
-use Rattle.block.specs.Style.{srtEnd, srt}
-use Rattle.block.specs.Block
-use Rattle.block.specs.Block.{arrow, afterArrow, blockFrame, blockCue, bothSay, endText, trailing, timingLineSays, timingSays, blockSays, timingOf, Timing, faulty, says}
+use Rattle.timing.specs.declared.timing.Place.{Place}
+use Rattle.timing.specs.Style.{srtEnd, srt}
+use Rattle.timing.specs.Arrow
+use Rattle.timing.specs.Arrow.{arrow, afterArrow, timingOf, Timing}
+use Rattle.block.specs.Block.{blockFrame, blockCue, bothSay, endText, trailing, timingLineSays, timingSays, blockSays, faulty, says}
 use Rattle.block.specs.Answer.{blockAnswerIn, blockIn, timesRead}
-use Rattle.block.specs.Place.{timingPlace}
-use Rattle.block.proofs.PlaceLaws.{Stands, stands}
+use Rattle.timing.specs.Place.{timingPlace}
+use Rattle.timing.proofs.PlaceLaws.{Stands, stands}
 use Rattle.block.proofs.WriteLaws.{line-long}
 
 -- without a tag there is no warning 3
@@ -151,17 +152,17 @@ module _ (config : Config) (m : List Segment) (first : ℕ) (s : List ℕ) (room
 module _ (config : Config) (m : List Segment) (first : ℕ) (s : List ℕ) (p : Place) (e : p ≡ timingPlace (linesOf s) 0 0) where
   says-of : (t : Timing) → Stands s p t → p .found ≡ true
       → timingSays srt first (linesOf s) t ≡ timingLineSays srt (first + p .lines) (take (p .at) s) (take (p .size) (drop (p .at) s)) (drop (p .size) (drop (p .at) s))
-  says-of Block.untimed h f = absurd (true≢false (sym f ∙ h))
-  says-of (Block.timed b l a) h f = rw (h .before, h .line, h .after, h .lines)
+  says-of Arrow.untimed h f = absurd (true≢false (sym f ∙ h))
+  says-of (Arrow.timed b l a) h f = rw (h .before, h .line, h .after, h .lines)
 
   block-timed : p .found ≡ true
       → blockSays srt first (linesOf s) ≡ timingLineSays srt (first + p .lines) (take (p .at) s) (take (p .size) (drop (p .at) s)) (drop (p .size) (drop (p .at) s))
   unfolding blockSays
   block-timed f = says-of (timingOf (linesOf s)) (stands s p e) f
 
-  untimed-of : (t : Timing) → Stands s p t → p .found ≡ false → t ≡ Block.untimed
-  untimed-of Block.untimed h f = refl
-  untimed-of (Block.timed b l a) h f = absurd (true≢false (sym (h .found) ∙ f))
+  untimed-of : (t : Timing) → Stands s p t → p .found ≡ false → t ≡ Arrow.untimed
+  untimed-of Arrow.untimed h f = refl
+  untimed-of (Arrow.timed b l a) h f = absurd (true≢false (sym (h .found) ∙ f))
 
   block-untimed : p .found ≡ false → blockSays srt first (linesOf s) ≡ says (stays s)
   unfolding blockSays

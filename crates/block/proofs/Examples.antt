@@ -23,8 +23,9 @@ use Rattle.event.specs.Fates.{dropped, shifted, clipped}
 use Rattle.event.specs.Says.{stays, cue, badTime}
 use Rattle.event.specs.Emit.{warning, none, decided, emit, render, emitBy}
 use Rattle.event.specs.Told.{Answer, answered, refusal, partIn}
-use Rattle.block.specs.Style.{srtEnd, srt}
-use Rattle.block.specs.Block.{timingOf, afterArrow, blockFrame, blockCue, timingLineSays, blockSays, BlockSays, faulty, says}
+use Rattle.timing.specs.Style.{srtEnd, srt}
+use Rattle.timing.specs.Arrow.{timingOf, afterArrow}
+use Rattle.block.specs.Block.{blockFrame, blockCue, timingLineSays, blockSays, BlockSays, faulty, says}
 use Rattle.block.specs.Answer.{blockIn}
 
 abbrev line : String → List ℕ

@@ -20,9 +20,10 @@ use Rattle.event.specs.Says.{Cue, stays, passes, cue}
 use Rattle.event.specs.Emit.{emitBy}
 use Rattle.event.specs.Told.{partIn}
 use Rattle.event.proofs.FineLaws.{Set, cue-fine}
-use Rattle.block.specs.Style.{Style, srt}
-use Rattle.block.specs.Block
-use Rattle.block.specs.Block.{arrow, blockFrame, bothSay, endText, trailing, timingLineSays, timingSays, blockSays, timingOf, Timing, BlockSays, faulty, says}
+use Rattle.timing.specs.Style.{Style, srt}
+use Rattle.timing.specs.Arrow
+use Rattle.timing.specs.Arrow.{arrow, timingOf, Timing}
+use Rattle.block.specs.Block.{blockFrame, bothSay, endText, trailing, timingLineSays, timingSays, blockSays, BlockSays, faulty, says}
 use Rattle.block.specs.Answer.{blockAnswer, blockAnswerIn, blockIn}
 
 -- ---- what is known of the cue that a block says: times below 10,000 hours, and SRT's mark; no tag
@@ -57,8 +58,8 @@ line-timed k b l a = go (timeIn 1 (upTo arrow (textOf l))) (timeIn 1 (endText sr
         }
 
 timing-timed : (first : ℕ) (ls : List (List ℕ)) (t : Timing) → Timed (timingSays srt first ls t)
-timing-timed first ls Block.untimed = tt
-timing-timed first ls (Block.timed b l a) = line-timed (first + lineCount b) (concat b) l (concat a)
+timing-timed first ls Arrow.untimed = tt
+timing-timed first ls (Arrow.timed b l a) = line-timed (first + lineCount b) (concat b) l (concat a)
 
 block-timed : (first : ℕ) (ls : List (List ℕ)) → Timed (blockSays srt first ls)
 unfolding blockSays

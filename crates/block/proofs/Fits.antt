@@ -25,12 +25,13 @@ use Rattle.event.specs.Emit.{Emit, warnIf, cueEmit, emitBy, emitOf}
 use Rattle.event.specs.Told.{refusal, cueIn, partIn}
 use Rattle.event.proofs.FineLaws.{Set, decide-fine}
 use Rattle.event.proofs.WordLaws.{Words, decide-words}
-use Rattle.block.specs.Style.{srt}
-use Rattle.block.specs.Block
-use Rattle.block.specs.Block.{arrow, blockFrame, blockCue, bothSay, endText, trailing, timingLineSays, timingSays, blockSays, timingOf, Timing, BlockSays, faulty, says}
+use Rattle.timing.specs.Style.{srt}
+use Rattle.timing.specs.Arrow
+use Rattle.timing.specs.Arrow.{arrow, timingOf, Timing}
+use Rattle.block.specs.Block.{blockFrame, blockCue, bothSay, endText, trailing, timingLineSays, timingSays, blockSays, BlockSays, faulty, says}
 use Rattle.block.specs.Answer.{blockAnswerIn, blockIn}
-use Rattle.block.specs.Place.{timingPlace}
-use Rattle.block.proofs.PlaceLaws.{Placed, timing-placed}
+use Rattle.timing.specs.Place.{timingPlace}
+use Rattle.timing.proofs.PlaceLaws.{Placed, timing-placed}
 use Rattle.block.proofs.WriteLaws.{kept-length, line-long}
 
 -- ---- what is emitted for a block of n bytes
@@ -77,8 +78,8 @@ module _ (kind : ℕ) (d : ℕ → ℕ → Decision) (wd : (S E : ℕ) → S ≤
 
   timing-small : (first i j : ℕ) (ls : List (List ℕ)) (t : Timing) → Placed t ls i j (timingPlace ls i j) → SaysSmall kind d (length (concat ls)) (timingSays srt first ls t)
   unfolding emitBy
-  timing-small first i j ls Block.untimed h = record { output = omega arith; one-warning = omega arith; warned-long = omega arith }
-  timing-small first i j ls (Block.timed b l a) h =
+  timing-small first i j ls Arrow.untimed h = record { output = omega arith; one-warning = omega arith; warned-long = omega arith }
+  timing-small first i j ls (Arrow.timed b l a) h =
       let n : length (concat b) + length l + length (concat a) ≡ length (concat ls) =
       sym (ap length (sym (h .1)) ∙ length-append (concat b) (l ++ concat a) ∙ ap (λ (x : ℕ). length (concat b) + x) (length-append l (concat a)) ∙ omega arith) in
       subst (λ (x : ℕ). SaysSmall kind d x (timingLineSays srt (first + lineCount b) (concat b) l (concat a))) n (line-small (first + lineCount b) (concat b) l (concat a))

@@ -1,5 +1,4 @@
 -- The laws of the crate that belong to no one function.
-pub mod PlaceLaws
 pub mod WriteLaws
 pub mod BlockLaws
 pub mod Fits

@@ -18,8 +18,9 @@ use Rattle.stamp.specs.Write.{timeText}
 use Rattle.stamp.proofs.Reading.{time-long}
 use Rattle.stamp.proofs.Written.{text-23}
 use Rattle.event.specs.Emit.{warnIf, placesOf, render}
-use Rattle.block.specs.Style.{srtEnd, srt}
-use Rattle.block.specs.Block.{arrow, writtenArrow, afterArrow, blockFrame, endText, trailing}
+use Rattle.timing.specs.Style.{srtEnd, srt}
+use Rattle.timing.specs.Arrow.{arrow, afterArrow}
+use Rattle.block.specs.Block.{writtenArrow, blockFrame, endText, trailing}
 
 -- ---- the frame with its times, piece behind piece
 pieces : (b S w E t x a : List ℕ) → b ++ (S ++ (w ++ (E ++ (t ++ (x ++ (a ++ [])))))) ≡ b ++ S ++ w ++ E ++ t ++ x ++ a

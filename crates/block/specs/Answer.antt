@@ -15,7 +15,7 @@ use Rattle.event.specs.Told.{Answer, refusal, answered, partIn}
 use Rattle.block.specs.declared.srt.Times.{Times}
 use Rattle.block.specs.declared.srt.Reading.{Reading}
 use Rattle.block.specs.declared.srt.Reading.the-variants.{Bad, Both}
-use Rattle.block.specs.Style.{srt}
+use Rattle.timing.specs.Style.{srt}
 use Rattle.block.specs.Block.{BlockSays, faulty, says, blockSays}
 
 -- by document 01: a fault's number, or what the part becomes through the map

@@ -1,43 +1,23 @@
 -- What a block says by the text alone. A block is its non-blank lines, each with its terminator; the last may have none.
-use mathlib.Core.Bool.{false, cond}
+use mathlib.Core.Bool.{false}
 use mathlib.Core.List.{List, [], _∷_}
 use Prim.Native.Nat.{ℕ, _+_}
 use lib.ListN.{take, drop}
-use Rattle.white.specs.White.{trimHead}
-use Rattle.text.specs.Find.{contains, upTo, past}
+use Rattle.text.specs.Find.{upTo}
 use Rattle.text.specs.Line.{concat, lineCount, textOf, terminatorOf}
 use Rattle.stamp.specs.declared.read.Time.{Time}
 use Rattle.stamp.specs.declared.read.Time.the-variants.{At, Bad}
 use Rattle.event.specs.Says.{Piece, bytes, start, stop, Cue, Part, stays, cue, Fault, badTime}
-use Rattle.block.specs.Style.{Style}
+use Rattle.timing.specs.Style.{Style}
+use Rattle.timing.specs.Arrow.{arrow, Timing, untimed, timed, timingOf, afterArrow}
 
--- `-->`, and the arrow as it is written
-abbrev pub arrow : List ℕ
-arrow = 45 ∷ 45 ∷ 62 ∷ []
-
+-- the arrow as it is written
 abbrev pub writtenArrow : List ℕ
 writtenArrow = 32 ∷ 45 ∷ 45 ∷ 62 ∷ 32 ∷ []
-
--- the first line with an arrow: its text is cut at the terminator before it is looked at
-pub data Timing : Type 0 where
-  untimed : Timing
-  timed : (before : List (List ℕ)) → (line : List ℕ) → (after : List (List ℕ)) → Timing
-
-abbrev pub later : List ℕ → Timing → Timing
-later l untimed = untimed
-later l (timed before x after) = timed (l ∷ before) x after
-
-unfoldable pub timingOf : List (List ℕ) → Timing
-timingOf [] = untimed
-timingOf (l ∷ ls) = cond (contains arrow (textOf l)) (timed [] l ls) (later l (timingOf ls))
 
 pub data BlockSays : Type 0 where
   faulty : Fault → BlockSays
   says : Part → BlockSays
-
--- what follows the arrow and its White_Space: the end time, and the trailing text
-unfoldable pub afterArrow : List ℕ → List ℕ
-afterArrow t = trimHead (past arrow t)
 
 -- the bytes around the times: those before the timing line, its trailing text, its terminator, and the bytes after it
 abbrev pub blockFrame : (before trailing terminator after : List ℕ) → List Piece

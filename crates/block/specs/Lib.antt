@@ -1,5 +1,3 @@
--- Blocks of lines (SRT): the timing line, the end's twelve bytes, what a block says.
-pub mod Style
+-- Blocks of lines (SRT): what a block says, and what the code answers to it.
 pub mod Block
 pub mod Answer
-pub mod Place

@@ -1,8 +1,4 @@
 // One closed SRT block: its lines as one slice, retimed into the rest of the output.
-use crate::timing::after_arrow;
-use crate::timing::before_arrow;
-use crate::timing::end_length;
-use crate::timing::locate;
 use event::Config;
 use event::Counted;
 use event::Decision;
@@ -11,6 +7,10 @@ use event::Told;
 use event::counted_by;
 use event::refused;
 use stamp::Time;
+use timing::after_arrow;
+use timing::before_arrow;
+use timing::end_length;
+use timing::locate;
 ghost use mathlib.Core.Path.{_≡_};
 ghost use Prim.Native.Nat.{_+_, _*_, _≤_};
 ghost use lib.ListN.{length};
@@ -22,7 +22,7 @@ ghost use Rattle.event.specs.declared.retiming.Decision.the-variants.{Kept};
 ghost use Rattle.event.specs.Decide.{decideIn};
 ghost use Rattle.event.specs.Emit.{warnIf, placesOf, render};
 ghost use Rattle.event.specs.Told.{cueIn, Tells};
-ghost use Rattle.block.specs.Style.{srt};
+ghost use Rattle.timing.specs.Style.{srt};
 ghost use Rattle.block.specs.Block.{writtenArrow, blockFrame, blockCue, timingLineSays};
 ghost use Rattle.block.specs.Answer.{timesRead, blockAnswerIn, blockIn};
 

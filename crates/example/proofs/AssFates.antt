@@ -22,9 +22,9 @@ use Rattle.event.specs.Decide.{decideTicks, decideOf}
 use Rattle.event.specs.Fates.{Fate, dropped, shifted, clipped, Right}
 use Rattle.event.specs.Says.{Cue}
 use Rattle.event.specs.Emit.{Caption, none, decided, Emit, emitBy}
-use Rattle.assline.specs.Columns.{namesIn, placeIn, columnsIn, fields, fieldAt}
+use Rattle.columns.specs.Columns.{namesIn, placeIn, columnsIn, fields, fieldAt}
 use Rattle.assline.specs.Tags.{holdsAny}
-use Rattle.assline.specs.Section.{bracketed, inside}
+use Rattle.columns.specs.Section.{bracketed, inside}
 use Rattle.assline.specs.Frame.{pieceAt, fieldPieces}
 use Rattle.ass.specs.Line.{captionSays, wordSays, textSays, lineSays}
 use Rattle.table.specs.Example.{setting}

@@ -20,9 +20,9 @@ use Rattle.segmap.specs.Segment.{flatOf, segmentsOf, endBad, segmentBad, anyBad
 use Rattle.event.specs.Hit.{meetsParts, findFrom, lostRule}
 use Rattle.event.specs.Decide.{decideTicks, decideOf}
 use Rattle.event.specs.Emit.{emitBy, emitsOf, render, outputOf, warningsOf}
-use Rattle.assline.specs.Columns.{namesIn, placeIn, columnsIn, fields, fieldAt}
+use Rattle.columns.specs.Columns.{namesIn, placeIn, columnsIn, fields, fieldAt}
 use Rattle.assline.specs.Tags.{holdsAny}
-use Rattle.assline.specs.Section.{bracketed, inside}
+use Rattle.columns.specs.Section.{bracketed, inside}
 use Rattle.assline.specs.Frame.{pieceAt, fieldPieces}
 use Rattle.ass.specs.Line.{captionSays, wordSays, textSays, lineSays}
 use Rattle.machine.specs.Counts.{countAll}

@@ -12,7 +12,7 @@ use Rattle.sheet_vectors.specs.Small.{smallSheet}
 use Rattle.time.specs.Kind.{kindBad}
 use Rattle.segmap.specs.Segment.{flatOf, segmentsOf}
 use Rattle.segmap.specs.Map.{Map}
-use Rattle.assline.specs.declared.layout.Columns.{Columns}
+use Rattle.columns.specs.declared.layout.Columns.{Columns}
 use Rattle.table.specs.Example.{theList, theMap, setting}
 use Rattle.table.proofs.TheMap.{map-is}
 use Rattle.machine.specs.Session as model

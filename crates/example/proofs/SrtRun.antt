@@ -20,8 +20,9 @@ use Rattle.segmap.specs.Segment.{flatOf, segmentsOf, endBad, segmentBad, anyBad
 use Rattle.event.specs.Hit.{meetsParts, findFrom, lostRule}
 use Rattle.event.specs.Decide.{decideTicks, decideOf}
 use Rattle.event.specs.Emit.{emitBy, emitsOf, render, outputOf, warningsOf}
-use Rattle.block.specs.Style.{blankIn, srtEnd}
-use Rattle.block.specs.Block.{timingOf, afterArrow, timingLineSays, blockSays}
+use Rattle.timing.specs.Style.{blankIn, srtEnd}
+use Rattle.timing.specs.Arrow.{timingOf, afterArrow}
+use Rattle.block.specs.Block.{timingLineSays, blockSays}
 use Rattle.machine.specs.Counts.{countAll}
 use Rattle.machine.specs.Calls.{Heard, readerRefusal}
 use Rattle.promise.specs.Runs.{outcome}

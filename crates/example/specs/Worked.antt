@@ -7,7 +7,7 @@ use lib.ListN.{length}
 use Rattle.segmap.specs.Segment.{segment, flatOf}
 use Rattle.segmap.specs.Map.{Map}
 use Rattle.event.specs.Emit.{Warning, outputOf, warningsOf}
-use Rattle.assline.specs.declared.layout.Columns.{Columns}
+use Rattle.columns.specs.declared.layout.Columns.{Columns}
 use Rattle.table.specs.Example.{theMap, setting}
 use Rattle.machine.specs.declared.counting.Counts.{Counts}
 use Rattle.machine.specs.Counts.{countsOf}

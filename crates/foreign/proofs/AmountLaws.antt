@@ -8,7 +8,7 @@ use Rattle.base.specs.Limits.{mostColumns}
 use Rattle.time.specs.Kind.{kindBad}
 use Rattle.time.specs.Convert.{timescaleBad}
 use Rattle.event.specs.declared.setting.Config.{Config}
-use Rattle.assline.specs.declared.layout.Columns.{Columns}
+use Rattle.columns.specs.declared.layout.Columns.{Columns}
 use Rattle.machine.specs.declared.counting.Counts.{Counts}
 use Rattle.machine.specs.Session.{configBad, countsAbove}
 use Rattle.kinds.specs.Kit.{columnsBad}

@@ -8,7 +8,7 @@ use lib.Dec.{ltb}
 use lib.ListN.{length, take}
 use borrow.Author.Tests.{lt-ltb, le-ltb}
 use Rattle.base.specs.Limits.{mostTaken, mostHeld}
-use Rattle.assline.specs.declared.layout.Columns.{Columns}
+use Rattle.columns.specs.declared.layout.Columns.{Columns}
 use Rattle.machine.specs.Session.{configBad, countsAbove}
 use Rattle.kinds.specs.Kit.{columnsBad, heldBad, strange}
 use Rattle.foreign.specs.declared.holding.Session.{Session}

@@ -15,7 +15,7 @@ use Rattle.base.proofs.Laws.{or-left, or-right}
 use Rattle.utf8.specs.Utf8.{utf8}
 use Rattle.text.specs.Line.{concat, linesOf, lineLength, hasLf}
 use Rattle.text.proofs.LineLaws.{lines-back, lines-cut, lines-end, line-some}
-use Rattle.block.specs.Style.{blankIn}
+use Rattle.timing.specs.Style.{blankIn}
 use Rattle.machine.specs.Cut.{Cut, cut, isLf, closedLines, unfinished}
 use Rattle.machine.proofs.CutLaws.{cut-joined, cut-length, cut-ends, cut-open, cut-rest, cut-held, has-none}
 use Rattle.machine.proofs.OpenLines.{has-lf-append, ends-lf}

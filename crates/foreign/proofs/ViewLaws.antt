@@ -7,7 +7,7 @@ use native.Mathlib.Omega.{arith}
 use lib.ListN.{length, take, replicate, length-append, length-take, length-replicate}
 use lib.Seq.{take-append-seam}
 use Rattle.base.specs.Limits.{mostHeld}
-use Rattle.assline.specs.declared.layout.Columns.{Columns}
+use Rattle.columns.specs.declared.layout.Columns.{Columns}
 use Rattle.machine.specs.Session as model
 use Rattle.kinds.specs.Kit.{kit}
 use Rattle.kinds.proofs.Native.{Native, is-native}

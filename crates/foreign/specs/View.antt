@@ -4,7 +4,7 @@ use mathlib.Core.List.{List, _++_}
 use Prim.Native.Nat.{ℕ, _-_}
 use lib.ListN.{length, take, replicate}
 use Rattle.base.specs.Limits.{mostHeld}
-use Rattle.assline.specs.declared.layout.Columns.{Columns}
+use Rattle.columns.specs.declared.layout.Columns.{Columns}
 use Rattle.machine.specs.Session as model
 use Rattle.kinds.specs.Kit.{kit}
 use Rattle.foreign.specs.declared.holding.Session.{Session}

@@ -1,5 +1,5 @@
 // The numbers of a session that 17 bounds.
-use assline::Columns;
+use columns::Columns;
 use event::Config;
 use machine::Counts;
 ghost use mathlib.Core.Path.{_≡_};

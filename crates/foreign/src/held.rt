@@ -4,7 +4,7 @@ ghost use mathlib.Core.Bool.{_||_, not};
 ghost use lib.ListN.{length};
 ghost use Rattle.utf8.specs.Utf8.{utf8};
 ghost use Rattle.text.specs.Line.{concat, linesOf};
-ghost use Rattle.block.specs.Style.{blankIn};
+ghost use Rattle.timing.specs.Style.{blankIn};
 ghost use Rattle.machine.specs.Cut.{closedLines};
 ghost use Rattle.kinds.specs.Kit.{linesBad, heldBad};
 
@@ -26,7 +26,7 @@ pub fn block_end(held: &[u8]) -> usize
 fn line_bad(kind: u32, line: &[u8]) -> bool
     ensures { λ r. ⌜ r ≡ (blankIn kind (now (line .entry)) || not (utf8 (now (line .entry)))) ⌝ }
 {
-    if block::is_blank_in(kind, line) {
+    if timing::is_blank_in(kind, line) {
         return true;
     }
     !utf8::is_utf8(line)

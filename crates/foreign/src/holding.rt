@@ -1,5 +1,5 @@
 // What a session holds.
-use assline::Columns;
+use columns::Columns;
 use event::Config;
 use machine::Counts;
 

@@ -4,7 +4,7 @@ use crate::amounts::config_bad;
 use crate::amounts::counts_above;
 use crate::held::held_bad;
 use crate::holding::Session;
-use assline::Columns;
+use columns::Columns;
 ghost use mathlib.Core.Path.{_≡_};
 ghost use mathlib.Core.Bool.{_||_};
 ghost use lib.Dec.{ltb};

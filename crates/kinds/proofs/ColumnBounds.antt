@@ -16,10 +16,10 @@ use Rattle.text.specs.Line.{ontoFirst, terminatorLength, textOf, terminatorOf}
 use Rattle.stamp.specs.Read.{timeIn}
 use Rattle.stamp.specs.declared.read.Time.{Time}
 use Rattle.stamp.specs.declared.read.Time.the-variants.{At, Bad}
-use Rattle.assline.specs.declared.layout.Columns.{Columns}
-use Rattle.assline.specs.Columns.{startName, endName, namesIn, further, placeIn, columnsIn, fields, fieldAt}
+use Rattle.columns.specs.declared.layout.Columns.{Columns}
+use Rattle.columns.specs.Columns.{startName, endName, namesIn, further, placeIn, columnsIn, fields, fieldAt}
 use Rattle.ass.specs.Line.{formatWord, dialogueWord, commentWord, timesSay, captionSays, wordSays, textSays, lineSays, LineSays, faulty, says}
-use Rattle.assline.specs.Section.{eventsName, bracketed, inside, inSection}
+use Rattle.columns.specs.Section.{eventsName, bracketed, inside, inSection}
 use Rattle.kinds.specs.Takes.{noColumns}
 use Rattle.kinds.specs.Kit.{columnsBad}
 

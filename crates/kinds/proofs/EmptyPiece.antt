@@ -1,7 +1,7 @@
 -- An empty piece changes nothing, whatever session it is fed to.
 use mathlib.Core.Path.{_≡_, refl}
 use mathlib.Core.List.{[]}
-use Rattle.assline.specs.declared.layout.Columns.{Columns}
+use Rattle.columns.specs.declared.layout.Columns.{Columns}
 use Rattle.machine.specs.Session.{Session, Lent, feed, answer}
 use Rattle.machine.proofs.CutLaws.{cut-joined}
 use Rattle.machine.proofs.Empty

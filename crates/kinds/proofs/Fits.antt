@@ -15,7 +15,7 @@ use Rattle.event.specs.declared.setting.Config.{Config}
 use Rattle.event.specs.Says.{Part}
 use Rattle.event.specs.Emit.{Emit, Warning, outputOf, warningsOf, placesOf, emitsOf}
 use Rattle.event.proofs.FineLaws.{Set}
-use Rattle.assline.specs.declared.layout.Columns.{Columns}
+use Rattle.columns.specs.declared.layout.Columns.{Columns}
 use Rattle.ass.specs.Line.{lineSays, says as lineSaid}
 use Rattle.machine.specs.Machine.{Run, going, stopped, run, finishRun}
 use Rattle.machine.specs.Session.{Session, Call, feed, finish, lentOf, argumentBad, gate, foreign, settle, resume, accepted, respond, answer}

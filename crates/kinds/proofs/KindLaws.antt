@@ -15,7 +15,7 @@ use Rattle.time.specs.Kind.{kindBad}
 use Rattle.time.proofs.Limits.{by-kind}
 use Rattle.event.specs.Says.{Part, stays, passes, cue, captionsIn, Fault, notUtf8}
 use Rattle.ass.specs.Line.{LineSays, lineSays, faulty as lineFaulty, says as lineSaid}
-use Rattle.block.specs.Style.{srt, blankIn}
+use Rattle.timing.specs.Style.{srt, blankIn}
 use Rattle.block.specs.Block.{BlockSays, blockSays, faulty as blockFaulty, says as blockSaid}
 use Rattle.machine.specs.Cut.{Cut, cut, isLf, closedLines, unfinished}
 use Rattle.machine.specs.Machine.{Says, faulty, says}

@@ -17,10 +17,10 @@ use Rattle.event.specs.declared.setting.Config.{Config}
 use Rattle.event.specs.Says.{Part, stays, Fault, notUtf8}
 use Rattle.event.specs.Emit.{emitOf}
 use Rattle.event.proofs.FineLaws.{Set}
-use Rattle.assline.specs.declared.layout.Columns.{Columns}
+use Rattle.columns.specs.declared.layout.Columns.{Columns}
 use Rattle.ass.specs.Line.{LineSays, lineSays, faulty as lineFaulty, says as lineSaid}
 use Rattle.ass.proofs.LineFits.{line-fits}
-use Rattle.block.specs.Style.{srt, blankIn}
+use Rattle.timing.specs.Style.{srt, blankIn}
 use Rattle.block.specs.Block.{BlockSays, blockSays, faulty as blockFaulty, says as blockSaid}
 use Rattle.block.proofs.Fits.{block-fits}
 use Rattle.block.proofs.FineBlock.{lines-held, lines-open}

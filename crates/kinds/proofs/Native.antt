@@ -13,7 +13,7 @@ use Rattle.text.specs.Line.{concat, hasLf}
 use Rattle.time.specs.Kind.{kindBad}
 use Rattle.time.specs.Convert.{timescaleBad}
 use Rattle.time.proofs.Limits.{by-kind}
-use Rattle.assline.specs.declared.layout.Columns.{Columns}
+use Rattle.columns.specs.declared.layout.Columns.{Columns}
 use Rattle.machine.specs.Cut.{Cut, closedLines, unfinished}
 use Rattle.machine.specs.Session.{Session, configBad, countsAbove, foreign}
 use Rattle.machine.proofs.CutLaws.{cut-rest, cut-ends, cut-open, cut-length}

@@ -7,7 +7,7 @@ use native.Mathlib.Omega.{arith}
 use Rattle.time.specs.Kind.{kindBad}
 use Rattle.time.specs.Convert.{timescaleBad}
 use Rattle.segmap.specs.Segment.{mapBad}
-use Rattle.assline.specs.declared.layout.Columns.{Columns}
+use Rattle.columns.specs.declared.layout.Columns.{Columns}
 use Rattle.machine.specs.Counts.{noCounts}
 use Rattle.machine.specs.Session.{configBad, Call, lentOf, argumentBad, gate, foreign, noSession, respond, answer}
 use Rattle.machine.proofs.Native.{not-foreign}

@@ -7,8 +7,8 @@ use lib.ListN.{length}
 use Rattle.base.specs.Limits.{mostLine, mostBlock, mostColumns}
 use Rattle.utf8.specs.Utf8.{utf8}
 use Rattle.text.specs.Line.{concat, hasLf}
-use Rattle.assline.specs.declared.layout.Columns.{Columns}
-use Rattle.block.specs.Style.{blankIn}
+use Rattle.columns.specs.declared.layout.Columns.{Columns}
+use Rattle.timing.specs.Style.{blankIn}
 use Rattle.machine.specs.Cut.{closedLines, unfinished}
 use Rattle.machine.specs.Session.{Kit}
 use Rattle.machine.specs.Reader.{Reading, readText}

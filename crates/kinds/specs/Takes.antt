@@ -8,10 +8,10 @@ use Rattle.base.specs.Limits.{mostBlock}
 use Rattle.utf8.specs.Utf8.{utf8}
 use Rattle.text.specs.Line.{concat, lineCount}
 use Rattle.event.specs.Says.{Part, stays, notUtf8, longBlock}
-use Rattle.assline.specs.declared.layout.Columns.{Columns}
-pub use Rattle.assline.specs.Columns.{noColumns}
+use Rattle.columns.specs.declared.layout.Columns.{Columns}
+pub use Rattle.columns.specs.Columns.{noColumns}
 use Rattle.ass.specs.Line.{LineSays, lineSays, faulty as lineFaulty, says as lineSaid}
-use Rattle.block.specs.Style.{Style, srt}
+use Rattle.timing.specs.Style.{Style, srt}
 use Rattle.block.specs.Block.{BlockSays, blockSays, faulty as blockFaulty, says as blockSaid}
 use Rattle.machine.specs.Machine.{Machine, Says, faulty, says}
 

@@ -16,7 +16,7 @@ use Rattle.segmap.specs.declared.segment.Segment.{Segment}
 use Rattle.event.specs.declared.setting.Config.{Config}
 use Rattle.event.specs.Says.{stays, faultNumber}
 use Rattle.event.specs.Emit.{Emit, emit, none, outputOf, warningsOf}
-use Rattle.assline.specs.declared.layout.Columns.{Columns}
+use Rattle.columns.specs.declared.layout.Columns.{Columns}
 use Rattle.machine.specs.declared.counting.Counts.{Counts}
 use Rattle.machine.specs.Counts.{countAll}
 use Rattle.machine.specs.Machine.{bom, hasBom, Says, faulty, says, withBom, lineWith, takeLine}

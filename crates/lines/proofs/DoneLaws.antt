@@ -18,11 +18,11 @@ use Rattle.event.specs.Says.{Part, stays, notUtf8}
 use Rattle.event.specs.Emit.{Emit, emitBy, emitOf, emitsOf, outputOf, warningsOf, placesOf}
 use Rattle.event.specs.Told.{Answer, answered, partIn}
 use Rattle.event.proofs.FineLaws.{Set}
-use Rattle.assline.specs.declared.layout.Columns.{Columns}
+use Rattle.columns.specs.declared.layout.Columns.{Columns}
 use Rattle.ass.specs.Line.{LineSays, lineSays, faulty as lineFaulty, says as lineSaid}
 use Rattle.ass.specs.Answer.{lineAnswer, lineAnswerIn, lineIn}
 use Rattle.ass.proofs.LineFine.{line-fine}
-use Rattle.block.specs.Style.{srt}
+use Rattle.timing.specs.Style.{srt}
 use Rattle.block.specs.Block.{BlockSays, blockSays, faulty as blockFaulty, says as blockSaid}
 use Rattle.block.specs.Answer.{blockAnswer, blockAnswerIn, blockIn}
 use Rattle.block.proofs.FineBlock.{block-fine}

@@ -11,8 +11,8 @@ use Rattle.base.proofs.Laws.{or-left, or-right}
 use Rattle.text.specs.Line.{linesOf}
 use Rattle.segmap.specs.declared.segment.Segment.{Segment}
 use Rattle.event.specs.declared.setting.Config.{Config}
-use Rattle.assline.specs.declared.layout.Columns.{Columns}
-use Rattle.block.specs.Style.{srt}
+use Rattle.columns.specs.declared.layout.Columns.{Columns}
+use Rattle.timing.specs.Style.{srt}
 use Rattle.machine.specs.declared.counting.Counts.{Counts}
 use Rattle.machine.specs.Machine.{takeLine}
 use Rattle.machine.specs.Session.{countsAbove}

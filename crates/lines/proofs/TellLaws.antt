@@ -26,11 +26,11 @@ use Rattle.event.specs.Fates.{passed, dropped, shifted, clipped}
 use Rattle.event.specs.Says.{Part, stays, passes, cue, Fault, faultNumber}
 use Rattle.event.specs.Emit.{Emit, emit, Caption, none, decided, emitBy, outputOf, warningsOf, placesOf}
 use Rattle.event.specs.Told.{Answer, refusal, answered, cueIn, partIn, countedOf, Tells}
-use Rattle.assline.specs.declared.layout.Columns.{Columns}
+use Rattle.columns.specs.declared.layout.Columns.{Columns}
 use Rattle.ass.specs.Line.{LineSays, lineSays, faulty as lineFaulty, says as lineSaid}
 use Rattle.ass.specs.Answer.{lineAnswerIn, lineIn, columnsNext, columnsAfter}
 use Rattle.ass.proofs.LineFine.{columns-fine}
-use Rattle.block.specs.Style.{srt, blankIn}
+use Rattle.timing.specs.Style.{srt, blankIn}
 use Rattle.block.specs.Block.{BlockSays, blockSays, faulty as blockFaulty, says as blockSaid}
 use Rattle.block.specs.Answer.{blockAnswerIn, blockIn}
 use Rattle.block.proofs.Fits.{block-in-fits}

@@ -12,8 +12,8 @@ use Rattle.event.specs.declared.setting.Config.{Config}
 use Rattle.event.specs.Says.{Part, faultNumber}
 use Rattle.event.specs.Emit.{Emit, outputOf, warningsOf, placesOf}
 use Rattle.event.specs.Told.{partIn}
-use Rattle.assline.specs.declared.layout.Columns.{Columns}
-use Rattle.block.specs.Style.{srt}
+use Rattle.columns.specs.declared.layout.Columns.{Columns}
+use Rattle.timing.specs.Style.{srt}
 use Rattle.machine.specs.declared.counting.Counts.{Counts}
 use Rattle.machine.specs.Counts.{countAll}
 use Rattle.machine.specs.Machine.{hasBom, Says, faulty, says, takeLine}

@@ -3,7 +3,7 @@ use mathlib.Core.Bool.{Bool, false}
 use Prim.Native.Nat.{ℕ, _+_, suc}
 use Rattle.event.specs.declared.telling.Counted.{Counted}
 use Rattle.event.specs.declared.telling.Counted.the-variants.{Nothing, Passed, Dropped, Shifted, Clipped}
-use Rattle.assline.specs.declared.layout.Columns.{Columns}
+use Rattle.columns.specs.declared.layout.Columns.{Columns}
 use Rattle.machine.specs.declared.counting.Counts.{Counts}
 use Rattle.lines.specs.declared.telling.Taken.{Taken}
 use Rattle.lines.specs.declared.telling.Ended.{Ended}

@@ -11,7 +11,7 @@ ghost use Prim.Native.Nat.{_≤_, _<_, _-_, _*_, suc};
 ghost use lib.ListN.{length};
 ghost use Rattle.text.specs.Line.{linesOf, lineCount};
 ghost use Rattle.segmap.specs.Segment.{segmentsOf};
-ghost use Rattle.block.specs.Style.{srt};
+ghost use Rattle.timing.specs.Style.{srt};
 ghost use Rattle.kinds.specs.Takes.{blankState, closes};
 ghost use Rattle.lines.specs.Answer.{answerIn, endIn, EndTells};
 ghost use Rattle.lines.specs.Done.{Ample};

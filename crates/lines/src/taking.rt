@@ -6,7 +6,7 @@ use crate::telling::blank;
 use crate::telling::count;
 use crate::telling::lent_bad;
 use crate::telling::quiet;
-use assline::Columns;
+use columns::Columns;
 use event::Config;
 use machine::Counts;
 ghost use mathlib.Core.Path.{_≡_};
@@ -16,7 +16,7 @@ ghost use lib.ListN.{length, take, drop};
 ghost use Rattle.base.specs.Put.{placed};
 ghost use Rattle.text.specs.Line.{linesOf};
 ghost use Rattle.segmap.specs.Segment.{segmentsOf};
-ghost use Rattle.block.specs.Style.{srt};
+ghost use Rattle.timing.specs.Style.{srt};
 ghost use Rattle.machine.specs.Machine.{bom, hasBom, takeLine};
 ghost use Rattle.kinds.specs.Takes.{lineTakes, blockTakes, takes, machineOf};
 ghost use Rattle.lines.specs.Answer.{takenIn, stateOf, bomSize, takeIn, LineTells};
@@ -76,7 +76,7 @@ fn srt_line(
     if !utf8::is_utf8(line) {
         return quiet(20, false, counts, columns);
     }
-    if block::is_blank_in(1, line) {
+    if timing::is_blank_in(1, line) {
         let end = close_block(config, map, n, counts, block, out, warnings);
         if end.number != 0 {
             return quiet(end.number, false, counts, columns);

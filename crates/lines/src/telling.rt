@@ -1,5 +1,5 @@
 // What is told of a line and of the end of a block.
-use assline::Columns;
+use columns::Columns;
 use event::Counted;
 use machine::Counts;
 ghost use mathlib.Core.Path.{_≡_};

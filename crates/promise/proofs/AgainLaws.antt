@@ -13,13 +13,13 @@ use Rattle.time.specs.Kind.{kindBad}
 use Rattle.time.proofs.Limits.{by-kind}
 use Rattle.event.specs.Says.{Part, stays, cue, passes, faultNumber}
 use Rattle.event.specs.Mark.{marked, behindMark, markWritten}
-use Rattle.assline.specs.declared.layout.Columns.{Columns}
-use Rattle.assline.proofs.ColumnLaws.{Apart}
+use Rattle.columns.specs.declared.layout.Columns.{Columns}
+use Rattle.columns.proofs.ColumnLaws.{Apart}
 use Rattle.ass.specs.Line.{LineSays, lineSays, faulty, says}
 use Rattle.ass.specs.Answer.{columnsAfter}
-use Rattle.assline.specs.Columns.{noColumns}
+use Rattle.columns.specs.Columns.{noColumns}
 use Rattle.back.proofs.AssLine.{line-back, line-apart}
-use Rattle.block.specs.Style.{srt}
+use Rattle.timing.specs.Style.{srt}
 use Rattle.block.specs.Block.{BlockSays, blockSays, faulty as blockFaulty, says as blockSaid}
 use Rattle.whole.specs.Srt.{Block, blocksOf}
 use Rattle.back.proofs.SrtBlock.{block-back}

@@ -7,7 +7,7 @@ use native.Mathlib.Omega.{arith}
 use Rattle.time.proofs.Limits.{units-low, timescale-low}
 use Rattle.segmap.specs.Segment.{segmentsOf}
 use Rattle.event.specs.declared.setting.Config.{Config}
-use Rattle.assline.specs.declared.layout.Columns.{Columns}
+use Rattle.columns.specs.declared.layout.Columns.{Columns}
 use Rattle.machine.specs.declared.counting.Counts.{Counts}
 use Rattle.machine.specs.Counts.{total}
 use Rattle.machine.specs.Reader.{Reading}

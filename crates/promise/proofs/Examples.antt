@@ -16,13 +16,14 @@ use Rattle.text.specs.Line.{linesOf, textOf, terminatorLength, terminatorOf, bl
 use Rattle.time.specs.Kind.{kindBad, unitsOf, markOf}
 use Rattle.stamp.specs.Read.{timeWith, timeIn}
 use Rattle.event.specs.Says.{Piece, bytes, start, stop, unplaced, Cue, stays, passes, cue}
-use Rattle.assline.specs.Columns.{namesIn, placeIn, columnsIn, fields, fieldAt}
+use Rattle.columns.specs.Columns.{namesIn, placeIn, columnsIn, fields, fieldAt}
 use Rattle.assline.specs.Tags.{holdsAny}
 use Rattle.ass.specs.Line.{captionSays, wordSays, textSays, lineSays}
-use Rattle.assline.specs.Section.{bracketed, inside}
+use Rattle.columns.specs.Section.{bracketed, inside}
 use Rattle.assline.specs.Frame.{pieceAt, fieldPieces}
-use Rattle.block.specs.Style.{blankIn, srtEnd}
-use Rattle.block.specs.Block.{blockFrame, blockCue, timingOf, afterArrow, timingLineSays as blockLineSays, blockSays}
+use Rattle.timing.specs.Style.{blankIn, srtEnd}
+use Rattle.timing.specs.Arrow.{timingOf, afterArrow}
+use Rattle.block.specs.Block.{blockFrame, blockCue, timingLineSays as blockLineSays, blockSays}
 use Rattle.whole.specs.Srt.{blocksOf}
 use Rattle.event.specs.Mark.{bom}
 use Rattle.machine.specs.Reader.{reading, fails}

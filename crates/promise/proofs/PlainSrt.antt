@@ -12,7 +12,7 @@ use Rattle.base.proofs.RefusalLaws.{else-none, else-zero}
 use Rattle.utf8.specs.Utf8.{utf8}
 use Rattle.text.specs.Line.{concat, lineCount}
 use Rattle.event.specs.Says.{Part, stays, notUtf8}
-use Rattle.block.specs.Style.{srt, blankIn}
+use Rattle.timing.specs.Style.{srt, blankIn}
 use Rattle.block.specs.Block.{BlockSays, blockSays, faulty as blockFaulty, says as blockSaid}
 use Rattle.whole.specs.Srt.{Block, blockOf, ontoBlock, ontoBlanks, blankOnto, blocksOf}
 use Rattle.machine.specs.Machine.{Machine, Says, faulty}

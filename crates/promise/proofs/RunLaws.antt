@@ -10,7 +10,7 @@ use Rattle.base.specs.Put.{put}
 use Rattle.base.proofs.PutLaws.{take-put}
 use Rattle.segmap.specs.Segment.{mapBad}
 use Rattle.event.specs.Emit.{Warning, outputOf, warningsOf, placesOf}
-use Rattle.assline.specs.declared.layout.Columns.{Columns}
+use Rattle.columns.specs.declared.layout.Columns.{Columns}
 use Rattle.machine.specs.Machine.{Run, going, stopped, finishRun, restOf}
 use Rattle.machine.specs.Session.{Call, feed, finish, lentOf, argumentBad, Gate, refuse, admit, gate, settle, resume, respond, answer}
 use Rattle.machine.specs.Session as model

@@ -15,7 +15,7 @@ use Rattle.segmap.specs.Segment.{flatOf, mapBad}
 use Rattle.segmap.specs.Map.{mapOf, mapNumber}
 use Rattle.segmap.proofs.SegmentLaws.{flat-back}
 use Rattle.segmap.proofs.Built.{map-number, made-parts, made-timescale, made-good}
-use Rattle.assline.specs.declared.layout.Columns.{Columns}
+use Rattle.columns.specs.declared.layout.Columns.{Columns}
 use Rattle.machine.specs.Session.{Gate, refuse, admit, gate, openBy, openSession}
 use Rattle.machine.specs.Session as model
 use Rattle.machine.specs.Calls.{Played, Proper}

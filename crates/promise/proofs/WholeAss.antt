@@ -10,10 +10,10 @@ use Rattle.base.proofs.Laws.{and-true}
 use Rattle.text.specs.Line.{linesOf, lineCount}
 use Rattle.event.specs.Says.{Part, Fault, longLine, notUtf8, longBlock, badTime, faultNumber}
 use Rattle.event.specs.Mark.{marked, behindMark, markWritten}
-use Rattle.assline.specs.declared.layout.Columns.{Columns}
+use Rattle.columns.specs.declared.layout.Columns.{Columns}
 use Rattle.ass.specs.Line.{LineSays, lineSays, faulty as lineFaulty, says as lineSaid}
 use Rattle.ass.specs.Answer.{columnsAfter}
-use Rattle.assline.specs.Columns.{noColumns}
+use Rattle.columns.specs.Columns.{noColumns}
 use Rattle.whole.specs.Ass.{saidThen, linesSaid, columnsBehind, assSaid}
 use Rattle.machine.specs.Reader.{Reading, fails}
 use Rattle.promise.specs.Plain.{markLength, lineFault, unlessFault, lineThen, assRead, markBehind, linesSay, opened, markBack, plainRead}

@@ -11,7 +11,7 @@ use Rattle.base.proofs.RefusalLaws.{else-zero}
 use Rattle.text.specs.Line.{linesOf, lineCount}
 use Rattle.event.specs.Says.{Part, stays, faultNumber}
 use Rattle.event.specs.Mark.{marked, behindMark}
-use Rattle.block.specs.Style.{srt, blankIn}
+use Rattle.timing.specs.Style.{srt, blankIn}
 use Rattle.block.specs.Block.{BlockSays, blockSays, faulty as blockFaulty, says as blockSaid}
 use Rattle.whole.specs.Srt.{Block, blockOf, ontoBlock, ontoBlanks, blankOnto, blocksOf, blockSaidThen, bodySaid, blocksSaid, srtSaid}
 use Rattle.whole.proofs.BlockShape.{blockLines, AllBlank, Lines, BlankBehind, Others, Blocks, lines-more, others-blocks, blocks-joined, blocks-shape, blocks-only, blocks-blank, blocks-body}

@@ -7,9 +7,9 @@ use Rattle.time.specs.Kind.{unitsOf}
 use Rattle.stamp.specs.Write.{timeText}
 use Rattle.event.specs.Says.{Cue, withTimes, Part, stays, passes, cue}
 use Rattle.event.specs.Emit.{render}
-use Rattle.assline.specs.declared.layout.Columns.{Columns}
+use Rattle.columns.specs.declared.layout.Columns.{Columns}
 use Rattle.ass.specs.Line.{lineSays, says}
-use Rattle.block.specs.Style.{srt}
+use Rattle.timing.specs.Style.{srt}
 use Rattle.block.specs.Block.{blockSays, blockCue, says as blockSaid}
 
 -- its frame with these times in the places of the old ones, as it is written

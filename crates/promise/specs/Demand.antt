@@ -13,7 +13,7 @@ use Rattle.event.specs.declared.setting.Config.{Config}
 use Rattle.event.specs.Fates.{Fate, passed, dropped, shifted, clipped, FirstMet, Right}
 use Rattle.event.specs.Says.{reasonNumber, Cue, Part, stays, passes, cue, captionsIn}
 use Rattle.event.specs.Emit.{Warning, warning, warnIf, none, decided, Emit, render, emitOf}
-use Rattle.assline.specs.declared.layout.Columns.{Columns}
+use Rattle.columns.specs.declared.layout.Columns.{Columns}
 use Rattle.machine.specs.Counts.{total}
 use Rattle.machine.specs.Reader.{Reading}
 use Rattle.machine.specs.Session.{Call, openSession}

@@ -10,10 +10,10 @@ use Rattle.utf8.specs.Utf8.{utf8}
 use Rattle.text.specs.Line.{linesOf, lineCount}
 use Rattle.event.specs.Says.{Part, stays, faultNumber}
 use Rattle.event.specs.Mark.{marked, behindMark, markWritten}
-use Rattle.assline.specs.declared.layout.Columns.{Columns}
+use Rattle.columns.specs.declared.layout.Columns.{Columns}
 use Rattle.ass.specs.Line.{LineSays, lineSays, faulty as lineFaulty, says as lineSaid}
-use Rattle.assline.specs.Columns.{noColumns}
-use Rattle.block.specs.Style.{srt, blankIn}
+use Rattle.columns.specs.Columns.{noColumns}
+use Rattle.timing.specs.Style.{srt, blankIn}
 use Rattle.block.specs.Block.{BlockSays, blockSays, faulty as blockFaulty, says as blockSaid}
 use Rattle.whole.specs.Srt.{Block, blocksOf}
 use Rattle.machine.specs.Cut.{closedLines, unfinished}

@@ -4,7 +4,7 @@ use mathlib.Core.List.{List, [], _∷_, _++_}
 use Prim.Native.Nat.{ℕ}
 use lib.ListN.{length, take}
 use Rattle.event.specs.Emit.{Warning, warning}
-use Rattle.assline.specs.declared.layout.Columns.{Columns}
+use Rattle.columns.specs.declared.layout.Columns.{Columns}
 use Rattle.machine.specs.Session.{Call}
 use Rattle.machine.specs.Calls.{Played}
 use Rattle.foreign.specs.declared.holding.Session.{Session}

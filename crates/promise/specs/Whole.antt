@@ -8,11 +8,11 @@ use Rattle.base.specs.Refusal.{_orElse_}
 use Rattle.text.specs.Line.{linesOf, lineCount}
 use Rattle.event.specs.Says.{faultNumber}
 use Rattle.event.specs.Mark.{behindMark}
-use Rattle.assline.specs.declared.layout.Columns.{Columns}
+use Rattle.columns.specs.declared.layout.Columns.{Columns}
 use Rattle.ass.specs.Line.{LineSays, lineSays, faulty as lineFaulty, says as lineSaid}
-use Rattle.assline.specs.Columns.{noColumns}
+use Rattle.columns.specs.Columns.{noColumns}
 use Rattle.whole.specs.Ass.{linesSaid, columnsBehind, assSaid}
-use Rattle.block.specs.Style.{srt, blankIn}
+use Rattle.timing.specs.Style.{srt, blankIn}
 use Rattle.block.specs.Block.{BlockSays, blockSays, faulty as blockFaulty, says as blockSaid}
 use Rattle.whole.specs.Srt.{Block, blocksOf, blocksSaid, srtSaid}
 use Rattle.machine.specs.Reader.{fails}

@@ -19,7 +19,7 @@ use Rattle.segmap.specs.Segment.{mapBad}
 use Rattle.event.specs.declared.setting.Config.{Config}
 use Rattle.event.specs.Says.{Part}
 use Rattle.event.specs.Emit.{outputOf, warningsOf, placesOf}
-use Rattle.assline.specs.declared.layout.Columns.{Columns}
+use Rattle.columns.specs.declared.layout.Columns.{Columns}
 use Rattle.machine.specs.declared.counting.Counts.{Counts}
 use Rattle.machine.specs.Counts.{noCounts, countAll}
 use Rattle.machine.specs.Cut.{closedLines, unfinished}

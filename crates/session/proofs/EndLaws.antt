@@ -21,7 +21,7 @@ use Rattle.segmap.specs.Segment.{segmentsOf}
 use Rattle.event.specs.Says.{Part, stays, notUtf8, faultNumber}
 use Rattle.event.specs.Emit.{Emit, Warning, emitBy, emitsOf, outputOf, warningsOf, placesOf}
 use Rattle.ass.specs.Line.{LineSays, lineSays, faulty as lineFaulty, says as lineSaid}
-use Rattle.block.specs.Style.{srt}
+use Rattle.timing.specs.Style.{srt}
 use Rattle.block.specs.Block.{BlockSays, blockSays, faulty as blockFaulty, says as blockSaid}
 use Rattle.machine.specs.declared.counting.Counts.{Counts}
 use Rattle.machine.specs.Counts.{countAll}

@@ -18,7 +18,7 @@ use Rattle.event.specs.Fates.{passed, dropped, shifted, clipped}
 use Rattle.event.specs.Says.{Part, captionsIn}
 use Rattle.event.specs.Emit.{Emit, Caption, none, decided, outputOf, warningsOf, placesOf}
 use Rattle.block.proofs.FineBlock.{lines-held}
-use Rattle.assline.specs.declared.layout.Columns.{Columns}
+use Rattle.columns.specs.declared.layout.Columns.{Columns}
 use Rattle.machine.specs.declared.counting.Counts.{Counts}
 use Rattle.machine.specs.Counts.{noCounts, count, countAll, one, captions}
 use Rattle.machine.specs.Cut.{closedLines, unfinished}

@@ -11,7 +11,7 @@ use Rattle.text.specs.Line.{concat}
 use Rattle.segmap.specs.Segment.{mapBad}
 use Rattle.event.specs.declared.setting.Config.{Config}
 use Rattle.event.specs.Emit.{outputOf, warningsOf, placesOf}
-use Rattle.assline.specs.declared.layout.Columns.{Columns}
+use Rattle.columns.specs.declared.layout.Columns.{Columns}
 use Rattle.machine.specs.declared.counting.Counts.{Counts}
 use Rattle.machine.specs.Cut.{closedLines}
 use Rattle.machine.specs.Session.{Lent, Call, feed, finish, Gate, refuse, admit, gate, argumentBad, lentOf, answer, openSession}

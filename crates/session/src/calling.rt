@@ -2,7 +2,7 @@
 use crate::ending::finish_run;
 use crate::running::Going;
 use crate::running::run_piece;
-use assline::Columns;
+use columns::Columns;
 use event::Config;
 use foreign::Session;
 use machine::Counts;

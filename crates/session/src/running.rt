@@ -1,5 +1,5 @@
 // A piece taken byte by byte.
-use assline::Columns;
+use columns::Columns;
 use event::Config;
 use lines::Taken;
 use lines::take_line;

@@ -19,13 +19,14 @@ use Rattle.event.specs.Hit.{meetsParts, findFrom, lostRule}
 use Rattle.event.specs.Decide.{decideTicks, decideOf}
 use Rattle.event.specs.Fates.{fateOf}
 use Rattle.event.specs.Emit.{emitBy, render}
-use Rattle.assline.specs.Columns.{namesIn, placeIn, columnsIn, fields, fieldAt}
+use Rattle.columns.specs.Columns.{namesIn, placeIn, columnsIn, fields, fieldAt}
 use Rattle.assline.specs.Tags.{holdsAny}
-use Rattle.assline.specs.Section.{bracketed, inside}
+use Rattle.columns.specs.Section.{bracketed, inside}
 use Rattle.assline.specs.Frame.{pieceAt, fieldPieces}
 use Rattle.ass.specs.Line.{captionSays, wordSays, textSays, lineSays}
-use Rattle.block.specs.Style.{srtEnd}
-use Rattle.block.specs.Block.{timingOf, afterArrow, timingLineSays, blockSays}
+use Rattle.timing.specs.Style.{srtEnd}
+use Rattle.timing.specs.Arrow.{timingOf, afterArrow}
+use Rattle.block.specs.Block.{timingLineSays, blockSays}
 use Rattle.table.specs.Example.{theSegments}
 use Rattle.table.specs.Table.{Table}
 use Rattle.table.proofs.TheMap.{segments-is}

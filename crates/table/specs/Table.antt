@@ -14,9 +14,9 @@ use Rattle.event.specs.Decide.{decideOf}
 use Rattle.event.specs.Fates.{dropped, shifted, clipped, fateOf}
 use Rattle.event.specs.Says.{bytes, start, stop, stays, passes, cue, unplaced, short, faultNumber}
 use Rattle.event.specs.Emit.{Warning, warning, emitOf}
-use Rattle.assline.specs.declared.layout.Columns.{Columns}
+use Rattle.columns.specs.declared.layout.Columns.{Columns}
 use Rattle.ass.specs.Line.{LineSays, faulty, says, lineSays}
-use Rattle.block.specs.Style.{srt}
+use Rattle.timing.specs.Style.{srt}
 use Rattle.block.specs.Block.{blockFrame, blockCue, blockSays, says as blockSaid}
 use Rattle.table.specs.Example.{setting}
 

@@ -16,8 +16,8 @@ use Rattle.time.specs.Kind.{kindBad, unitsOf, markOf}
 use Rattle.stamp.specs.Read.{timeWith, timeIn}
 use Rattle.event.specs.Says.{bytes, start, stop, short, stays, passes, cue}
 use Rattle.event.specs.Mark.{bom}
-use Rattle.assline.specs.Columns.{namesIn, placeIn, columnsIn, fields, fieldAt}
-use Rattle.assline.specs.Section.{bracketed, inside}
+use Rattle.columns.specs.Columns.{namesIn, placeIn, columnsIn, fields, fieldAt}
+use Rattle.columns.specs.Section.{bracketed, inside}
 use Rattle.assline.specs.Tags.{holdsAny}
 use Rattle.assline.specs.Frame.{pieceAt, fieldPieces}
 use Rattle.ass.specs.Line.{captionSays, wordSays, textSays, lineSays}

@@ -4,7 +4,7 @@ use mathlib.Core.Path.{_≡_, refl, ap, _∙_}
 use mathlib.Core.Bool.{Bool, true, false, cond}
 use mathlib.Core.List.{List, [], _∷_, _++_}
 use Prim.Native.Nat.{ℕ}
-use Rattle.block.specs.Style.{blankIn}
+use Rattle.timing.specs.Style.{blankIn}
 use Rattle.whole.specs.Srt.{Block, blockOf, ontoBlock, ontoBlanks, blankOnto, blocksOf}
 
 -- the lines of blocks, in order

@@ -14,8 +14,9 @@ use Rattle.time.specs.Kind.{kindBad, unitsOf, markOf}
 use Rattle.stamp.specs.Read.{timeWith, timeIn}
 use Rattle.event.specs.Says.{stays, cue}
 use Rattle.event.specs.Mark.{bom}
-use Rattle.block.specs.Style.{srtEnd, blankIn}
-use Rattle.block.specs.Block.{timingOf, afterArrow, blockFrame, blockCue, timingLineSays, blockSays}
+use Rattle.timing.specs.Style.{srtEnd, blankIn}
+use Rattle.timing.specs.Arrow.{timingOf, afterArrow}
+use Rattle.block.specs.Block.{blockFrame, blockCue, timingLineSays, blockSays}
 use Rattle.whole.specs.Srt.{blockOf, blocksOf, blocksSaid, textBlocks, srtSaid}
 
 abbrev line : String → List ℕ

@@ -5,8 +5,8 @@ use Prim.Native.Nat.{ℕ, suc}
 use Rattle.text.specs.Line.{linesOf}
 use Rattle.event.specs.Says.{Part}
 use Rattle.event.specs.Mark.{marked, behindMark, markWritten}
-use Rattle.assline.specs.declared.layout.Columns.{Columns}
-use Rattle.assline.specs.Columns.{noColumns}
+use Rattle.columns.specs.declared.layout.Columns.{Columns}
+use Rattle.columns.specs.Columns.{noColumns}
 use Rattle.ass.specs.Line.{LineSays, faulty, says, lineSays}
 use Rattle.ass.specs.Answer.{columnsAfter}
 

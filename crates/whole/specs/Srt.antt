@@ -6,7 +6,7 @@ use Prim.Native.Nat.{ℕ, suc, _+_}
 use Rattle.text.specs.Line.{linesOf, lineCount}
 use Rattle.event.specs.Says.{Part, stays}
 use Rattle.event.specs.Mark.{marked, behindMark, markWritten}
-use Rattle.block.specs.Style.{srt, blankIn}
+use Rattle.timing.specs.Style.{srt, blankIn}
 use Rattle.block.specs.Block.{BlockSays, faulty, says, blockSays}
 
 -- ---- a block is the non-blank lines, then the blank ones; blank lines at the head of a text are a block without a body

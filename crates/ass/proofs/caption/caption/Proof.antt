@@ -10,7 +10,7 @@ use Rattle.ass.proofs.caption.caption.Reads as reads
 use Rattle.ass.proofs.caption.caption.Lts as lts
 use Rattle.ass.proofs.caption.passing.Reads as passing-reads
 use Rattle.ass.proofs.caption.timed.Reads as timed-reads
-use Rattle.assline.proofs.enough.Reads as enough-reads
+use Rattle.columns.proofs.enough.Reads as enough-reads
 use Rattle.base.proofs.rest.Reads as rest-reads
 use Rattle.text.proofs.text_of.Reads as text-of-reads
 

@@ -10,7 +10,7 @@ use Rattle.ass.proofs.caption.event_line.Reads as reads
 use Rattle.ass.proofs.caption.event_line.Lts as lts
 use Rattle.ass.proofs.caption.caption.Reads as caption-reads
 use Rattle.ass.proofs.caption.stayed.Reads as stayed-reads
-use Rattle.assline.proofs.columns_of.Reads as columns-of-reads
+use Rattle.columns.proofs.columns_of.Reads as columns-of-reads
 use Rattle.base.proofs.rest.Reads as rest-reads
 use Rattle.text.proofs.text_of.Reads as text-of-reads
 use Rattle.text.proofs.starts_with.Reads as starts-with-reads

@@ -9,9 +9,9 @@ use Rattle.ass.proofs.caption.line.Lts as lts
 use Rattle.ass.proofs.caption.event_line.Reads as event-line-reads
 use Rattle.event.proofs.refused.Reads as refused-reads
 use Rattle.ass.proofs.caption.stayed.Reads as stayed-reads
-use Rattle.assline.proofs.in_section.Reads as in-section-reads
-use Rattle.assline.proofs.is_section.Reads as is-section-reads
-use Rattle.assline.proofs.names_events.Reads as names-events-reads
+use Rattle.columns.proofs.in_section.Reads as in-section-reads
+use Rattle.columns.proofs.is_section.Reads as is-section-reads
+use Rattle.columns.proofs.names_events.Reads as names-events-reads
 use Rattle.text.proofs.text_of.Reads as text-of-reads
 use Rattle.white.proofs.trimmed.Reads as trimmed-reads
 

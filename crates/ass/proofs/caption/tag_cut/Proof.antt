@@ -4,7 +4,7 @@ use Rattle.ass.proofs.caption.tag_cut.Statement.{statement}
 use Rattle.ass.proofs.caption.tag_cut.Tie as tie
 use Rattle.ass.proofs.caption.tag_cut.Reads as reads
 use Rattle.ass.proofs.caption.tag_cut.Lts as lts
-use Rattle.assline.proofs.field.Reads as field-reads
+use Rattle.columns.proofs.field.Reads as field-reads
 use Rattle.assline.proofs.has_tag.Reads as has-tag-reads
 
 field-requires : tie.Need-field-requires

@@ -7,7 +7,7 @@ use Rattle.ass.proofs.caption.timed.Reads as reads
 use Rattle.ass.proofs.caption.timed.Lts as lts
 use Rattle.event.proofs.refused.Reads as refused-reads
 use Rattle.ass.proofs.caption.settle.Reads as settle-reads
-use Rattle.assline.proofs.field.Reads as field-reads
+use Rattle.columns.proofs.field.Reads as field-reads
 use Rattle.text.proofs.terminator_of.Reads as terminator-of-reads
 use Rattle.stamp.proofs.read_time.Reads as read-time-reads
 

@@ -4,7 +4,7 @@ use Rattle.assline.proofs.writing.write_field.Statement.{statement}
 use Rattle.assline.proofs.writing.write_field.Tie as tie
 use Rattle.assline.proofs.writing.write_field.Reads as reads
 use Rattle.assline.proofs.writing.write_field.Lts as lts
-use Rattle.assline.proofs.fields.column_text.Reads as column-text-reads
+use Rattle.assline.proofs.writing.column_text.Reads as column-text-reads
 use Rattle.base.proofs.bytes_at.Reads as bytes-at-reads
 
 column-text-requires : tie.Need-column-text-requires

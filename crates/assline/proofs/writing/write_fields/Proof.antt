@@ -6,7 +6,7 @@ use Rattle.assline.proofs.writing.write_fields.Statement.{statement}
 use Rattle.assline.proofs.writing.write_fields.Tie as tie
 use Rattle.assline.proofs.writing.write_fields.Reads as reads
 use Rattle.assline.proofs.writing.write_fields.Lts as lts
-use Rattle.assline.proofs.fields.field_length.Reads as field-length-reads
+use Rattle.columns.proofs.field_length.Reads as field-length-reads
 use Rattle.assline.proofs.writing.write_comma.Reads as write-comma-reads
 use Rattle.assline.proofs.writing.write_field.Reads as write-field-reads
 use Rattle.base.proofs.front.Reads as front-reads

@@ -12,7 +12,7 @@ use Rattle.base.proofs.front.Reads as front-reads
 use Rattle.base.proofs.rest.Reads as rest-reads
 use Rattle.event.proofs.refused.Reads as refused-reads
 use Rattle.block.proofs.srt.timed.Reads as timed-reads
-use Rattle.block.proofs.timing.locate.Reads as locate-reads
+use Rattle.timing.proofs.locate.Reads as locate-reads
 
 refused-requires : tie.Need-refused-requires
 refused-requires c κs = search needs

@@ -10,9 +10,9 @@ use Rattle.base.proofs.rest.Reads as rest-reads
 use Rattle.block.proofs.srt.read_times.Reads as read-times-reads
 use Rattle.event.proofs.refused.Reads as refused-reads
 use Rattle.block.proofs.srt.settle.Reads as settle-reads
-use Rattle.block.proofs.timing.after_arrow.Reads as after-arrow-reads
-use Rattle.block.proofs.timing.before_arrow.Reads as before-arrow-reads
-use Rattle.block.proofs.timing.end_length.Reads as end-length-reads
+use Rattle.timing.proofs.after_arrow.Reads as after-arrow-reads
+use Rattle.timing.proofs.before_arrow.Reads as before-arrow-reads
+use Rattle.timing.proofs.end_length.Reads as end-length-reads
 use Rattle.text.proofs.terminator_of.Reads as terminator-of-reads
 use Rattle.text.proofs.text_of.Reads as text-of-reads
 

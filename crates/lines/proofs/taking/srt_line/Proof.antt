@@ -3,7 +3,7 @@ use mathlib.Core.Bool.{true, false}
 use borrow.Author.Tests.{not-true, not-false}
 use Rattle.utf8.specs.Utf8.{utf8}
 use Rattle.segmap.specs.Segment.{segmentsOf}
-use Rattle.block.specs.Style.{blankIn}
+use Rattle.timing.specs.Style.{blankIn}
 use Rattle.lines.proofs.TellLaws.{srt-20, srt-22, srt-blank, srt-21, srt-add}
 use borrow.Author.Needs.{needs}
 use Rattle.lines.proofs.taking.srt_line.Statement.{statement}
@@ -11,7 +11,7 @@ use Rattle.lines.proofs.taking.srt_line.Tie as tie
 use Rattle.lines.proofs.taking.srt_line.Reads as reads
 use Rattle.lines.proofs.taking.srt_line.Lts as lts
 use Rattle.base.proofs.bytes_at.Reads as bytes-at-reads
-use Rattle.block.proofs.is_blank_in.Reads as is-blank-in-reads
+use Rattle.timing.proofs.is_blank_in.Reads as is-blank-in-reads
 use Rattle.lines.proofs.telling.blank.Reads as blank-reads
 use Rattle.lines.proofs.closing.close_block.Reads as close-block-reads
 use Rattle.lines.proofs.telling.quiet.Reads as quiet-reads

@@ -1,0 +1,3 @@
+-- The structure of ASS lines: columns, fields, sections.
+pub mod Columns
+pub mod Section

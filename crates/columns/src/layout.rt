@@ -1,0 +1,63 @@
+// The columns of a `Format:` line.
+ghost use mathlib.Core.Path.{_≡_};
+ghost use mathlib.Core.Bool.{cond};
+ghost use lib.Dec.{eqb};
+ghost use Rattle.text.specs.Find.{equals};
+ghost use Rattle.columns.specs.Columns.{startName, endName, columnsIn};
+
+// Whether the section is Events, how many columns the last `Format:` line had, and the places of Start and End among them, from 1; 0: absent.
+pub struct Columns {
+    pub events: bool,
+    pub columns: usize,
+    pub start: usize,
+    pub end: usize,
+}
+
+fn is_start(name: &[u8]) -> bool
+    ensures { λ r. ⌜ r ≡ equals startName (now (name .entry)) ⌝ }
+{
+    text::equals(name, b"Start")
+}
+
+fn is_end(name: &[u8]) -> bool
+    ensures { λ r. ⌜ r ≡ equals endName (now (name .entry)) ⌝ }
+{
+    text::equals(name, b"End")
+}
+
+// The first place that was met: the one before, else this one where it is met.
+fn first_place(earlier: usize, place: usize, met: bool) -> usize
+    ensures { λ r. ⌜ r ≡ cond (eqb earlier 0) (cond met place 0) earlier ⌝ }
+{
+    if earlier != 0 {
+        return earlier;
+    }
+    if met { place } else { 0 }
+}
+
+// What a `Format:` line in Events sets: `s` stands after that word.
+pub fn columns_of(s: &[u8]) -> Columns
+    ensures { λ r. ⌜ r ≡ columnsIn (now (s .entry)) ⌝ }
+{
+    let mut t = s;
+    let mut columns: usize = 0;
+    let mut start: usize = 0;
+    let mut end: usize = 0;
+    loop {
+        let i = text::find(t, b",");
+        let name = white::trimmed(base::front(t, i));
+        columns += 1;
+        start = first_place(start, columns, is_start(name));
+        end = first_place(end, columns, is_end(name));
+        if t.len() <= i {
+            return Columns {
+                events: true,
+                columns,
+                start,
+                end,
+            };
+        }
+        let u = base::rest(t, i + 1);
+        t = u;
+    }
+}

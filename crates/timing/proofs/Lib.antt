@@ -1,0 +1,2 @@
+-- The laws of the crate that belong to no one function.
+pub mod PlaceLaws

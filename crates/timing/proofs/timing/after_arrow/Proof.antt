@@ -1,0 +1,24 @@
+use Rattle.timing.proofs.PlaceLaws.{after-found}
+use borrow.Author.Needs.{needs}
+use Rattle.timing.proofs.timing.after_arrow.Statement.{statement}
+use Rattle.timing.proofs.timing.after_arrow.Tie as tie
+use Rattle.timing.proofs.timing.after_arrow.Reads as reads
+use Rattle.timing.proofs.timing.after_arrow.Lts as lts
+use Rattle.text.proofs.past.Reads as past-reads
+use Rattle.white.proofs.trim_head.Reads as trim-head-reads
+
+slice-aggregate-past : tie.Need-slice-aggregate-past
+slice-aggregate-past c = search needs
+
+past-requires : tie.Need-past-requires
+past-requires c κs = search needs
+
+trim-head-requires : tie.Need-trim-head-requires
+trim-head-requires c κs = search needs
+
+returns : tie.Need-returns
+returns c = search after-found
+
+pub after-arrow-spec : {M : Type 1} → statement M
+after-arrow-spec =
+    tie.close (tie.spec slice-aggregate-past past-requires trim-head-requires returns)

@@ -1,0 +1,10 @@
+// Where the times of a block stand: the timing line, its parts about the arrow, and the lines that end a block.
+mod blank;
+mod timing;
+
+pub use blank::is_blank_in;
+pub use timing::Place;
+pub use timing::after_arrow;
+pub use timing::before_arrow;
+pub use timing::end_length;
+pub use timing::locate;

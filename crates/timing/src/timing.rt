@@ -1,0 +1,81 @@
+// The timing line of a block, and the parts of its text about the arrow.
+ghost use mathlib.Core.Path.{_≡_};
+ghost use Prim.Native.Nat.{_≤_};
+ghost use lib.ListN.{length};
+ghost use Rattle.text.specs.Find.{contains, upTo};
+ghost use Rattle.text.specs.Line.{linesOf};
+ghost use Rattle.timing.specs.Style.{srtEnd};
+ghost use Rattle.timing.specs.Arrow.{arrow, afterArrow};
+ghost use Rattle.timing.specs.Place.{timingPlace};
+
+// Where the timing line stands in a block: its first byte, its length, and how many lines are before it.
+pub struct Place {
+    pub found: bool,
+    pub at: usize,
+    pub size: usize,
+    pub lines: usize,
+}
+
+fn has_arrow(s: &[u8]) -> bool
+    ensures { λ r. ⌜ r ≡ contains arrow (now (s .entry)) ⌝ }
+{
+    text::has(s, b"-->")
+}
+
+pub fn before_arrow(s: &[u8]) -> &[u8]
+    ensures { λ r. ⌜ now r ≡ upTo arrow (now (s .entry)) ⌝ }
+{
+    text::up_to(s, b"-->")
+}
+
+// What follows the arrow and its White_Space.
+pub fn after_arrow(s: &[u8]) -> &[u8]
+    ensures { λ r. ⌜ now r ≡ afterArrow (now (s .entry)) ⌝ }
+{
+    white::trim_head(text::past(s, b"-->"))
+}
+
+// How many bytes of what follows the arrow are the end time.
+pub fn end_length(r: &[u8]) -> usize
+    ensures { λ n. ⌜ n ≡ srtEnd (now (r .entry)) ⌝ }
+{
+    if r.len() < 12 {
+        return r.len();
+    }
+    if utf8::is_tail(base::byte(r, 12)) {
+        return r.len();
+    }
+    12
+}
+
+// The first line with an arrow.
+pub fn locate(block: &[u8]) -> Place
+    ensures { λ r. ⌜ r ≡ timingPlace (linesOf (now (block .entry))) 0 0 ⌝ }
+    ensures few { λ r. ⌜ r .lines ≤ length (now (block .entry)) ⌝ }
+{
+    let mut t = block;
+    let mut at = 0;
+    let mut lines = 0;
+    while 0 < t.len() {
+        let n = text::line_length(t);
+        let line = base::front(t, n);
+        if has_arrow(text::text_of(line)) {
+            return Place {
+                found: true,
+                at,
+                size: n,
+                lines,
+            };
+        }
+        let u = base::rest(t, n);
+        t = u;
+        at += n;
+        lines += 1;
+    }
+    Place {
+        found: false,
+        at: 0,
+        size: 0,
+        lines: 0,
+    }
+}
