@@ -1,4 +1,4 @@
--- What a line, and the end of a block, tell where kind, timescale and map are good: document 01's parts, put through the map. For the session's private functions.
+-- What a line, and the end of a block, tell where kind, timescale and map are good and enough is lent: document 01's parts, put through the map. For private functions.
 use mathlib.Core.Path.{_≡_}
 use mathlib.Core.Bool.{Bool, true, false, cond}
 use mathlib.Core.List.{List, [], _∷_, _++_}

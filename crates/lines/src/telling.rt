@@ -4,7 +4,7 @@ use event::Counted;
 use machine::Counts;
 ghost use mathlib.Core.Path.{_≡_};
 ghost use Prim.Native.Nat.{_+_, _<_, _^_};
-ghost use Rattle.lines.specs.Answer.{lentBad};
+ghost use Rattle.lines.specs.Answer.{mostCount, lentBad};
 ghost use Rattle.lines.specs.Told.{countBy, quietLine, quietEnd, blankLine, behindLine};
 ghost use Rattle.lines.specs.Done.{Below};
 
@@ -75,7 +75,7 @@ pub fn blank(end: Ended, columns: Columns, written: usize) -> Taken
 
 // One more caption.
 pub fn count(counts: Counts, counted: Counted) -> Counts
-    requires { ⌜ Below counts (2 ^ 31) ⌝ }
+    requires { ⌜ Below counts mostCount ⌝ }
     ensures { λ r. ⌜ r ≡ countBy counted counts ⌝ }
 {
     match counted {
