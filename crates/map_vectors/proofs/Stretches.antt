@@ -3,7 +3,7 @@ use mathlib.Core.Path.{_≡_, refl}
 use mathlib.Core.List.{[], _∷_}
 use Rattle.base.specs.Refusal.{_orElse_, faultUnless}
 use Rattle.blocks.specs.Block.{wordAt}
-use Rattle.sheet.specs.Sheet.{recordWord, decodeOf, syncOf, durationOf}
+use Rattle.frames.specs.Frames.{recordWord, decodeOf, syncOf, durationOf}
 use Rattle.sheet_vectors.specs.Small.{smallSheet}
 use Rattle.plan.specs.Snap.{lastBelow, firstFrom, floorSync, ceilSync, snapStart, snapEnd, snapAll, overlapsFault}
 use Rattle.segmap.specs.Segment.{flatOf}

@@ -11,7 +11,7 @@ use lib.Dec.{leb}
 use lib.ListN.{length}
 use Rattle.base.specs.Refusal.{faultUnless}
 use Rattle.base.proofs.RefusalLaws.{held, else-zero}
-use Rattle.sheet.specs.Sheet.{syncOf}
+use Rattle.frames.specs.Frames.{syncOf}
 use Rattle.sheet.proofs.RefusalNumbers.{else-numbers, unless-numbers}
 use Rattle.plan.specs.Snap.{lastBelow, firstFrom, floorSync, ceilSync, snapStart, snapEnd, snapAll, overlapsFault}
 

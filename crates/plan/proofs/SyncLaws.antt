@@ -4,7 +4,7 @@ use mathlib.Core.Bool.{true, false}
 use mathlib.Core.List.{List}
 use mathlib.Core.Path.{_≡_, refl, sym, ap, ap₂, _∙_}
 use native.Mathlib.Omega.{arith}
-use Rattle.sheet.specs.Sheet.{syncOf}
+use Rattle.frames.specs.Frames.{syncOf}
 use Rattle.plan.specs.Snap.{lastBelow, firstFrom, ceilSync}
 
 -- one step of each definition

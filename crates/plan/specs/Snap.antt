@@ -5,7 +5,7 @@ use mathlib.Core.Bool.{cond}
 use mathlib.Core.List.{List, [], _∷_}
 use lib.Dec.{leb}
 use Rattle.base.specs.Refusal.{_orElse_, faultUnless}
-use Rattle.sheet.specs.Sheet.{syncOf}
+use Rattle.frames.specs.Frames.{syncOf}
 
 -- the last sync frame below k, else 0
 unfoldable pub lastBelow : List ℕ → ℕ → ℕ

@@ -14,7 +14,7 @@ pub fn floor_sync(s: &[u8], n: u32, x: DisplayIdx) -> DisplayIdx
     }
     while 0 < k {
         k -= 1;
-        let found = sheet::sync_at(s, DisplayIdx(k));
+        let found = frames::sync_at(s, DisplayIdx(k));
         if found {
             return DisplayIdx(k);
         }
@@ -28,7 +28,7 @@ pub fn ceil_sync(s: &[u8], n: u32, x: DisplayIdx) -> DisplayIdx
 {
     let mut i = x.0;
     while i < n {
-        let found = sheet::sync_at(s, DisplayIdx(i));
+        let found = frames::sync_at(s, DisplayIdx(i));
         if found {
             return DisplayIdx(i);
         }

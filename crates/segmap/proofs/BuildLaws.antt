@@ -11,7 +11,7 @@ use Rattle.base.specs.Put.{put}
 use Rattle.base.specs.Refusal.{_orElse_, faultUnless}
 use Rattle.base.proofs.PutLaws.{sets-put}
 use Rattle.base.proofs.RefusalLaws.{held, else-zero, else-none, else-found}
-use Rattle.sheet.specs.Sheet.{decodeOf}
+use Rattle.frames.specs.Frames.{decodeOf}
 use Rattle.plan.proofs.PairLaws.{leftOf, pairs-start, left-cut, left-short, pairs-done}
 use Rattle.segmap.specs.declared.segment.Segment.{Segment}
 use Rattle.segmap.specs.Segment.{segment, numbersOf, flatOf}

@@ -14,7 +14,8 @@ use Rattle.base.specs.Refusal.{_orElse_, faultUnless}
 use Rattle.base.proofs.Laws.{yes!, no! }
 use Rattle.base.proofs.PutLaws.{put-nil, take-put}
 use Rattle.base.proofs.RefusalLaws.{else-zero, held}
-use Rattle.sheet.specs.Sheet.{sheetFault, framesOf, timescaleOf, decodeOf}
+use Rattle.frames.specs.Frames.{framesOf, timescaleOf, decodeOf}
+use Rattle.sheet.specs.Sheet.{sheetFault}
 use Rattle.sheet.proofs.RefusalNumbers.{else-numbers, unless-numbers}
 use Rattle.sheet.proofs.SheetLaws.{sheet-numbers, sound-head}
 use Rattle.trim.specs.TrimList.{listNumber, rangesOf, rangeCount}

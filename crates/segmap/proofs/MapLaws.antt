@@ -10,7 +10,8 @@ use Rattle.base.specs.Put.{put}
 use Rattle.base.specs.Refusal.{_orElse_, faultUnless}
 use Rattle.base.proofs.PutLaws.{put-nil, take-put}
 use Rattle.base.proofs.RefusalLaws.{else-here, else-next}
-use Rattle.sheet.specs.Sheet.{sheetFault, framesOf, timescaleOf, sheetOf}
+use Rattle.frames.specs.Frames.{framesOf, timescaleOf}
+use Rattle.sheet.specs.Sheet.{sheetFault, sheetOf}
 use Rattle.sheet.specs.declared.answer.Head.{Head}
 use Rattle.sheet.specs.declared.answer.Sheet.{Sheet}
 use Rattle.sheet.specs.declared.answer.Sheet.the-variants.{Sound, Refused}

@@ -7,7 +7,7 @@ use native.Mathlib.Nat.{zero-add}
 use native.Mathlib.Numerals.{add-one}
 use lib.ListN.{getD}
 use Rattle.base.specs.Limits.{mostFrames, mostTicks}
-use Rattle.sheet.specs.Sheet.{decodeOf, durationOf}
+use Rattle.frames.specs.Frames.{decodeOf, durationOf}
 use Rattle.sheet.proofs.SheetLaws.{duration-word}
 use Rattle.segmap.specs.Build.{ticksFrom}
 

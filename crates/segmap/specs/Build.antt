@@ -4,7 +4,7 @@ use Prim.Native.Nat.{ℕ, zero, suc, _+_, _-_}
 use mathlib.Core.List.{List, [], _∷_}
 use lib.Dec.{leb}
 use Rattle.base.specs.Refusal.{_orElse_, faultUnless}
-use Rattle.sheet.specs.Sheet.{decodeOf, durationOf}
+use Rattle.frames.specs.Frames.{decodeOf, durationOf}
 use Rattle.segmap.specs.declared.segment.Segment.{Segment}
 use Rattle.segmap.specs.Segment.{segment}
 

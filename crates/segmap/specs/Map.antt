@@ -5,7 +5,8 @@ use lib.Dec.{leb}
 use lib.ListN.{length}
 use Rattle.base.specs.Limits.{mostSegments}
 use Rattle.base.specs.Refusal.{_orElse_, faultUnless}
-use Rattle.sheet.specs.Sheet.{sheetFault, framesOf, timescaleOf}
+use Rattle.frames.specs.Frames.{framesOf, timescaleOf}
+use Rattle.sheet.specs.Sheet.{sheetFault}
 use Rattle.trim.specs.TrimList.{listNumber, rangesOf}
 use Rattle.plan.specs.Snap.{snapAll, overlapsFault}
 use Rattle.segmap.specs.declared.segment.Segment.{Segment}

@@ -11,7 +11,7 @@ ghost use lib.ListN.{length, take};
 ghost use lib.Seq.{sets};
 ghost use Rattle.base.specs.Limits.{mostFrames, mostTicks, mostSegments};
 ghost use Rattle.base.specs.Put.{put};
-ghost use Rattle.sheet.specs.Sheet.{decodeOf};
+ghost use Rattle.frames.specs.Frames.{decodeOf};
 ghost use Rattle.segmap.specs.Segment.{numbersOf, flatOf};
 ghost use Rattle.segmap.specs.Build.{ticksFrom, rangesFault, segmentIn, segmentsIn};
 
@@ -29,7 +29,7 @@ fn segment_of(s: &[u8], from: Reached, start: DisplayIdx, end: DisplayIdx, outpu
     ensures { λ r. ⌜ r .reached .ticks ≡ ticksFrom (now (s .entry)) 0 (r .reached .decode .0) ⌝ }
 {
     let count = order::frame_count(start, end);
-    let decode = sheet::decode_at(s, start);
+    let decode = frames::decode_at(s, start);
     let first = reach(s, from, decode);
     let last = reach(s, first, DecodeIdx(decode.0 + count));
     let segment = Segment {

@@ -13,7 +13,7 @@ pub fn range_fault(s: &[u8], n: u32, start: DisplayIdx, end: DisplayIdx) -> u32
         return 9;
     }
     let count = order::frame_count(start, end) as u64;
-    let decode = sheet::decode_at(s, start);
+    let decode = frames::decode_at(s, start);
     let samples = n as u64;
     if samples < decode.0 as u64 + count {
         return 10;

@@ -31,7 +31,7 @@ fn add_up(s: &[u8], from: Reached, to: DecodeIdx) -> Reached
     let mut at = start.0;
     let mut ticks = from.ticks;
     while at < end {
-        ticks += sheet::duration_at(s, DecodeIdx(at));
+        ticks += frames::duration_at(s, DecodeIdx(at));
         at += 1;
     }
     Reached { decode: to, ticks }

@@ -7,7 +7,7 @@ use borrow.Author.Tests.{le-leb}
 use lib.ListN.{length, take}
 use Rattle.base.specs.Limits.{mostFrames, mostSegments}
 use Rattle.base.specs.Put.{put}
-use Rattle.sheet.specs.Sheet.{framesOf}
+use Rattle.frames.specs.Frames.{framesOf}
 use Rattle.sheet.proofs.SheetLaws.{sound-head}
 use Rattle.plan.proofs.SnapMeaning.{Bounded}
 use Rattle.segmap.specs.declared.segment.Segment.{Segment}

@@ -12,7 +12,8 @@ use Rattle.base.specs.Refusal.{_orElse_, faultUnless, firstOf}
 use Rattle.base.proofs.RefusalLaws.{unless-held, unless-failed, else-none, else-here, else-next, left-here, left-next}
 use Rattle.base.proofs.Laws.{lt-via, le-via, yes!, no! }
 use Rattle.blocks.specs.Block.{wordAt, blockHolds}
-use Rattle.sheet.specs.Sheet.{timescaleOf, framesOf, rateNumOf, rateDenOf, spareFault, headFault, recordWord, decodeOf, syncOf, durationOf, recordFault, checkFault, blockFault, recordBlocks, sheetFault}
+use Rattle.frames.specs.Frames.{timescaleOf, framesOf, rateNumOf, rateDenOf, recordWord, decodeOf}
+use Rattle.sheet.specs.Sheet.{spareFault, headFault, recordFault, checkFault, blockFault, recordBlocks, sheetFault}
 use Rattle.sheet.specs.Sheet.{headOf, sheetAnswer, sheetOf}
 use Rattle.sheet.specs.declared.answer.Head.{Head}
 use Rattle.sheet.specs.declared.answer.Sheet.the-variants.{Sound, Refused}
@@ -183,16 +184,3 @@ pub answer-sound : (s : List ℕ) (r t n a b : ℕ) → r ≡ sheetFault s → r
     → Sound (record { timescale = t; frames = n; «rate_num» = a; «rate_den» = b }) ≡ sheetOf s
 unfolding sheetOf headOf
 answer-sound s r t n a b e z et en ea eb = rw (et, en, ea, eb) (sound-by _ r _ e z)
-
--- ---- what a record says: x is the word at w
-pub decode-is : (s : List ℕ) (i w x : ℕ) → w ≡ recordWord i → x ≡ wordAt s w → x % 2147483648 ≡ decodeOf s i
-unfolding decodeOf
-decode-is s i w x ew ex = rw (ex, ew)
-
-pub sync-is : (s : List ℕ) (i w x : ℕ) → w ≡ recordWord i → x ≡ wordAt s w → leb 2147483648 x ≡ syncOf s i
-unfolding syncOf
-sync-is s i w x ew ex = rw (ex, ew)
-
-pub duration-is : (s : List ℕ) (i w x : ℕ) → w ≡ recordWord i → x ≡ wordAt s (w + 1) → x ≡ durationOf s i
-unfolding durationOf
-duration-is s i w x ew ex = rw (ex, ew)

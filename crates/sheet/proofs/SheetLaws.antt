@@ -12,8 +12,10 @@ use Rattle.base.specs.Limits.{mostSheetTimescale, mostFrames}
 use Rattle.base.specs.Refusal.{_orElse_, faultUnless, firstOf}
 use Rattle.base.proofs.RefusalLaws.{held, else-zero, first-zero}
 use Rattle.blocks.proofs.WordLaws.{word-below}
-use Rattle.sheet.specs.Sheet.{timescaleOf, framesOf, rateNumOf, rateDenOf, decodeOf, durationOf, sheetFault, sheetOf, numberOf, valuesOf}
-use Rattle.sheet.specs.Sheet.{spareFault, headFault, recordWord, recordFault, checkFault, blockFault, recordBlocks, headOf, sheetAnswer}
+use Rattle.frames.specs.Frames.{timescaleOf, framesOf, rateNumOf, rateDenOf, decodeOf, durationOf}
+use Rattle.sheet.specs.Sheet.{sheetFault, sheetOf, numberOf, valuesOf}
+use Rattle.frames.specs.Frames.{recordWord}
+use Rattle.sheet.specs.Sheet.{spareFault, headFault, recordFault, checkFault, blockFault, recordBlocks, headOf, sheetAnswer}
 use Rattle.sheet.specs.declared.answer.Head.{Head}
 use Rattle.sheet.specs.declared.answer.Sheet.{Sheet}
 use Rattle.sheet.specs.declared.answer.Sheet.the-variants.{Sound, Refused}

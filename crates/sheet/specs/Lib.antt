@@ -1,2 +1,2 @@
--- The frame sheet: what it says, its faults, and the answer of its check.
+-- The faults of a frame sheet, and the answer of its check.
 pub mod Sheet

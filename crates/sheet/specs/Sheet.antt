@@ -1,33 +1,19 @@
--- The frame sheet (document 01, "The frame sheet"). s is the sheet's bytes; word j of block b is word 128 * b + j.
--- Crates above name the sheet by sheetFault, timescaleOf, framesOf, rateNumOf, rateDenOf, decodeOf, syncOf and durationOf alone.
-use Prim.Native.Nat.{ℕ, zero, suc, _+_, _-_, _*_, _/_, _%_, _^_}
-use mathlib.Core.Bool.{Bool, cond}
+-- The faults of a frame sheet (document 01, "The frame sheet"), and the answer of its check. s is the sheet's bytes.
+-- Crates above name the sheet by sheetFault, and by timescaleOf, framesOf, rateNumOf, rateDenOf, decodeOf, syncOf and durationOf of frames.
+use Prim.Native.Nat.{ℕ, zero, suc, _+_, _-_, _*_, _/_, _%_}
+use mathlib.Core.Bool.{cond}
 use mathlib.Core.List.{List, [], _∷_}
 use lib.ListN.{length}
 use lib.Dec.{ltb, leb, eqb}
 use Rattle.base.specs.Limits.{mostSheetTimescale, mostFrames}
 use Rattle.base.specs.Refusal.{_orElse_, faultUnless, firstOf}
 use Rattle.blocks.specs.Block.{wordAt, blockHolds}
+use Rattle.frames.specs.Frames.{timescaleOf, framesOf, rateNumOf, rateDenOf, recordWord, decodeOf}
 use Rattle.sheet.specs.declared.answer.Head.{Head}
 use Rattle.sheet.specs.declared.answer.Sheet.{Sheet}
 use Rattle.sheet.specs.declared.answer.Sheet.the-variants.{Sound, Refused}
 
 -- ---- block 0
-
--- T, ticks a second
-unfoldable pub timescaleOf : List ℕ → ℕ
-timescaleOf s = wordAt s 1
-
--- n, the frame count
-unfoldable pub framesOf : List ℕ → ℕ
-framesOf s = wordAt s 2
-
--- the frame rate, of any value
-unfoldable pub rateNumOf : List ℕ → ℕ
-rateNumOf s = wordAt s 3
-
-unfoldable pub rateDenOf : List ℕ → ℕ
-rateDenOf s = wordAt s 4
 
 -- the fault k, unless word i is zero
 unfoldable pub spareFault : List ℕ → ℕ → ℕ → ℕ
@@ -43,22 +29,6 @@ headFault s =
     firstOf (spareFault s 13) 5 122
 
 -- ---- records: 63 to a block from block 1 on, two words each from word 1 on
-
--- where record i starts
-unfoldable pub recordWord : ℕ → ℕ
-recordWord i = 128 * (1 + i / 63) + 1 + 2 * (i % 63)
-
--- bits 0 to 30: the decode index of display frame i
-unfoldable pub decodeOf : List ℕ → ℕ → ℕ
-decodeOf s i = wordAt s (recordWord i) % 2 ^ 31
-
--- bit 31: display frame i is a sync frame
-unfoldable pub syncOf : List ℕ → ℕ → Bool
-syncOf s i = leb (2 ^ 31) (wordAt s (recordWord i))
-
--- the second word: the duration in ticks of the sample with decode index i
-unfoldable pub durationOf : List ℕ → ℕ → ℕ
-durationOf s i = wordAt s (recordWord i + 1)
 
 -- record i of n (14): its decode index is below n; past n both words are zero
 unfoldable pub recordFault : List ℕ → ℕ → ℕ → ℕ

@@ -1,9 +1,9 @@
 // The check's answer.
-use crate::access::frames;
-use crate::access::rate_den;
-use crate::access::rate_num;
-use crate::access::timescale;
 use crate::faults::fault;
+use frames::frames;
+use frames::rate_den;
+use frames::rate_num;
+use frames::timescale;
 ghost use mathlib.Core.Path.{_≡_};
 ghost use Rattle.sheet.specs.Sheet.{sheetOf, numberOf};
 

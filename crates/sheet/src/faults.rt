@@ -1,9 +1,9 @@
 // The first fault of a sheet.
-use crate::access::frames;
 use crate::heads::head_fault;
 use crate::records::blocks_fault;
 use crate::records::check_fault;
 use crate::records::record_blocks;
+use frames::frames;
 ghost use mathlib.Core.Path.{_≡_};
 ghost use Rattle.sheet.specs.Sheet.{sheetFault};
 

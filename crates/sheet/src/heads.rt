@@ -1,6 +1,6 @@
 // The head, in block 0.
-use crate::access::frames;
-use crate::access::timescale;
+use frames::frames;
+use frames::timescale;
 ghost use mathlib.Core.Path.{_≡_};
 ghost use Rattle.base.specs.Refusal.{firstOf};
 ghost use Rattle.sheet.specs.Sheet.{spareFault, headFault};

@@ -2,7 +2,8 @@
 ghost use mathlib.Core.Path.{_≡_};
 ghost use Prim.Native.Nat.{_+_, _-_, _*_, _^_, _<_};
 ghost use Rattle.base.specs.Refusal.{firstOf};
-ghost use Rattle.sheet.specs.Sheet.{recordWord, recordFault, checkFault, blockFault, recordBlocks};
+ghost use Rattle.frames.specs.Frames.{recordWord};
+ghost use Rattle.sheet.specs.Sheet.{recordFault, checkFault, blockFault, recordBlocks};
 
 // Record i of n, which starts at word w.
 fn record_fault(s: &[u8], n: usize, i: usize, w: usize) -> u32

@@ -6,7 +6,8 @@ use mathlib.Core.Path.{_≡_, refl, sym, ap, _∙_}
 use lib.ListN.{set, take}
 use Rattle.base.specs.Refusal.{_orElse_, faultUnless, firstOf}
 use Rattle.blocks.specs.Block.{wordAt, sumWords, blockHolds}
-use Rattle.sheet.specs.Sheet.{timescaleOf, framesOf, rateNumOf, rateDenOf, spareFault, headFault, recordWord, decodeOf, syncOf, durationOf}
+use Rattle.frames.specs.Frames.{timescaleOf, framesOf, rateNumOf, rateDenOf, recordWord, decodeOf, syncOf, durationOf}
+use Rattle.sheet.specs.Sheet.{spareFault, headFault}
 use Rattle.sheet.specs.Sheet.{recordFault, checkFault, blockFault, recordBlocks, sheetFault, headOf, sheetAnswer, sheetOf, numberOf}
 use Rattle.sheet.proofs.SheetLaws.{number-is}
 use Rattle.sheet.specs.declared.answer.Sheet.the-variants.{Sound}

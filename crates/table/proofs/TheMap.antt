@@ -13,7 +13,7 @@ use Rattle.text.specs.Piece.{piecesFrom, pieces}
 use Rattle.text.specs.Number.{digit, digits, valueFrom, natural, unsigned, number}
 use Rattle.text.specs.Line.{blank}
 use Rattle.blocks.specs.Block.{wordAt}
-use Rattle.sheet.specs.Sheet.{recordWord, decodeOf, syncOf, durationOf, framesOf, timescaleOf}
+use Rattle.frames.specs.Frames.{recordWord, decodeOf, syncOf, durationOf, framesOf, timescaleOf}
 use Rattle.sheet_vectors.specs.Small.{smallSheet}
 use Rattle.sheet_vectors.proofs.Vectors.{small-fault, small-timescale, small-frames}
 use Rattle.trim.specs.Token.{rangeOf, boundsOf, pairOf, closedOf, tokenOf, behindEnd, stepOf, tokenNumber, tokenRange, tokenEnd}

@@ -4,10 +4,10 @@ use Rattle.sheet.proofs.answer.check.Statement.{statement}
 use Rattle.sheet.proofs.answer.check.Tie as tie
 use Rattle.sheet.proofs.answer.check.Reads as reads
 use Rattle.sheet.proofs.answer.check.Lts as lts
-use Rattle.sheet.proofs.access.frames.Reads as frames-reads
-use Rattle.sheet.proofs.access.rate_den.Reads as rate-den-reads
-use Rattle.sheet.proofs.access.rate_num.Reads as rate-num-reads
-use Rattle.sheet.proofs.access.timescale.Reads as timescale-reads
+use Rattle.frames.proofs.frames.Reads as frames-reads
+use Rattle.frames.proofs.rate_den.Reads as rate-den-reads
+use Rattle.frames.proofs.rate_num.Reads as rate-num-reads
+use Rattle.frames.proofs.timescale.Reads as timescale-reads
 use Rattle.sheet.proofs.faults.fault.Reads as fault-reads
 
 fault-requires : tie.Need-fault-requires

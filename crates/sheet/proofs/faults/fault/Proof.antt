@@ -4,7 +4,7 @@ use Rattle.sheet.proofs.faults.fault.Statement.{statement}
 use Rattle.sheet.proofs.faults.fault.Tie as tie
 use Rattle.sheet.proofs.faults.fault.Reads as reads
 use Rattle.sheet.proofs.faults.fault.Lts as lts
-use Rattle.sheet.proofs.access.frames.Reads as frames-reads
+use Rattle.frames.proofs.frames.Reads as frames-reads
 use Rattle.sheet.proofs.heads.head_fault.Reads as head-fault-reads
 use Rattle.sheet.proofs.records.blocks_fault.Reads as blocks-fault-reads
 use Rattle.sheet.proofs.records.check_fault.Reads as check-fault-reads

@@ -4,8 +4,8 @@ use Rattle.sheet.proofs.heads.head_fault.Statement.{statement}
 use Rattle.sheet.proofs.heads.head_fault.Tie as tie
 use Rattle.sheet.proofs.heads.head_fault.Reads as reads
 use Rattle.sheet.proofs.heads.head_fault.Lts as lts
-use Rattle.sheet.proofs.access.frames.Reads as frames-reads
-use Rattle.sheet.proofs.access.timescale.Reads as timescale-reads
+use Rattle.frames.proofs.frames.Reads as frames-reads
+use Rattle.frames.proofs.timescale.Reads as timescale-reads
 use Rattle.sheet.proofs.heads.spare_fault.Reads as spare-fault-reads
 
 timescale-requires : tie.Need-timescale-requires

@@ -3,7 +3,8 @@ use mathlib.Core.Path.{_≡_}
 use native.Mathlib.Omega.{arith}
 use Rattle.base.specs.Refusal.{firstOf}
 use Rattle.base.proofs.RefusalLaws.{left-start, left-here, left-done}
-use Rattle.sheet.specs.Sheet.{recordFault, recordWord}
+use Rattle.frames.specs.Frames.{recordWord}
+use Rattle.sheet.specs.Sheet.{recordFault}
 use Rattle.sheet.proofs.FaultLaws.{left-pass}
 use borrow.Author.Needs.{needs}
 use Rattle.sheet.proofs.records.records_fault.Statement.{statement}

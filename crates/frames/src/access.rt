@@ -3,7 +3,7 @@ use order::DecodeIdx;
 use order::DisplayIdx;
 ghost use mathlib.Core.Path.{_≡_};
 ghost use Prim.Native.Nat.{_<_, _^_};
-ghost use Rattle.sheet.specs.Sheet.{timescaleOf, framesOf, rateNumOf, rateDenOf, recordWord, decodeOf, syncOf, durationOf};
+ghost use Rattle.frames.specs.Frames.{timescaleOf, framesOf, rateNumOf, rateDenOf, recordWord, decodeOf, syncOf, durationOf};
 
 // T, ticks a second.
 pub fn timescale(s: &[u8]) -> u32

@@ -1,9 +1,9 @@
-use Rattle.sheet.specs.Sheet.{rateNumOf}
+use Rattle.frames.specs.Frames.{rateNumOf}
 use borrow.Author.Needs.{needs}
-use Rattle.sheet.proofs.access.rate_num.Statement.{statement}
-use Rattle.sheet.proofs.access.rate_num.Tie as tie
-use Rattle.sheet.proofs.access.rate_num.Reads as reads
-use Rattle.sheet.proofs.access.rate_num.Lts as lts
+use Rattle.frames.proofs.access.rate_num.Statement.{statement}
+use Rattle.frames.proofs.access.rate_num.Tie as tie
+use Rattle.frames.proofs.access.rate_num.Reads as reads
+use Rattle.frames.proofs.access.rate_num.Lts as lts
 use Rattle.blocks.proofs.word.Reads as word-reads
 
 word-requires : tie.Need-word-requires

@@ -1,9 +1,9 @@
-use Rattle.sheet.specs.Sheet.{recordWord}
+use Rattle.frames.specs.Frames.{recordWord}
 use borrow.Author.Needs.{needs}
-use Rattle.sheet.proofs.access.record_word.Statement.{statement}
-use Rattle.sheet.proofs.access.record_word.Tie as tie
-use Rattle.sheet.proofs.access.record_word.Reads as reads
-use Rattle.sheet.proofs.access.record_word.Lts as lts
+use Rattle.frames.proofs.access.record_word.Statement.{statement}
+use Rattle.frames.proofs.access.record_word.Tie as tie
+use Rattle.frames.proofs.access.record_word.Reads as reads
+use Rattle.frames.proofs.access.record_word.Lts as lts
 
 add-result : tie.Need-add-result
 add-result c = search needs

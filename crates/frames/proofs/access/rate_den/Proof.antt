@@ -1,9 +1,9 @@
-use Rattle.sheet.specs.Sheet.{rateDenOf}
+use Rattle.frames.specs.Frames.{rateDenOf}
 use borrow.Author.Needs.{needs}
-use Rattle.sheet.proofs.access.rate_den.Statement.{statement}
-use Rattle.sheet.proofs.access.rate_den.Tie as tie
-use Rattle.sheet.proofs.access.rate_den.Reads as reads
-use Rattle.sheet.proofs.access.rate_den.Lts as lts
+use Rattle.frames.proofs.access.rate_den.Statement.{statement}
+use Rattle.frames.proofs.access.rate_den.Tie as tie
+use Rattle.frames.proofs.access.rate_den.Reads as reads
+use Rattle.frames.proofs.access.rate_den.Lts as lts
 use Rattle.blocks.proofs.word.Reads as word-reads
 
 word-requires : tie.Need-word-requires

@@ -1,11 +1,11 @@
-use Rattle.sheet.proofs.FaultLaws.{sync-is}
+use Rattle.frames.proofs.FrameLaws.{sync-is}
 use borrow.Author.Needs.{needs}
-use Rattle.sheet.proofs.access.sync_at.Statement.{statement}
-use Rattle.sheet.proofs.access.sync_at.Tie as tie
-use Rattle.sheet.proofs.access.sync_at.Reads as reads
-use Rattle.sheet.proofs.access.sync_at.Lts as lts
+use Rattle.frames.proofs.access.sync_at.Statement.{statement}
+use Rattle.frames.proofs.access.sync_at.Tie as tie
+use Rattle.frames.proofs.access.sync_at.Reads as reads
+use Rattle.frames.proofs.access.sync_at.Lts as lts
 use Rattle.blocks.proofs.word.Reads as word-reads
-use Rattle.sheet.proofs.access.record_word.Reads as record-word-reads
+use Rattle.frames.proofs.access.record_word.Reads as record-word-reads
 
 record-word-requires : tie.Need-record-word-requires
 record-word-requires c κs = search needs

@@ -1,9 +1,9 @@
-use Rattle.sheet.specs.Sheet.{framesOf}
+use Rattle.frames.specs.Frames.{framesOf}
 use borrow.Author.Needs.{needs}
-use Rattle.sheet.proofs.access.frames.Statement.{statement}
-use Rattle.sheet.proofs.access.frames.Tie as tie
-use Rattle.sheet.proofs.access.frames.Reads as reads
-use Rattle.sheet.proofs.access.frames.Lts as lts
+use Rattle.frames.proofs.access.frames.Statement.{statement}
+use Rattle.frames.proofs.access.frames.Tie as tie
+use Rattle.frames.proofs.access.frames.Reads as reads
+use Rattle.frames.proofs.access.frames.Lts as lts
 use Rattle.blocks.proofs.word.Reads as word-reads
 
 word-requires : tie.Need-word-requires

@@ -1,9 +1,9 @@
-use Rattle.sheet.specs.Sheet.{timescaleOf}
+use Rattle.frames.specs.Frames.{timescaleOf}
 use borrow.Author.Needs.{needs}
-use Rattle.sheet.proofs.access.timescale.Statement.{statement}
-use Rattle.sheet.proofs.access.timescale.Tie as tie
-use Rattle.sheet.proofs.access.timescale.Reads as reads
-use Rattle.sheet.proofs.access.timescale.Lts as lts
+use Rattle.frames.proofs.access.timescale.Statement.{statement}
+use Rattle.frames.proofs.access.timescale.Tie as tie
+use Rattle.frames.proofs.access.timescale.Reads as reads
+use Rattle.frames.proofs.access.timescale.Lts as lts
 use Rattle.blocks.proofs.word.Reads as word-reads
 
 word-requires : tie.Need-word-requires

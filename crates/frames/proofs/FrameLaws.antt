@@ -1,0 +1,20 @@
+-- Laws of what a record of a sheet says.
+use Prim.Native.Nat.{ℕ, _+_, _%_}
+use mathlib.Core.List.{List}
+use mathlib.Core.Path.{_≡_}
+use lib.Dec.{leb}
+use Rattle.blocks.specs.Block.{wordAt}
+use Rattle.frames.specs.Frames.{recordWord, decodeOf, syncOf, durationOf}
+
+-- x is the word at w
+pub decode-is : (s : List ℕ) (i w x : ℕ) → w ≡ recordWord i → x ≡ wordAt s w → x % 2147483648 ≡ decodeOf s i
+unfolding decodeOf
+decode-is s i w x ew ex = rw (ex, ew)
+
+pub sync-is : (s : List ℕ) (i w x : ℕ) → w ≡ recordWord i → x ≡ wordAt s w → leb 2147483648 x ≡ syncOf s i
+unfolding syncOf
+sync-is s i w x ew ex = rw (ex, ew)
+
+pub duration-is : (s : List ℕ) (i w x : ℕ) → w ≡ recordWord i → x ≡ wordAt s (w + 1) → x ≡ durationOf s i
+unfolding durationOf
+duration-is s i w x ew ex = rw (ex, ew)

@@ -1,0 +1,2 @@
+-- What a frame sheet says.
+pub mod Frames

@@ -1,0 +1,10 @@
+// The frames of a sheet, read place by place. No exported function has a `requires`.
+mod access;
+
+pub use access::decode_at;
+pub use access::duration_at;
+pub use access::frames;
+pub use access::rate_den;
+pub use access::rate_num;
+pub use access::sync_at;
+pub use access::timescale;
