@@ -401,9 +401,9 @@ none-stored : endedSession (record { kind = 0; timescale = 1 }) 0 0 noCounts ≡
 unfolding stored padded
 none-stored = refl
 
--- the session that open returns with 0
-abbrev pub freshSession : (kind T : ℕ) → Session
-freshSession kind T =
+-- a session that nothing was fed to, with columns k
+abbrev freshWith : (kind T : ℕ) → Columns → Session
+freshWith kind T k =
     record {
       config = record { kind = kind; timescale = T };
       ended = false;
@@ -411,10 +411,14 @@ freshSession kind T =
       taken = 0;
       lines = 0;
       counts = noCounts;
-      columns = noColumns;
+      columns = k;
       «held_len» = 0;
       held = replicate mostHeld 0;
     }
+
+-- the session that open returns with 0
+abbrev freshSession : (kind T : ℕ) → Session
+freshSession kind T = freshWith kind T noColumns
 
 fresh-stored : (kind T : ℕ) → freshSession kind T ≡ stored (fresh kit (record { kind = kind; timescale = T }))
 unfolding stored padded
@@ -435,22 +439,7 @@ open-admits false true c e = absurd (let z : _≡_ {A = ℕ} 16 0 = e in omega a
 open-admits false false c e = refl
 
 pub opened-fresh : (kind T : ℕ) (m : List ℕ) (n : ℕ) (k : Columns) → n ≡ openOf kind T m .number → n ≡ 0 → k ≡ noColumns
-    → OpenAnswered kind T m
-    (record {
-      number = 0;
-      session =
-          record {
-            config = record { kind = kind; timescale = T };
-            ended = false;
-            outcome = 0;
-            taken = 0;
-            lines = 0;
-            counts = noCounts;
-            columns = k;
-            «held_len» = 0;
-            held = replicate mostHeld 0;
-          };
-    })
+    → OpenAnswered kind T m (record { number = 0; session = freshWith kind T k })
 unfolding openOf
 opened-fresh kind T m n k e f g =
     rw g
