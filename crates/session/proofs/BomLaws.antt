@@ -11,7 +11,7 @@ use borrow.Author.Tests.{eq-eqb, ne-eqb}
 use Rattle.base.specs.Put.{put, putAt}
 use Rattle.base.proofs.PartLaws.{rest-all}
 use Rattle.base.proofs.PutLaws.{put-nil, put-two, put-snoc, put-append, tail-back, putAt-nil, putAt-zero}
-use Rattle.text.specs.Find.{starts}
+use Rattle.pattern.specs.Find.{starts}
 use Rattle.event.specs.declared.setting.Config.{Config}
 use Rattle.event.specs.Says.{Part, stays}
 use Rattle.event.specs.Emit.{Warning, emitBy, emitsOf, outputOf, warningsOf, placesOf}
