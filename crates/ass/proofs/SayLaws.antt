@@ -10,7 +10,7 @@ use lib.Dec.{eqb, ltb, leb}
 use lib.ListN.{length, take, drop, length-append, length-drop}
 use Rattle.base.specs.Put.{put}
 use Rattle.white.specs.White.{trim}
-use Rattle.text.specs.Find.{starts, equals}
+use Rattle.pattern.specs.Find.{starts, equals}
 use Rattle.text.specs.Line.{textOf, terminatorOf}
 use Rattle.text.proofs.LineLaws.{text-terminator}
 use Rattle.stamp.specs.declared.read.Time.{Time}

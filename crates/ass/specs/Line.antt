@@ -5,7 +5,7 @@ use Prim.Native.Nat.{ℕ, suc}
 use lib.Dec.{eqb, ltb}
 use lib.ListN.{length, drop}
 use Rattle.white.specs.White.{trim}
-use Rattle.text.specs.Find.{starts, equals}
+use Rattle.pattern.specs.Find.{starts, equals}
 use Rattle.text.specs.Line.{textOf, terminatorOf}
 use Rattle.stamp.specs.Read.{timeIn}
 use Rattle.stamp.specs.declared.read.Time.{Time}

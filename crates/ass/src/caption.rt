@@ -249,7 +249,7 @@ fn event_line(
 {
     let at = n as u64 + 1;
     let t = text::text_of(text);
-    if text::starts_with(t, b"Format:") {
+    if pattern::starts_with(t, b"Format:") {
         let told = stayed(text, out);
         let next = columns_of(base::rest(t, 7));
         return LineTold {
@@ -257,11 +257,11 @@ fn event_line(
             columns: next,
         };
     }
-    if text::starts_with(t, b"Dialogue:") {
+    if pattern::starts_with(t, b"Dialogue:") {
         let told = caption(config, map, columns, at, text, b"Dialogue:", out, warnings);
         return LineTold { told, columns };
     }
-    if text::starts_with(t, b"Comment:") {
+    if pattern::starts_with(t, b"Comment:") {
         let told = caption(config, map, columns, at, text, b"Comment:", out, warnings);
         return LineTold { told, columns };
     }

@@ -7,16 +7,16 @@ use native.Mathlib.Omega.{arith}
 use borrow.Author.Tests.{lt-ltb, ltb-true, ltb-false, eq-eqb, ne-eqb, eqb-false}
 use lib.Dec.{ltb, eqb}
 use lib.ListN.{length, take, drop, length-append}
-use Rattle.text.specs.Find.{starts, first, contains}
+use Rattle.pattern.specs.Find.{starts, first, contains}
 use Rattle.text.proofs.LineEnds.{lastOf, last-append, last-drop, last-some}
-use Rattle.text.proofs.Free.{Free, first-free, up-byte, past-byte}
+use Rattle.pattern.proofs.Free.{Free, first-free, up-byte, past-byte}
 use Rattle.event.specs.Says.{Piece, bytes, start, stop}
 use Rattle.event.specs.Emit.{render}
 use Rattle.columns.specs.Columns.{fields, fieldAt}
 use Rattle.assline.specs.Frame.{pieceAt, fieldPieces, pieceText}
 use Rattle.columns.proofs.FieldLaws.{fields-some, fields-one, fields-last}
 use Rattle.assline.proofs.WriteLaws.{frame-one, pieces-more, piece-text, is-bytes, render-step, render-nil}
-use Rattle.text.specs.Piece.{comma}
+use Rattle.pattern.specs.Piece.{comma}
 
 -- ---- commas
 -- what stands before the first comma has none

@@ -8,7 +8,7 @@ use borrow.Author.Tests.{ltb-true, ltb-false, eqb-true}
 use lib.Dec.{ltb, eqb}
 use lib.ListN.{length, take, drop, length-drop}
 use lib.Seq.{length-take-le}
-use Rattle.text.specs.Find.{first}
+use Rattle.pattern.specs.Find.{first}
 use Rattle.stamp.specs.declared.read.Time.the-variants.{At}
 use Rattle.stamp.specs.Read.{timeIn}
 use Rattle.stamp.proofs.Reading.{time-long}
@@ -18,7 +18,7 @@ use Rattle.columns.specs.Columns.{fields, fieldAt}
 use Rattle.assline.specs.Frame.{pieceAt, fieldPieces, lineFrame, frameMost}
 use Rattle.columns.proofs.FieldLaws.{fields-more, fields-last, fields-none, fields-one, fields-least, at-first, at-next}
 use Rattle.assline.proofs.WriteLaws.{frame-one, pieces-more}
-use Rattle.text.specs.Piece.{comma}
+use Rattle.pattern.specs.Piece.{comma}
 
 -- fields, each with a comma
 abbrev pub spread : List (List ℕ) → ℕ

@@ -9,7 +9,7 @@ use borrow.Author.Tests.{lt-ltb, le-ltb, ltb-true, ltb-false}
 use lib.Dec.{ltb}
 use lib.ListN.{length, take, drop, getD, drop-of-length-le}
 use lib.Seq.{drop-cons}
-use Rattle.text.specs.Find.{starts, first, contains}
+use Rattle.pattern.specs.Find.{starts, first, contains}
 use Rattle.assline.specs.Tags.{tags, holdsAny, tagged}
 
 -- s begins with one of ts

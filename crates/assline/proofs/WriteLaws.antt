@@ -10,14 +10,14 @@ use lib.Dec.{eqb, leb}
 use lib.ListN.{length, take, drop, length-append, length-take, length-drop}
 use Rattle.base.specs.Put.{put, putAt, placed, placedLength, placedAt, placeAfter}
 use Rattle.base.proofs.PutLaws.{put-nil, length-put, take-put, placed-yes, length-yes, then-placed}
-use Rattle.text.specs.Find.{first}
+use Rattle.pattern.specs.Find.{first}
 use Rattle.event.specs.Says.{Piece, bytes, start, stop}
 use Rattle.event.specs.Emit.{render}
 use Rattle.columns.specs.declared.layout.Columns.{Columns}
 use Rattle.columns.specs.Columns.{fields}
 use Rattle.assline.specs.Frame.{pieceAt, fieldPieces, lineFrame, pieceText, framePlaced, frameAfter}
 use Rattle.columns.proofs.FieldLaws.{fields-none, fields-least, head-last, head-two, head-more}
-use Rattle.text.specs.Piece.{comma}
+use Rattle.pattern.specs.Piece.{comma}
 
 -- ---- the pieces of fields
 pub frame-none : (i j k : ℕ) → fieldPieces i j k [] ≡ []

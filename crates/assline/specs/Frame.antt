@@ -7,7 +7,7 @@ use lib.ListN.{length}
 use Rattle.base.specs.Put.{placedAt, placeAfter}
 use Rattle.event.specs.Says.{Piece, bytes, start, stop}
 use Rattle.columns.specs.declared.layout.Columns.{Columns}
-use Rattle.text.specs.Piece.{comma}
+use Rattle.pattern.specs.Piece.{comma}
 
 -- the piece of the field at place k: the end's time, the start's, or the field as it stands. (Where both have one place, the end's wins.)
 unfoldable pub pieceAt : (start stop k : ℕ) → List ℕ → Piece

@@ -2,7 +2,7 @@
 use mathlib.Core.Bool.{Bool, true, false, cond}
 use mathlib.Core.List.{List, [], _∷_}
 use Prim.Native.Nat.{ℕ}
-use Rattle.text.specs.Find.{contains}
+use Rattle.pattern.specs.Find.{contains}
 
 -- `\move(`, `\t(`, `\fad(`, `\fade(`, `\k`
 abbrev pub tags : List (List ℕ)

@@ -3,7 +3,7 @@ ghost use mathlib.Core.Path.{_≡_};
 ghost use mathlib.Core.List.{[]};
 ghost use Prim.Native.Nat.{_<_};
 ghost use lib.ListN.{getD};
-ghost use Rattle.text.specs.Find.{starts};
+ghost use Rattle.pattern.specs.Find.{starts};
 ghost use Rattle.assline.specs.Tags.{tags, tagged};
 
 // Whether `s` begins with tag `k`.
@@ -12,11 +12,11 @@ fn tag_at(s: &[u8], k: usize) -> bool
     ensures { λ r. ⌜ r ≡ starts (getD tags k []) (now (s .entry)) ⌝ }
 {
     match k {
-        0 => text::starts_with(s, b"\\move("),
-        1 => text::starts_with(s, b"\\t("),
-        2 => text::starts_with(s, b"\\fad("),
-        3 => text::starts_with(s, b"\\fade("),
-        _ => text::starts_with(s, b"\\k"),
+        0 => pattern::starts_with(s, b"\\move("),
+        1 => pattern::starts_with(s, b"\\t("),
+        2 => pattern::starts_with(s, b"\\fad("),
+        3 => pattern::starts_with(s, b"\\fade("),
+        _ => pattern::starts_with(s, b"\\k"),
     }
 }
 

@@ -7,7 +7,7 @@ ghost use Rattle.stamp.specs.Write.{timeText};
 ghost use Rattle.base.specs.Put.{placedAt, placeAfter};
 ghost use Rattle.columns.specs.Columns.{fields};
 ghost use Rattle.assline.specs.Frame.{pieceAt, fieldPieces, lineFrame, pieceText, framePlaced, frameAfter};
-ghost use Rattle.text.specs.Piece.{comma};
+ghost use Rattle.pattern.specs.Piece.{comma};
 
 // Two times in units, each with the mark before its fraction.
 pub struct Times {

@@ -8,7 +8,7 @@ use borrow.Author.Tests.{ne-eqb, eqb-true, eqb-false, ltb-true, ltb-false}
 use lib.Dec.{eqb, ltb}
 use lib.ListN.{length, take, drop}
 use Rattle.white.specs.White.{white, whiteHigh, keepFrom, trimHead, trimTail, trim}
-use Rattle.text.specs.Find.{starts, equals}
+use Rattle.pattern.specs.Find.{starts, equals}
 use Rattle.text.specs.Line.{textOf, terminatorOf}
 use Rattle.white.proofs.Laws.{white-ascii, head-none}
 use Rattle.text.proofs.LineEnds.{lastOf, last-append, last-some, Ended, ended-swap, text-again, terminator-again, line-ended}
@@ -17,7 +17,7 @@ use Rattle.stamp.specs.declared.read.Time.the-variants.{At, Bad}
 use Rattle.time.specs.Kind.{kindBad, unitsOf, markOf, fractionDigits, hourDigits}
 use Rattle.stamp.specs.Read.{timeIn}
 use Rattle.stamp.specs.Write.{pad, widest, textWith, timeText}
-use Rattle.text.proofs.Free.{Free, none-free}
+use Rattle.pattern.proofs.Free.{Free, none-free}
 use Rattle.stamp.proofs.Reading.{time-long, time-mark}
 use Rattle.stamp.proofs.ReadFree.{read-free}
 use Rattle.stamp.proofs.Written.{text-some}

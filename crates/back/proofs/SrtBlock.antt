@@ -10,9 +10,10 @@ use lib.Seq.{drop-drop, getD-drop}
 use lib.ListN.{length, drop, getD, length-append, drop-of-length-le}
 use Rattle.base.specs.Width.{byWidth}
 use Rattle.utf8.specs.Utf8.{tail}
-use Rattle.text.specs.Find.{first, contains, upTo, past}
+use Rattle.pattern.specs.Find.{first, contains, upTo, past}
 use Rattle.white.specs.White.{whiteHead, headFrom, trimHead}
-use Rattle.text.specs.Line.{ontoFirst, linesOf, concat, lineCount, textOf, terminatorOf, endsLine, hasLf}
+use Rattle.pattern.specs.Piece.{ontoFirst}
+use Rattle.text.specs.Line.{linesOf, concat, lineCount, textOf, terminatorOf, endsLine, hasLf}
 use Rattle.text.proofs.LineLaws.{text-terminator, line-then, line-last}
 use Rattle.text.proofs.LineEnds.{lastOf, last-append, last-drop, Ended, ended-swap, text-again, terminator-again, line-ended}
 use Rattle.stamp.specs.declared.read.Time.{Time}

@@ -8,7 +8,7 @@ use borrow.Author.Tests.{lt-ltb, le-ltb, lt-leb, ne-eqb}
 use lib.Seq.{take-at, drop-at, getD-append-add}
 use lib.ListN.{length, take, drop, getD, length-append}
 use Rattle.utf8.specs.Utf8.{tail}
-use Rattle.text.specs.Find.{starts, first, contains, upTo, past}
+use Rattle.pattern.specs.Find.{starts, first, contains, upTo, past}
 use Rattle.white.specs.White.{white, whiteHigh, trimHead, trimTail, trim}
 use Rattle.text.specs.Line.{textOf, terminatorOf, hasLf}
 use Rattle.unicode.specs.Encode.{Scalar}

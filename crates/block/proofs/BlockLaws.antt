@@ -9,7 +9,7 @@ use lib.ListN.{length, take, drop}
 use Rattle.base.specs.Put.{put, placed, placedLength}
 use Rattle.base.proofs.PartLaws.{part-lengths}
 use Rattle.base.proofs.PutLaws.{put-nil, placed-yes, length-yes}
-use Rattle.text.specs.Find.{upTo}
+use Rattle.pattern.specs.Find.{upTo}
 use Rattle.text.specs.Line.{linesOf, textOf, terminatorOf}
 use Rattle.text.proofs.LineLaws.{lines-joined}
 use Rattle.stamp.specs.declared.read.Time.{Time}

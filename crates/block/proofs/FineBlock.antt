@@ -6,7 +6,7 @@ use Prim.Native.Nat.{ℕ, _+_, _*_, _≤_, _<_}
 use native.Mathlib.Omega.{arith}
 use borrow.Author.Tests.{le-ltb}
 use lib.ListN.{length}
-use Rattle.text.specs.Find.{upTo}
+use Rattle.pattern.specs.Find.{upTo}
 use Rattle.text.specs.Line.{linesOf, concat, lineCount, textOf, terminatorOf, hasLf}
 use Rattle.text.proofs.LineLaws.{Finished, lines-back, line-last}
 use Rattle.stamp.specs.declared.read.Time.{Time}

@@ -6,7 +6,7 @@ use Prim.Native.Nat.{ℕ, _+_, _*_, _≤_}
 use native.Mathlib.Omega.{arith}
 use lib.Dec.{ltb}
 use lib.ListN.{length, length-append}
-use Rattle.text.specs.Find.{upTo}
+use Rattle.pattern.specs.Find.{upTo}
 use Rattle.text.specs.Line.{linesOf, concat, lineCount, textOf, terminatorOf}
 use Rattle.text.proofs.LineLaws.{lines-joined}
 use Rattle.stamp.specs.declared.read.Time.{Time}

@@ -8,10 +8,11 @@ use lib.ListN.{length, take, drop, length-append}
 use Rattle.base.specs.Put.{put, placedAt, placeAfter}
 use Rattle.base.proofs.PartLaws.{part-lengths}
 use Rattle.base.proofs.PutLaws.{put-nil, then-placed}
-use Rattle.text.specs.Find.{upTo, past}
+use Rattle.pattern.specs.Find.{upTo, past}
 use Rattle.white.specs.White.{trimHead}
 use Rattle.text.specs.Line.{textOf, terminatorOf}
-use Rattle.text.proofs.LineLaws.{text-terminator, up-past, trim-head-length}
+use Rattle.pattern.proofs.Laws.{up-past}
+use Rattle.text.proofs.LineLaws.{text-terminator, trim-head-length}
 use Rattle.stamp.specs.declared.read.Time.the-variants.{At}
 use Rattle.stamp.specs.Read.{timeIn}
 use Rattle.stamp.specs.Write.{timeText}

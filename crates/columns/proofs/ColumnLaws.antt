@@ -10,10 +10,10 @@ use lib.Dec.{eqb}
 use lib.ListN.{length, take, drop, getD, length-drop}
 use lib.Seq.{take-all}
 use Rattle.white.specs.White.{trim}
-use Rattle.text.specs.Find.{equals, first}
-use Rattle.text.specs.Piece.{pieces, comma}
-use Rattle.text.proofs.Laws.{equals-true}
-use Rattle.text.proofs.PieceLaws.{pieces-none, pieces-some}
+use Rattle.pattern.specs.Find.{equals, first}
+use Rattle.pattern.specs.Piece.{pieces, comma}
+use Rattle.pattern.proofs.Laws.{equals-true}
+use Rattle.pattern.proofs.PieceLaws.{pieces-none, pieces-some}
 use Rattle.columns.specs.declared.layout.Columns.{Columns}
 use Rattle.columns.specs.Columns.{startName, endName, namesIn, further, placeIn, columnsIn}
 

@@ -8,9 +8,9 @@ use borrow.Author.Tests.{lt-ltb, le-ltb, le-leb, lt-leb, ltb-true, ltb-false, le
 use lib.Dec.{ltb, leb}
 use lib.ListN.{length, take, drop, length-drop}
 use lib.Seq.{take-all}
-use Rattle.text.specs.Find.{first, contains, upTo, past}
+use Rattle.pattern.specs.Find.{first, contains, upTo, past}
 use Rattle.columns.specs.Columns.{fields, fieldAt}
-use Rattle.text.specs.Piece.{comma}
+use Rattle.pattern.specs.Piece.{comma}
 
 pub fields-some : (n : ℕ) (s : List ℕ) → first comma s < length s → fields (suc (suc n)) s ≡ take (first comma s) s ∷ fields (suc n) (drop (first comma s + 1) s)
 unfolding fields contains upTo past

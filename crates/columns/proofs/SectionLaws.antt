@@ -6,7 +6,7 @@ use Prim.Native.Nat.{ℕ, _-_, _≤_, _<_}
 use borrow.Author.Tests.{lt-ltb, le-ltb, eq-eqb, ne-eqb}
 use lib.Dec.{eqb}
 use lib.ListN.{length, take, drop, getD}
-use Rattle.text.specs.Find.{equals}
+use Rattle.pattern.specs.Find.{equals}
 use Rattle.columns.specs.Section.{eventsName, bracketed, inside}
 
 pub section-short : (t : List ℕ) → length t < 2 → false ≡ bracketed t

@@ -4,8 +4,8 @@ use mathlib.Core.List.{List, [], _∷_, map}
 use Prim.Native.Nat.{ℕ, zero, suc}
 use lib.ListN.{length}
 use Rattle.white.specs.White.{trim}
-use Rattle.text.specs.Find.{equals, contains, upTo, past}
-use Rattle.text.specs.Piece.{comma, pieces}
+use Rattle.pattern.specs.Find.{equals, contains, upTo, past}
+use Rattle.pattern.specs.Piece.{comma, pieces}
 use Rattle.columns.specs.declared.layout.Columns.{Columns}
 
 -- `Start`, `End`

@@ -3,9 +3,9 @@ ghost use mathlib.Core.Path.{_≡_};
 ghost use mathlib.Core.Bool.{cond};
 ghost use lib.Dec.{leb};
 ghost use lib.ListN.{length};
-ghost use Rattle.text.specs.Find.{first};
+ghost use Rattle.pattern.specs.Find.{first};
 ghost use Rattle.columns.specs.Columns.{fields, fieldAt};
-ghost use Rattle.text.specs.Piece.{comma};
+ghost use Rattle.pattern.specs.Piece.{comma};
 
 // How many bytes the first of at most `left` fields has.
 pub fn field_length(t: &[u8], left: usize) -> usize
@@ -14,7 +14,7 @@ pub fn field_length(t: &[u8], left: usize) -> usize
     if left <= 1 {
         return t.len();
     }
-    text::find(t, b",")
+    pattern::find(t, b",")
 }
 
 // Whether `s` has as many fields as there are columns.
@@ -24,7 +24,7 @@ pub fn enough(s: &[u8], columns: usize) -> bool
     let mut t = s;
     let mut left = columns;
     while 1 < left {
-        let i = text::find(t, b",");
+        let i = pattern::find(t, b",");
         if t.len() <= i {
             return false;
         }
@@ -49,7 +49,7 @@ pub fn field(s: &[u8], columns: usize, place: usize) -> &[u8]
     let mut left = columns;
     let mut k = place;
     while 1 < k {
-        let i = text::find(t, b",");
+        let i = pattern::find(t, b",");
         if t.len() <= i {
             return base::front(t, 0);
         }

@@ -2,7 +2,7 @@
 ghost use mathlib.Core.Path.{_≡_};
 ghost use mathlib.Core.Bool.{cond};
 ghost use lib.Dec.{eqb};
-ghost use Rattle.text.specs.Find.{equals};
+ghost use Rattle.pattern.specs.Find.{equals};
 ghost use Rattle.columns.specs.Columns.{startName, endName, columnsIn};
 
 // Whether the section is Events, how many columns the last `Format:` line had, and the places of Start and End among them, from 1; 0: absent.
@@ -16,13 +16,13 @@ pub struct Columns {
 fn is_start(name: &[u8]) -> bool
     ensures { λ r. ⌜ r ≡ equals startName (now (name .entry)) ⌝ }
 {
-    text::equals(name, b"Start")
+    pattern::equals(name, b"Start")
 }
 
 fn is_end(name: &[u8]) -> bool
     ensures { λ r. ⌜ r ≡ equals endName (now (name .entry)) ⌝ }
 {
-    text::equals(name, b"End")
+    pattern::equals(name, b"End")
 }
 
 // The first place that was met: the one before, else this one where it is met.
@@ -44,7 +44,7 @@ pub fn columns_of(s: &[u8]) -> Columns
     let mut start: usize = 0;
     let mut end: usize = 0;
     loop {
-        let i = text::find(t, b",");
+        let i = pattern::find(t, b",");
         let name = white::trimmed(base::front(t, i));
         columns += 1;
         start = first_place(start, columns, is_start(name));

@@ -1,7 +1,7 @@
 // Lines that name a section.
 use crate::layout::Columns;
 ghost use mathlib.Core.Path.{_≡_};
-ghost use Rattle.text.specs.Find.{equals};
+ghost use Rattle.pattern.specs.Find.{equals};
 ghost use Rattle.columns.specs.Section.{eventsName, bracketed, inside, inSection};
 
 // Whether a trimmed line goes from `[` to `]`.
@@ -23,7 +23,7 @@ pub fn names_events(t: &[u8]) -> bool
     ensures { λ r. ⌜ r ≡ equals eventsName (inside (now (t .entry))) ⌝ }
 {
     let name = base::front(base::rest(t, 1), base::less(t.len(), 2));
-    text::equals(name, b"Events")
+    pattern::equals(name, b"Events")
 }
 
 // The columns stay from section to section.

@@ -3,7 +3,7 @@ use mathlib.Core.Bool.{Bool, true, false, cond}
 use mathlib.Core.List.{List, [], _∷_}
 use Prim.Native.Nat.{ℕ}
 use lib.ListN.{drop}
-use Rattle.text.specs.Find.{starts}
+use Rattle.pattern.specs.Find.{starts}
 use Rattle.event.specs.Says.{Part, stays}
 
 abbrev pub bom : List ℕ

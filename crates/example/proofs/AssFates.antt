@@ -7,8 +7,8 @@ use Rattle.base.specs.Part.{last}
 use Rattle.base.specs.Refusal.{_orElse_, faultUnless}
 use Rattle.utf8.specs.Utf8.{leadLen, secondLow, secondHigh, tail, widthBy, charWidth, utf8From, utf8, codeBy, codeHead}
 use Rattle.white.specs.White.{whiteHigh, white, whiteHead, endsWhite, whiteTail, headFrom, keepFrom, trimHead, trimTail, trim}
-use Rattle.text.specs.Find.{starts, equals, first, contains, upTo, past}
-use Rattle.text.specs.Piece.{piecesFrom, pieces}
+use Rattle.pattern.specs.Find.{starts, equals, first, contains, upTo, past}
+use Rattle.pattern.specs.Piece.{piecesFrom, pieces}
 use Rattle.text.specs.Number.{digit, digits, valueFrom, natural, unsigned, number}
 use Rattle.text.specs.Line.{linesOf, textOf, terminatorLength, terminatorOf}
 use Rattle.time.specs.Kind.{kindBad, unitsOf, markOf}

@@ -10,9 +10,10 @@ use borrow.Author.Tests.{le-ltb, ltb-false}
 use Rattle.base.specs.Limits.{mostLine, mostColumns}
 use Rattle.base.proofs.Laws.{or-left, or-right}
 use Rattle.white.specs.White.{trim}
-use Rattle.text.specs.Find.{starts, equals}
-use Rattle.text.specs.Piece.{piecesFrom, pieces, comma}
-use Rattle.text.specs.Line.{ontoFirst, terminatorLength, textOf, terminatorOf}
+use Rattle.pattern.specs.Find.{starts, equals}
+use Rattle.pattern.specs.Piece.{piecesFrom, pieces, comma}
+use Rattle.pattern.specs.Piece.{ontoFirst}
+use Rattle.text.specs.Line.{terminatorLength, textOf, terminatorOf}
 use Rattle.stamp.specs.Read.{timeIn}
 use Rattle.stamp.specs.declared.read.Time.{Time}
 use Rattle.stamp.specs.declared.read.Time.the-variants.{At, Bad}

@@ -11,7 +11,7 @@ use borrow.Author.Tests.{eq-eqb, ne-eqb}
 use Rattle.base.specs.Put.{put, putAt, placed}
 use Rattle.base.proofs.PartLaws.{rest-all}
 use Rattle.base.proofs.PutLaws.{put-nil, put-append, tail-back, putAt-nil, putAt-zero, placed-yes, length-tail}
-use Rattle.text.specs.Find.{starts}
+use Rattle.pattern.specs.Find.{starts}
 use Rattle.segmap.specs.declared.segment.Segment.{Segment}
 use Rattle.event.specs.declared.setting.Config.{Config}
 use Rattle.event.specs.Says.{stays, faultNumber}

@@ -126,7 +126,7 @@ fn any_line(
 fn has_bom(line: &[u8]) -> bool
     ensures { λ r. ⌜ r ≡ hasBom (now (line .entry)) ⌝ }
 {
-    text::starts_with(line, b"\xEF\xBB\xBF")
+    pattern::starts_with(line, b"\xEF\xBB\xBF")
 }
 
 // The bytes of the BOM that begins the line: 3 or 0.

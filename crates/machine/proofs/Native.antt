@@ -10,7 +10,7 @@ use borrow.Author.Tests.{leb-true, le-ltb}
 use Rattle.base.specs.Limits.{mostLine, mostTaken}
 use Rattle.base.proofs.Laws.{and-right}
 use Rattle.text.specs.Line.{hasLf}
-use Rattle.text.specs.Find.{equals}
+use Rattle.pattern.specs.Find.{equals}
 use Rattle.event.specs.declared.setting.Config.{Config}
 use Rattle.event.specs.Says.{Part, captionsIn}
 use Rattle.machine.specs.declared.counting.Counts.{Counts}

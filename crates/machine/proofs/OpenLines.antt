@@ -7,7 +7,7 @@ use native.Mathlib.Omega.{arith}
 use lib.Dec.{eqb}
 use lib.ListN.{length, drop}
 use borrow.Author.Tests.{eqb-true}
-use Rattle.text.specs.Find.{starts, equals}
+use Rattle.pattern.specs.Find.{starts, equals}
 use Rattle.text.specs.Line.{isEmpty, endsLine, hasLf}
 use Rattle.machine.specs.Machine.{bom, hasBom}
 

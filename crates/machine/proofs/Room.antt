@@ -9,7 +9,7 @@ use lib.ListN.{length, drop, length-append, length-drop}
 use borrow.Author.Tests.{leb-true}
 use Rattle.base.specs.Limits.{mostLine}
 use Rattle.base.proofs.Laws.{and-right}
-use Rattle.text.specs.Find.{equals}
+use Rattle.pattern.specs.Find.{equals}
 use Rattle.text.specs.Line.{hasLf}
 use Rattle.segmap.specs.declared.segment.Segment.{Segment}
 use Rattle.event.specs.declared.setting.Config.{Config}

@@ -5,7 +5,7 @@ use Prim.Native.Nat.{ℕ, suc}
 use lib.Dec.{leb, eqb}
 use lib.ListN.{length, drop}
 use Rattle.base.specs.Limits.{mostLine}
-use Rattle.text.specs.Find.{starts, equals}
+use Rattle.pattern.specs.Find.{starts, equals}
 use Rattle.event.specs.Says.{Part, stays, Fault, faultNumber}
 pub use Rattle.event.specs.Mark.{bom}
 

@@ -9,7 +9,7 @@ use lib.ListN.{length, drop}
 use borrow.Author.Tests.{ne-eqb}
 use Rattle.base.specs.Limits.{mostLine}
 use Rattle.base.specs.Refusal.{faultUnless}
-use Rattle.text.specs.Find.{starts, equals}
+use Rattle.pattern.specs.Find.{starts, equals}
 use Rattle.text.specs.Line.{concat}
 use Rattle.event.specs.Mark.{bom, markWritten}
 use Rattle.machine.specs.Cut.{Cut, before, push, cut, isLf, closedLines, unfinished}

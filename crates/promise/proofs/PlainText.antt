@@ -7,7 +7,7 @@ use lib.Dec.{eqb, leb}
 use lib.ListN.{length, drop}
 use Rattle.base.specs.Limits.{mostLine}
 use Rattle.base.proofs.Laws.{and-true}
-use Rattle.text.specs.Find.{starts}
+use Rattle.pattern.specs.Find.{starts}
 use Rattle.time.specs.Kind.{kindBad}
 use Rattle.event.specs.Mark.{bom, markWritten}
 use Rattle.time.proofs.Limits.{by-kind}

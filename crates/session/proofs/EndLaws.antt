@@ -12,7 +12,7 @@ use Rattle.base.specs.Limits.{mostBlock}
 use Rattle.base.specs.Put.{put, placed}
 use Rattle.base.proofs.Laws.{and-right}
 use Rattle.base.proofs.PutLaws.{put-nil, tail-back, putAt-nil, placed-yes, length-tail}
-use Rattle.text.specs.Find.{equals}
+use Rattle.pattern.specs.Find.{equals}
 use Rattle.utf8.specs.Utf8.{utf8}
 use Rattle.text.specs.Line.{concat, linesOf, lineCount, hasLf}
 use Rattle.time.specs.Kind.{kindBad}

@@ -6,7 +6,7 @@ use Prim.Native.Nat.{ℕ, _+_, _*_, _≤_, _<_, _^_}
 use lib.Dec.{eqb}
 use lib.ListN.{length, take}
 use Rattle.base.specs.Limits.{mostTaken, mostHeld, mostLine, mostBlock, leastOutput, leastPlaces}
-use Rattle.text.specs.Find.{equals}
+use Rattle.pattern.specs.Find.{equals}
 use Rattle.text.specs.Line.{concat}
 use Rattle.event.specs.declared.setting.Config.{Config}
 use Rattle.event.specs.Says.{Part}

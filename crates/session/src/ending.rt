@@ -76,7 +76,7 @@ fn bom_alone(n: u32, line: &[u8]) -> bool
     if n != 0 {
         return false;
     }
-    text::equals(line, b"\xEF\xBB\xBF")
+    pattern::equals(line, b"\xEF\xBB\xBF")
 }
 
 // After a BOM alone.

@@ -4,7 +4,7 @@ use mathlib.Core.Path.{_≡_, refl}
 use Rattle.base.specs.Part.{last}
 use Rattle.utf8.specs.Utf8.{leadLen, secondLow, secondHigh, tail, widthBy, charWidth, codeBy, codeHead}
 use Rattle.white.specs.White.{whiteHigh, white, whiteHead, endsWhite, whiteTail, headFrom, keepFrom, trimHead, trimTail, trim}
-use Rattle.text.specs.Find.{starts, first, upTo, past}
+use Rattle.pattern.specs.Find.{starts, first, upTo, past}
 use Rattle.text.specs.Number.{digit, digits, valueFrom, natural, unsigned, number}
 use Rattle.stamp.specs.declared.read.Time.the-variants.{At}
 use Rattle.time.specs.Kind.{kindBad, unitsOf, markOf, fractionDigits, hourDigits}

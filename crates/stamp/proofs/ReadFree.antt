@@ -16,7 +16,7 @@ use Rattle.text.specs.declared.decimal.Number.the-variants.{Value, Bad as NoNum
 use Rattle.text.specs.Number.{digit, digits, valueFrom, natural, unsigned, number}
 use Rattle.utf8.specs.Utf8.{charWidth, codeHead}
 use Rattle.white.specs.White.{white, whiteHead, endsWhite, whiteTail, headFrom, keepFrom, trimHead, trimTail, trim}
-use Rattle.text.specs.Find.{starts, first, upTo, past}
+use Rattle.pattern.specs.Find.{starts, first, upTo, past}
 use Rattle.unicode.specs.Encode.{encode}
 use Rattle.unicode.proofs.Encoding.{encoded}
 use Rattle.unicode.proofs.Decoding.{decoded}
@@ -25,7 +25,7 @@ use Rattle.stamp.specs.declared.read.Time.the-variants.{At}
 use Rattle.time.specs.Kind.{unitsOf, markOf}
 use Rattle.stamp.specs.Read.{colon, timeWith, timeIn}
 use Rattle.stamp.proofs.Reading.{parts, read-known}
-use Rattle.text.proofs.Free.{Free}
+use Rattle.pattern.proofs.Free.{Free}
 
 free-at : (c : ℕ) (s : List ℕ) (i : ℕ) → Free c s → i < length s → c ≡ getD s i 0 → ⊥
 free-at c [] i f h e = absurd (omega arith)

@@ -13,9 +13,10 @@ use Rattle.base.proofs.Laws.{yes!, no! }
 use Rattle.text.specs.declared.decimal.Number.{Number}
 use Rattle.text.specs.declared.decimal.Number.the-variants.{Value, Bad as NoNumber}
 use Rattle.text.specs.Number.{digits, valueFrom, natural, unsigned, number}
-use Rattle.text.specs.Find.{upTo, past}
+use Rattle.pattern.specs.Find.{upTo, past}
 use Rattle.white.specs.White.{trim}
-use Rattle.text.proofs.LineLaws.{number-some, up-past, trim-length}
+use Rattle.pattern.proofs.Laws.{up-past}
+use Rattle.text.proofs.LineLaws.{number-some, trim-length}
 use Rattle.stamp.specs.declared.read.Time.{Time}
 use Rattle.stamp.specs.declared.read.Time.the-variants.{At, Bad}
 use Rattle.time.specs.Kind.{kindBad, unitsOf, markOf}

@@ -11,7 +11,7 @@ use borrow.Author.Tests.{ne-eqb, lt-ltb, le-ltb, lt-leb}
 use Rattle.base.proofs.Laws.{yes!, no! }
 use Rattle.text.specs.declared.decimal.Number.the-variants.{Value}
 use Rattle.text.specs.Number.{digits, valueFrom, natural, number}
-use Rattle.text.specs.Find.{upTo, past}
+use Rattle.pattern.specs.Find.{upTo, past}
 use Rattle.white.specs.White.{white, whiteHigh, trimHead, trimTail, trim}
 use Rattle.unicode.specs.Encode.{encode, Scalar}
 use Rattle.text.proofs.Laws.{digit-some, natural-value, unsigned-none}
@@ -24,7 +24,7 @@ use Rattle.stamp.specs.Read.{colon, timeWith, timeIn}
 use Rattle.stamp.specs.Write.{pad, width, widest, textWith, timeText}
 use Rattle.time.proofs.Limits.{units-low, fraction-low, fraction-holds, mark-plain}
 use Rattle.stamp.proofs.Written.{text-some, text-none}
-use Rattle.text.proofs.Free.{Free, free-append, up-byte, past-byte}
+use Rattle.pattern.proofs.Free.{Free, free-append, up-byte, past-byte}
 use Rattle.stamp.proofs.Pad.{pad-length, width-pos, width-pow}
 
 -- a list of digits, and a byte that is none

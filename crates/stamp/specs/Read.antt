@@ -6,7 +6,7 @@ use Rattle.base.specs.Limits.{mostHours, mostMinutes, mostSeconds}
 use Rattle.text.specs.declared.decimal.Number.{Number}
 use Rattle.text.specs.declared.decimal.Number.the-variants.{Value, Bad as NoNumber}
 use Rattle.text.specs.Number.{number}
-use Rattle.text.specs.Find.{upTo, past}
+use Rattle.pattern.specs.Find.{upTo, past}
 use Rattle.white.specs.White.{trim}
 use Rattle.time.specs.Kind.{kindBad, unitsOf, markOf}
 use Rattle.stamp.specs.declared.read.Time.{Time}

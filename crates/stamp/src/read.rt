@@ -6,7 +6,7 @@ use time::units_of;
 ghost use mathlib.Core.Path.{_≡_};
 ghost use Prim.Native.Nat.{_+_, _*_, _≤_};
 ghost use Rattle.base.specs.Limits.{mostHours, mostMinutes, mostSeconds};
-ghost use Rattle.text.specs.Find.{upTo, past};
+ghost use Rattle.pattern.specs.Find.{upTo, past};
 ghost use Rattle.stamp.specs.Read.{colon, timeFrom, timeWith, timeIn, Below};
 
 // A time that was read, in units, and the mark before its fraction.
@@ -49,13 +49,13 @@ fn join(h: Number, m: Number, s: Number, f: Number, unit: u32, mark: u8) -> Time
 fn before_colon(s: &[u8]) -> &[u8]
     ensures { λ r. ⌜ now r ≡ upTo colon (now (s .entry)) ⌝ }
 {
-    text::up_to(s, b":")
+    pattern::up_to(s, b":")
 }
 
 fn after_colon(s: &[u8]) -> &[u8]
     ensures { λ r. ⌜ now r ≡ past colon (now (s .entry)) ⌝ }
 {
-    text::past(s, b":")
+    pattern::past(s, b":")
 }
 
 fn read_with(text: &[u8], unit: u32, mark: u8) -> Time
@@ -67,8 +67,8 @@ fn read_with(text: &[u8], unit: u32, mark: u8) -> Time
     let rest = after_colon(text);
     let m = text::number_to(before_colon(rest), base::MOST_MINUTES);
     let last = after_colon(rest);
-    let s = text::number_to(text::up_to(last, &sign), base::MOST_SECONDS);
-    let f = text::number_to(text::past(last, &sign), unit - 1);
+    let s = text::number_to(pattern::up_to(last, &sign), base::MOST_SECONDS);
+    let f = text::number_to(pattern::past(last, &sign), unit - 1);
     join(h, m, s, f, unit, mark)
 }
 

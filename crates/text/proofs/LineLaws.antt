@@ -1,4 +1,4 @@
--- Laws of parts about a pattern, and of lines.
+-- Laws of lines, of trimmed texts, and of numbers that are read.
 use mathlib.Core.Path.{_≡_, refl, sym, ap, subst, _∙_}
 use mathlib.Core.Bool.{Bool, true, false, cond}
 use mathlib.Core.List.{List, [], _∷_, _++_, append-nil, append-assoc}
@@ -6,9 +6,9 @@ use Prim.Native.Nat.{ℕ, zero, suc, _+_, _*_, _-_, _≤_, _<_}
 use native.Mathlib.Nat.{le-of-suc-le-suc, not-suc-le-zero, le-trans}
 use native.Mathlib.Omega.{arith}
 use native.Mathlib.Numerals.{add-one}
-use borrow.Author.Tests.{lt-ltb, le-ltb, eq-eqb, ne-eqb, ltb-true, ltb-false, leb-true}
-use lib.Dec.{eqb, ltb, leb}
-use lib.Seq.{drop-nil, drop-drop, drop-cons, length-take-le}
+use borrow.Author.Tests.{eq-eqb, ne-eqb, leb-true}
+use lib.Dec.{eqb, leb}
+use lib.Seq.{drop-cons}
 use lib.ListN.{length, take, drop, getD, length-drop, length-take, length-append, take-append-drop, drop-of-length-le}
 use mathlib.Core.Bool.{true≢false}
 use Rattle.base.specs.Width.{byWidth}
@@ -17,22 +17,10 @@ use Rattle.white.specs.White.{whiteHead, headFrom, keepFrom, trimHead, trimTail
 use Rattle.text.specs.declared.decimal.Number.{Number}
 use Rattle.text.specs.declared.decimal.Number.the-variants.{Value, Bad}
 use Rattle.text.specs.Number.{digits, valueFrom, natural, unsigned, number}
-use Rattle.text.specs.Find.{starts, first, contains, upTo, past}
-use Rattle.text.specs.Line.{lineLength, ontoFirst, linesOf, concat, lineCount, terminatorLength, textOf, terminatorOf, isEmpty, blank, endsLine, hasLf}
+use Rattle.pattern.specs.Piece.{ontoFirst}
+use Rattle.text.specs.Line.{lineLength, linesOf, concat, lineCount, terminatorLength, textOf, terminatorOf, isEmpty, blank, endsLine, hasLf}
 
 -- ---- the calls
-pub has-found : (p s : List ℕ) (n : ℕ) → n ≡ first p s → ltb n (length s) ≡ contains p s
-unfolding contains
-has-found p s n e = ap (λ (m : ℕ). ltb m (length s)) e
-
-pub front-found : (p s r : List ℕ) (n : ℕ) → n ≡ first p s → r ≡ take n s → r ≡ upTo p s
-unfolding upTo
-front-found p s r n e f = f ∙ ap (λ (m : ℕ). take m s) e
-
-pub rest-found : (p s t r : List ℕ) (n : ℕ) → n ≡ first p s → t ≡ drop n s → r ≡ drop (length p) t → r ≡ past p s
-unfolding past
-rest-found p s t r n e f g = g ∙ ap (drop (length p)) (f ∙ ap (λ (m : ℕ). drop m s) e) ∙ drop-drop (length p) (first p s) s
-
 pub text-found : (l r : List ℕ) (n m : ℕ) → n ≡ terminatorLength l → m ≡ length l - n → r ≡ take m l → r ≡ textOf l
 unfolding textOf
 text-found l r n m e f g = g ∙ ap (λ (k : ℕ). take k l) (f ∙ ap (λ (k : ℕ). length l - k) e)
@@ -121,14 +109,6 @@ lines-end s h = lines-none s (omega arith)
 pub text-terminator : (l : List ℕ) → textOf l ++ terminatorOf l ≡ l
 unfolding textOf terminatorOf
 text-terminator l = take-append-drop (length l - terminatorLength l) l
-
--- a pattern, what is before and what is after it; p not empty: what is after it is empty where it is not there
-pub up-past : (p s : List ℕ) → 0 < length (past p s) → length (upTo p s) + length p + length (past p s) ≡ length s
-unfolding upTo past
-up-past p s h =
-    let a : length (drop (first p s + length p) s) ≡ length s - (first p s + length p) = length-drop (first p s + length p) s in
-    let b : length (take (first p s) s) ≡ first p s = length-take-le (first p s) s (omega arith) in
-    omega arith
 
 -- the lines of s are s
 joined-onto : (b : ℕ) (ls : List (List ℕ)) → concat (ontoFirst b ls) ≡ b ∷ concat ls

@@ -5,16 +5,12 @@ use mathlib.Core.List.{List, [], _∷_, _++_}
 use lib.Dec.{eqb}
 use lib.ListN.{length, getD, take, drop}
 use Rattle.white.specs.White.{trimHead}
+use Rattle.pattern.specs.Piece.{ontoFirst}
 
 -- how many bytes the first line of s has, with its LF
 unfoldable pub lineLength : List ℕ → ℕ
 lineLength [] = 0
 lineLength (b ∷ s) = cond (eqb b 10) 1 (suc (lineLength s))
-
--- the byte b before the first line of the lines ls
-abbrev pub ontoFirst : ℕ → List (List ℕ) → List (List ℕ)
-ontoFirst b [] = (b ∷ []) ∷ []
-ontoFirst b (l ∷ ls) = (b ∷ l) ∷ ls
 
 -- the lines of s, each with its LF; the last may have none
 unfoldable pub linesOf : List ℕ → List (List ℕ)

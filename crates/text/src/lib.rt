@@ -1,7 +1,6 @@
-// Patterns, decimal numbers and lines of a text.
+// Decimal numbers and lines of a text.
 mod decimal;
 mod line;
-mod pattern;
 
 pub use decimal::Number;
 pub use decimal::number_to;
@@ -9,9 +8,3 @@ pub use line::is_blank;
 pub use line::line_length;
 pub use line::terminator_of;
 pub use line::text_of;
-pub use pattern::equals;
-pub use pattern::find;
-pub use pattern::has;
-pub use pattern::past;
-pub use pattern::starts_with;
-pub use pattern::up_to;

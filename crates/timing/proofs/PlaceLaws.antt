@@ -11,7 +11,7 @@ use lib.ListN.{length, take, drop, getD, length-drop, length-append}
 use Rattle.base.proofs.Laws.{yes!, no! }
 use Rattle.utf8.specs.Utf8.{tail}
 use Rattle.white.specs.White.{trimHead}
-use Rattle.text.specs.Find.{contains, past}
+use Rattle.pattern.specs.Find.{contains, past}
 use Rattle.text.specs.Line.{lineLength, linesOf, concat, lineCount, textOf}
 use Rattle.text.proofs.LineLaws.{line-some, line-le, lines-cut, lines-end, lines-joined}
 use Rattle.timing.specs.declared.timing.Place.{Place}

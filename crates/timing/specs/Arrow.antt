@@ -3,7 +3,7 @@ use mathlib.Core.Bool.{cond}
 use mathlib.Core.List.{List, [], _∷_}
 use Prim.Native.Nat.{ℕ}
 use Rattle.white.specs.White.{trimHead}
-use Rattle.text.specs.Find.{contains, past}
+use Rattle.pattern.specs.Find.{contains, past}
 use Rattle.text.specs.Line.{textOf}
 
 -- `-->`

@@ -3,7 +3,7 @@ use mathlib.Core.Bool.{true, false, cond}
 use mathlib.Core.List.{List, [], _∷_}
 use Prim.Native.Nat.{ℕ, _+_}
 use lib.ListN.{length}
-use Rattle.text.specs.Find.{contains}
+use Rattle.pattern.specs.Find.{contains}
 use Rattle.text.specs.Line.{textOf}
 use Rattle.timing.specs.declared.timing.Place.{Place}
 use Rattle.timing.specs.Arrow.{arrow}

@@ -2,7 +2,7 @@
 ghost use mathlib.Core.Path.{_≡_};
 ghost use Prim.Native.Nat.{_≤_};
 ghost use lib.ListN.{length};
-ghost use Rattle.text.specs.Find.{contains, upTo};
+ghost use Rattle.pattern.specs.Find.{contains, upTo};
 ghost use Rattle.text.specs.Line.{linesOf};
 ghost use Rattle.timing.specs.Style.{srtEnd};
 ghost use Rattle.timing.specs.Arrow.{arrow, afterArrow};
@@ -19,20 +19,20 @@ pub struct Place {
 fn has_arrow(s: &[u8]) -> bool
     ensures { λ r. ⌜ r ≡ contains arrow (now (s .entry)) ⌝ }
 {
-    text::has(s, b"-->")
+    pattern::has(s, b"-->")
 }
 
 pub fn before_arrow(s: &[u8]) -> &[u8]
     ensures { λ r. ⌜ now r ≡ upTo arrow (now (s .entry)) ⌝ }
 {
-    text::up_to(s, b"-->")
+    pattern::up_to(s, b"-->")
 }
 
 // What follows the arrow and its White_Space.
 pub fn after_arrow(s: &[u8]) -> &[u8]
     ensures { λ r. ⌜ now r ≡ afterArrow (now (s .entry)) ⌝ }
 {
-    white::trim_head(text::past(s, b"-->"))
+    white::trim_head(pattern::past(s, b"-->"))
 }
 
 // How many bytes of what follows the arrow are the end time.

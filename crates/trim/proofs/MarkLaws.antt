@@ -12,8 +12,8 @@ use lib.ListN.{length, take, drop, getD, length-drop}
 use lib.Seq.{drop-nil, take-length}
 use Rattle.base.proofs.Laws.{yes!, no! }
 use Rattle.white.specs.White.{white, whiteHigh, whiteHead, whiteTail, trimHead, trimTail, trim}
-use Rattle.text.specs.Find.{starts, first}
-use Rattle.text.proofs.Laws.{first-hit, first-miss, first-end, stands-other}
+use Rattle.pattern.specs.Find.{starts, first}
+use Rattle.pattern.proofs.Laws.{first-hit, first-miss, first-end, stands-other}
 use Rattle.white.proofs.Laws.{white-ascii, head-none, keep-found}
 use Rattle.white.proofs.LastBytes.{tail-ascii}
 use Rattle.trim.specs.Token.{mark}

@@ -16,7 +16,7 @@ use Rattle.base.proofs.RefusalLaws.{else-found, else-none}
 use Rattle.base.proofs.PutLaws.{take-put, put-take, sets-put}
 use Rattle.utf8.specs.Utf8.{utf8}
 use Rattle.text.specs.Line.{blank}
-use Rattle.text.specs.Find.{first}
+use Rattle.pattern.specs.Find.{first}
 use Rattle.trim.specs.declared.token.Token.{Token}
 use Rattle.trim.specs.declared.token.Token.the-variants.{Range, Fault}
 use Rattle.trim.specs.declared.list.Parsed.{Parsed}

@@ -11,12 +11,12 @@ use lib.Seq.{take-all}
 use Rattle.base.specs.Limits.{mostFrame}
 use Rattle.base.proofs.Laws.{yes!, no! }
 use Rattle.white.specs.White.{trim}
-use Rattle.text.specs.Find.{starts, first}
-use Rattle.text.specs.Piece.{pieces, comma}
+use Rattle.pattern.specs.Find.{starts, first}
+use Rattle.pattern.specs.Piece.{pieces, comma}
 use Rattle.text.specs.Number.{number}
 use Rattle.text.specs.declared.decimal.Number.{Number}
 use Rattle.text.specs.declared.decimal.Number.the-variants.{Value, Bad}
-use Rattle.text.proofs.PieceLaws.{pieces-head, pieces-one}
+use Rattle.pattern.proofs.PieceLaws.{pieces-head, pieces-one}
 use Rattle.text.proofs.LineLaws.{number-most}
 use Rattle.trim.specs.declared.token.Token.{Token}
 use Rattle.trim.specs.declared.token.Token.the-variants.{Range, Fault}

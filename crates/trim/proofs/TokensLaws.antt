@@ -12,9 +12,9 @@ use Rattle.base.specs.Refusal.{_orElse_}
 use Rattle.base.proofs.Laws.{yes!, no! }
 use Rattle.base.proofs.RefusalLaws.{else-none, else-found, else-zero}
 use Rattle.white.specs.White.{trim}
-use Rattle.text.specs.Find.{first}
-use Rattle.text.specs.Piece.{pieces}
-use Rattle.text.proofs.PieceLaws.{pieces-head, pieces-one}
+use Rattle.pattern.specs.Find.{first}
+use Rattle.pattern.specs.Piece.{pieces}
+use Rattle.pattern.proofs.PieceLaws.{pieces-head, pieces-one}
 use Rattle.trim.specs.declared.token.Token.{Token}
 use Rattle.trim.specs.declared.token.Token.the-variants.{Range, Fault}
 use Rattle.trim.specs.Token.{mark, tokenOf, stepOf, tokenNumber, tokenRange, tokenEnd}

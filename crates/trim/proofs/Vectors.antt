@@ -12,8 +12,8 @@ use Rattle.base.specs.Refusal.{_orElse_, faultUnless}
 use Rattle.utf8.specs.Utf8.{leadLen, secondLow, secondHigh, tail, widthBy, charWidth, utf8From, utf8, codeBy, codeHead}
 use Rattle.white.specs.White.{whiteHigh, white, whiteHead, endsWhite, whiteTail, headFrom, keepFrom, trimHead, trimTail, trim}
 use Rattle.text.specs.Line.{blank}
-use Rattle.text.specs.Find.{starts}
-use Rattle.text.specs.Piece.{piecesFrom, pieces}
+use Rattle.pattern.specs.Find.{starts}
+use Rattle.pattern.specs.Piece.{piecesFrom, pieces}
 use Rattle.text.specs.Number.{digit, digits, valueFrom, natural, unsigned, number}
 use Rattle.trim.specs.Token.{rangeOf, boundsOf, pairOf, closedOf, tokenOf, behindEnd, stepOf, tokenNumber, tokenRange, tokenEnd}
 use Rattle.trim.specs.TrimList.{tokensOf, tokensNumber, rangesIn, headNumber, listNumber, rangeCount, rangesOf, parsed, listAnswer, parseNumber, parseOf}

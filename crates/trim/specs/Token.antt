@@ -6,8 +6,8 @@ use lib.ListN.{length, take, drop, getD}
 use lib.Dec.{eqb, ltb}
 use Rattle.base.specs.Limits.{mostFrame}
 use Rattle.white.specs.White.{trim}
-use Rattle.text.specs.Find.{starts}
-use Rattle.text.specs.Piece.{comma, pieces}
+use Rattle.pattern.specs.Find.{starts}
+use Rattle.pattern.specs.Piece.{comma, pieces}
 use Rattle.text.specs.Number.{number}
 use Rattle.text.specs.declared.decimal.Number.{Number}
 use Rattle.text.specs.declared.decimal.Number.the-variants.{Value, Bad}

@@ -10,7 +10,7 @@ use Rattle.base.specs.Put.{put}
 use Rattle.utf8.specs.Utf8.{utf8}
 use Rattle.white.specs.White.{trim}
 use Rattle.text.specs.Line.{blank}
-use Rattle.text.specs.Piece.{pieces}
+use Rattle.pattern.specs.Piece.{pieces}
 use Rattle.trim.specs.Token.{mark, tokenOf, stepOf, tokenNumber, tokenRange, tokenEnd}
 use Rattle.trim.specs.declared.list.Parsed.{Parsed}
 

@@ -6,7 +6,7 @@ ghost use Prim.Native.Nat.{_+_, _*_, _≤_, _<_};
 ghost use lib.ListN.{length, take, set};
 ghost use Rattle.base.specs.Limits.{mostTrims, mostPlaces};
 ghost use Rattle.base.specs.Put.{put};
-ghost use Rattle.text.specs.Find.{first};
+ghost use Rattle.pattern.specs.Find.{first};
 ghost use Rattle.trim.specs.Token.{mark};
 ghost use Rattle.trim.specs.TrimList.{parsed, listAnswer, tokensOf, tokensNumber, headNumber, listNumber, rangesOf, parseOf, rangePlaces};
 

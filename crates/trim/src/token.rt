@@ -3,9 +3,9 @@ use text::Number;
 ghost use mathlib.Core.Path.{_≡_};
 ghost use mathlib.Core.Bool.{cond, false};
 ghost use lib.Dec.{ltb};
-ghost use Rattle.text.specs.Find.{starts, first};
+ghost use Rattle.pattern.specs.Find.{starts, first};
 ghost use Rattle.trim.specs.Token.{opening, rangeOf, boundsOf, pairOf, closedOf, tokenOf, stepOf};
-ghost use Rattle.text.specs.Piece.{pieces, comma};
+ghost use Rattle.pattern.specs.Piece.{pieces, comma};
 ghost use Rattle.white.specs.White.{trim};
 
 // What a token says: a range, end excluded, or the number of its refusal.
@@ -17,13 +17,13 @@ pub enum Token {
 fn next_comma(s: &[u8]) -> usize
     ensures { λ r. ⌜ r ≡ first comma (now (s .entry)) ⌝ }
 {
-    text::find(s, b",")
+    pattern::find(s, b",")
 }
 
 fn opens(s: &[u8]) -> bool
     ensures { λ r. ⌜ r ≡ starts opening (now (s .entry)) ⌝ }
 {
-    text::starts_with(s, b"Trim(")
+    pattern::starts_with(s, b"Trim(")
 }
 
 // The range of the frames `a` to `b`, end excluded.

@@ -13,7 +13,7 @@ use Rattle.ass.proofs.caption.stayed.Reads as stayed-reads
 use Rattle.columns.proofs.columns_of.Reads as columns-of-reads
 use Rattle.base.proofs.rest.Reads as rest-reads
 use Rattle.text.proofs.text_of.Reads as text-of-reads
-use Rattle.text.proofs.starts_with.Reads as starts-with-reads
+use Rattle.pattern.proofs.starts_with.Reads as starts-with-reads
 
 add-at : tie.Need-add-at
 add-at c = search needs

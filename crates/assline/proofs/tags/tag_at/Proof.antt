@@ -5,7 +5,7 @@ use Rattle.assline.proofs.tags.tag_at.Statement.{statement}
 use Rattle.assline.proofs.tags.tag_at.Tie as tie
 use Rattle.assline.proofs.tags.tag_at.Reads as reads
 use Rattle.assline.proofs.tags.tag_at.Lts as lts
-use Rattle.text.proofs.starts_with.Reads as starts-with-reads
+use Rattle.pattern.proofs.starts_with.Reads as starts-with-reads
 
 slice-aggregate-starts-with : tie.Need-slice-aggregate-starts-with
 slice-aggregate-starts-with c = search needs

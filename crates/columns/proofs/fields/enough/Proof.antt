@@ -12,7 +12,7 @@ use Rattle.columns.proofs.fields.enough.Tie as tie
 use Rattle.columns.proofs.fields.enough.Reads as reads
 use Rattle.columns.proofs.fields.enough.Lts as lts
 use Rattle.base.proofs.rest.Reads as rest-reads
-use Rattle.text.proofs.find.Reads as find-reads
+use Rattle.pattern.proofs.find.Reads as find-reads
 
 abbrev Inv-loop : tie.InvT-loop
 Inv-loop s columns t₀ left₀ t7 t left = (leb left (length (fields left t)) ≡ leb columns (length (fields columns s))) × (length t ≤ length s)

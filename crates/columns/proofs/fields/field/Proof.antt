@@ -13,7 +13,7 @@ use Rattle.columns.proofs.fields.field.Lts as lts
 use Rattle.columns.proofs.fields.field_length.Reads as field-length-reads
 use Rattle.base.proofs.front.Reads as front-reads
 use Rattle.base.proofs.rest.Reads as rest-reads
-use Rattle.text.proofs.find.Reads as find-reads
+use Rattle.pattern.proofs.find.Reads as find-reads
 
 abbrev Inv-loop : tie.InvT-loop
 Inv-loop s columns place t₀ left₀ k₀ t9 t left k = (fieldAt k (fields left t) ≡ fieldAt place (fields columns s)) × (1 ≤ k) × (k ≤ left) × (length t ≤ length s)

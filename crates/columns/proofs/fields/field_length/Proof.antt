@@ -4,7 +4,7 @@ use Rattle.columns.proofs.fields.field_length.Statement.{statement}
 use Rattle.columns.proofs.fields.field_length.Tie as tie
 use Rattle.columns.proofs.fields.field_length.Reads as reads
 use Rattle.columns.proofs.fields.field_length.Lts as lts
-use Rattle.text.proofs.find.Reads as find-reads
+use Rattle.pattern.proofs.find.Reads as find-reads
 
 returns : tie.Need-returns
 returns c = search chain depth 12

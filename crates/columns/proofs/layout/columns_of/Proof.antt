@@ -12,7 +12,7 @@ use Rattle.columns.proofs.layout.is_end.Reads as is-end-reads
 use Rattle.columns.proofs.layout.is_start.Reads as is-start-reads
 use Rattle.base.proofs.front.Reads as front-reads
 use Rattle.base.proofs.rest.Reads as rest-reads
-use Rattle.text.proofs.find.Reads as find-reads
+use Rattle.pattern.proofs.find.Reads as find-reads
 use Rattle.white.proofs.trimmed.Reads as trimmed-reads
 
 abbrev Inv-loop : tie.InvT-loop

@@ -7,7 +7,7 @@ use Rattle.columns.proofs.section.names_events.Lts as lts
 use Rattle.base.proofs.front.Reads as front-reads
 use Rattle.base.proofs.less.Reads as less-reads
 use Rattle.base.proofs.rest.Reads as rest-reads
-use Rattle.text.proofs.equals.Reads as equals-reads
+use Rattle.pattern.proofs.equals.Reads as equals-reads
 
 rest-requires : tie.Need-rest-requires
 rest-requires c κs = search needs

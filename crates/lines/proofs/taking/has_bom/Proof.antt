@@ -4,7 +4,7 @@ use Rattle.lines.proofs.taking.has_bom.Statement.{statement}
 use Rattle.lines.proofs.taking.has_bom.Tie as tie
 use Rattle.lines.proofs.taking.has_bom.Reads as reads
 use Rattle.lines.proofs.taking.has_bom.Lts as lts
-use Rattle.text.proofs.starts_with.Reads as starts-with-reads
+use Rattle.pattern.proofs.starts_with.Reads as starts-with-reads
 
 slice-aggregate-starts-with : tie.Need-slice-aggregate-starts-with
 slice-aggregate-starts-with c = search needs

@@ -4,7 +4,7 @@ use Rattle.session.proofs.ending.bom_alone.Statement.{statement}
 use Rattle.session.proofs.ending.bom_alone.Tie as tie
 use Rattle.session.proofs.ending.bom_alone.Reads as reads
 use Rattle.session.proofs.ending.bom_alone.Lts as lts
-use Rattle.text.proofs.equals.Reads as equals-reads
+use Rattle.pattern.proofs.equals.Reads as equals-reads
 
 -- src/ending.rt:69:9
 returns : tie.Need-returns

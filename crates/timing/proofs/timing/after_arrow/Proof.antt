@@ -4,7 +4,7 @@ use Rattle.timing.proofs.timing.after_arrow.Statement.{statement}
 use Rattle.timing.proofs.timing.after_arrow.Tie as tie
 use Rattle.timing.proofs.timing.after_arrow.Reads as reads
 use Rattle.timing.proofs.timing.after_arrow.Lts as lts
-use Rattle.text.proofs.past.Reads as past-reads
+use Rattle.pattern.proofs.past.Reads as past-reads
 use Rattle.white.proofs.trim_head.Reads as trim-head-reads
 
 slice-aggregate-past : tie.Need-slice-aggregate-past

@@ -3,7 +3,7 @@ use Prim.Native.Nat.{_≤_, _-_, _+_}
 use mathlib.Core.Path.{_≡_, sym}
 use native.Mathlib.Nat.{zero-add}
 use lib.ListN.{length, drop}
-use Rattle.text.specs.Find.{first}
+use Rattle.pattern.specs.Find.{first}
 use Rattle.trim.specs.Token.{mark}
 use Rattle.trim.proofs.MarkLaws.{mark-found, mark-one, mark-two, mark-none}
 use borrow.Author.Needs.{needs}

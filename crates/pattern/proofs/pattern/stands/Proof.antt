@@ -1,8 +1,8 @@
 use native.Mathlib.Omega.{arith}
-use Rattle.text.proofs.Laws.{stands-none, stands-other, stands-asked}
+use Rattle.pattern.proofs.Laws.{stands-none, stands-other, stands-asked}
 use borrow.Author.Needs.{needs}
-use Rattle.text.proofs.pattern.stands.Statement.{statement}
-use Rattle.text.proofs.pattern.stands.Tie as tie
+use Rattle.pattern.proofs.pattern.stands.Statement.{statement}
+use Rattle.pattern.proofs.pattern.stands.Tie as tie
 
 returns : tie.Need-returns
 returns c = search stands-none

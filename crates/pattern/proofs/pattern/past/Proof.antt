@@ -1,11 +1,11 @@
-use Rattle.text.proofs.LineLaws.{rest-found}
+use Rattle.pattern.proofs.Laws.{rest-found}
 use borrow.Author.Needs.{needs}
-use Rattle.text.proofs.pattern.past.Statement.{statement}
-use Rattle.text.proofs.pattern.past.Tie as tie
-use Rattle.text.proofs.pattern.past.Reads as reads
-use Rattle.text.proofs.pattern.past.Lts as lts
+use Rattle.pattern.proofs.pattern.past.Statement.{statement}
+use Rattle.pattern.proofs.pattern.past.Tie as tie
+use Rattle.pattern.proofs.pattern.past.Reads as reads
+use Rattle.pattern.proofs.pattern.past.Lts as lts
 use Rattle.base.proofs.rest.Reads as rest-reads
-use Rattle.text.proofs.pattern.find.Reads as find-reads
+use Rattle.pattern.proofs.pattern.find.Reads as find-reads
 
 find-requires : tie.Need-find-requires
 find-requires c κs = search needs

@@ -3,10 +3,10 @@ use borrow.Author.Needs.{needs}
 use Prim.Native.Nat.{_≤_, _-_}
 use mathlib.Core.Path.{_≡_, refl}
 use lib.ListN.{length, drop}
-use Rattle.text.proofs.Laws.{starts-refused, starts-refused-2, starts-again, starts-passed}
-use Rattle.text.specs.Find.{starts}
-use Rattle.text.proofs.pattern.starts_with.Statement.{statement}
-use Rattle.text.proofs.pattern.starts_with.Tie as tie
+use Rattle.pattern.proofs.Laws.{starts-refused, starts-refused-2, starts-again, starts-passed}
+use Rattle.pattern.specs.Find.{starts}
+use Rattle.pattern.proofs.pattern.starts_with.Statement.{statement}
+use Rattle.pattern.proofs.pattern.starts_with.Tie as tie
 
 abbrev Inv-loop : tie.InvT-loop
 Inv-loop s p i₀ i = (i ≤ length p) × (starts p s ≡ starts (drop i p) (drop i s))

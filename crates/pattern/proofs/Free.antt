@@ -7,7 +7,7 @@ use lib.ListN.{length, take, drop}
 use native.Mathlib.Nat.{zero-add, suc-add}
 use native.Mathlib.Omega.{arith}
 use borrow.Author.Tests.{ne-eqb, eq-eqb, le-ltb}
-use Rattle.text.specs.Find.{starts, first, contains, upTo, past}
+use Rattle.pattern.specs.Find.{starts, first, contains, upTo, past}
 
 abbrev pub Free : ℕ → List ℕ → Type 0
 Free c [] = Unit

@@ -1,11 +1,11 @@
-use Rattle.text.proofs.LineLaws.{front-found}
+use Rattle.pattern.proofs.Laws.{front-found}
 use borrow.Author.Needs.{needs}
-use Rattle.text.proofs.pattern.up_to.Statement.{statement}
-use Rattle.text.proofs.pattern.up_to.Tie as tie
-use Rattle.text.proofs.pattern.up_to.Reads as reads
-use Rattle.text.proofs.pattern.up_to.Lts as lts
+use Rattle.pattern.proofs.pattern.up_to.Statement.{statement}
+use Rattle.pattern.proofs.pattern.up_to.Tie as tie
+use Rattle.pattern.proofs.pattern.up_to.Reads as reads
+use Rattle.pattern.proofs.pattern.up_to.Lts as lts
 use Rattle.base.proofs.front.Reads as front-reads
-use Rattle.text.proofs.pattern.find.Reads as find-reads
+use Rattle.pattern.proofs.pattern.find.Reads as find-reads
 
 find-requires : tie.Need-find-requires
 find-requires c κs = search needs

@@ -4,10 +4,10 @@ use Prim.Native.Nat.{_≤_, _-_, _+_}
 use mathlib.Core.Path.{_≡_, refl, sym}
 use native.Mathlib.Nat.{zero-add}
 use lib.ListN.{length, drop}
-use Rattle.text.proofs.Laws.{first-found, first-again, first-none}
-use Rattle.text.specs.Find.{first}
-use Rattle.text.proofs.pattern.find.Statement.{statement}
-use Rattle.text.proofs.pattern.find.Tie as tie
+use Rattle.pattern.proofs.Laws.{first-found, first-again, first-none}
+use Rattle.pattern.specs.Find.{first}
+use Rattle.pattern.proofs.pattern.find.Statement.{statement}
+use Rattle.pattern.proofs.pattern.find.Tie as tie
 
 abbrev Inv-loop : tie.InvT-loop
 Inv-loop s p i₀ i = (i ≤ length s) × (first p s ≡ i + first p (drop i s))

@@ -3,8 +3,12 @@ use Prim.Native.Nat.{ℕ, zero, suc, _-_}
 use mathlib.Core.Bool.{Bool, cond}
 use mathlib.Core.List.{List, [], _∷_}
 use lib.ListN.{length}
-use Rattle.text.specs.Find.{starts}
-use Rattle.text.specs.Line.{ontoFirst}
+use Rattle.pattern.specs.Find.{starts}
+
+-- the byte b before the first of the pieces ls
+abbrev pub ontoFirst : ℕ → List (List ℕ) → List (List ℕ)
+ontoFirst b [] = (b ∷ []) ∷ []
+ontoFirst b (l ∷ ls) = (b ∷ l) ∷ ls
 
 -- s, less its first k bytes, parted by p
 unfoldable pub piecesFrom : List ℕ → List ℕ → ℕ → List (List ℕ)

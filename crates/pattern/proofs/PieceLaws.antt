@@ -9,9 +9,9 @@ use borrow.Author.Tests.{ltb-true, ltb-false, eqb-true}
 use lib.Dec.{ltb, eqb}
 use lib.ListN.{length, take, drop}
 use lib.Seq.{take-all, drop-nil}
-use Rattle.text.specs.Find.{starts, first}
-use Rattle.text.specs.Line.{ontoFirst}
-use Rattle.text.specs.Piece.{piecesFrom, pieces}
+use Rattle.pattern.specs.Find.{starts, first}
+use Rattle.pattern.specs.Piece.{ontoFirst}
+use Rattle.pattern.specs.Piece.{piecesFrom, pieces}
 
 skip-pieces : (p s : List ℕ) (k : ℕ) → piecesFrom p s k ≡ piecesFrom p (drop k s) 0
 unfolding piecesFrom

@@ -1,7 +1,7 @@
-use Rattle.text.proofs.Laws.{equals-starts, equals-other}
+use Rattle.pattern.proofs.Laws.{equals-starts, equals-other}
 use borrow.Author.Needs.{needs}
-use Rattle.text.proofs.pattern.equals.Statement.{statement}
-use Rattle.text.proofs.pattern.equals.Tie as tie
+use Rattle.pattern.proofs.pattern.equals.Statement.{statement}
+use Rattle.pattern.proofs.pattern.equals.Tie as tie
 
 returns : tie.Need-returns
 returns c = search equals-other
