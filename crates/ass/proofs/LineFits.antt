@@ -16,8 +16,8 @@ use Rattle.stamp.specs.Write.{timeText}
 use Rattle.time.specs.Convert.{coreUnits}
 use Rattle.stamp.proofs.Reading.{time-most}
 use Rattle.stamp.proofs.Written.{text-23}
-use Rattle.segmap.specs.declared.segment.Segment.{Segment}
-use Rattle.segmap.specs.Segment.{segmentsOf, mapBad}
+use Rattle.segment.specs.declared.segment.Segment.{Segment}
+use Rattle.segment.specs.Segment.{segmentsOf, mapBad}
 use Rattle.event.specs.declared.setting.Config.{Config}
 use Rattle.event.specs.declared.retiming.Decision.{Decision}
 use Rattle.event.specs.declared.retiming.Decision.the-variants.{Strange, Dropped, Kept}

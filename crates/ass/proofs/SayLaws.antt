@@ -16,7 +16,7 @@ use Rattle.text.proofs.LineLaws.{text-terminator}
 use Rattle.stamp.specs.declared.read.Time.{Time}
 use Rattle.stamp.specs.declared.read.Time.the-variants.{At, Bad}
 use Rattle.stamp.specs.Read.{timeIn}
-use Rattle.segmap.specs.declared.segment.Segment.{Segment}
+use Rattle.segment.specs.declared.segment.Segment.{Segment}
 use Rattle.event.specs.declared.setting.Config.{Config}
 use Rattle.event.specs.declared.telling.Told.{Told}
 use Rattle.event.specs.Decide.{decideIn}

@@ -25,7 +25,7 @@ ghost use lib.ListN.{length, drop};
 ghost use Rattle.base.specs.Put.{put};
 ghost use Rattle.text.specs.Line.{textOf, terminatorOf};
 ghost use Rattle.stamp.specs.Read.{timeIn};
-ghost use Rattle.segmap.specs.Segment.{segmentsOf};
+ghost use Rattle.segment.specs.Segment.{segmentsOf};
 ghost use Rattle.event.specs.Decide.{decideIn};
 ghost use Rattle.event.specs.Fates.{passed};
 ghost use Rattle.event.specs.Emit.{none, decided, emit, warning, warnIf, placesOf, keptEmit};

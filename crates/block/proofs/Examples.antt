@@ -14,8 +14,8 @@ use Rattle.time.specs.Kind.{kindBad, unitsOf, markOf, fractionDigits, hourDigit
 use Rattle.time.specs.Convert.{scaledUp, ticksOf, startUnits, endUnits, coreHolds, ticksWithin, startWithin, endWithin}
 use Rattle.stamp.specs.Read.{timeWith, timeIn}
 use Rattle.stamp.specs.Write.{pad, widthUnder, width, textWith, timeText}
-use Rattle.segmap.specs.declared.segment.Segment.{Segment}
-use Rattle.segmap.specs.Segment.{segmentsOf, endBad}
+use Rattle.segment.specs.declared.segment.Segment.{Segment}
+use Rattle.segment.specs.Segment.{segmentsOf, endBad}
 use Rattle.event.specs.declared.setting.Config.{Config}
 use Rattle.event.specs.Hit.{meetsParts, findFrom, lostRule}
 use Rattle.event.specs.Decide.{decideIn}

@@ -14,7 +14,7 @@ use Rattle.stamp.specs.declared.read.Time.the-variants.{At, Bad}
 use Rattle.time.specs.Kind.{unitsOf, markOf}
 use Rattle.stamp.specs.Read.{timeIn}
 use Rattle.stamp.proofs.Reading.{time-below, time-mark}
-use Rattle.segmap.specs.Segment.{segmentsOf, mapBad}
+use Rattle.segment.specs.Segment.{segmentsOf, mapBad}
 use Rattle.event.specs.declared.setting.Config.{Config}
 use Rattle.event.specs.Says.{Cue, stays, passes, cue}
 use Rattle.event.specs.Emit.{emitBy}

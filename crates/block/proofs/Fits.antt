@@ -14,8 +14,8 @@ use Rattle.stamp.specs.declared.read.Time.the-variants.{At, Bad}
 use Rattle.stamp.specs.Read.{timeIn}
 use Rattle.time.specs.Convert.{coreUnits}
 use Rattle.stamp.proofs.Reading.{time-most}
-use Rattle.segmap.specs.declared.segment.Segment.{Segment}
-use Rattle.segmap.specs.Segment.{segmentsOf, mapBad}
+use Rattle.segment.specs.declared.segment.Segment.{Segment}
+use Rattle.segment.specs.Segment.{segmentsOf, mapBad}
 use Rattle.event.specs.declared.setting.Config.{Config}
 use Rattle.event.specs.declared.retiming.Decision.{Decision}
 use Rattle.event.specs.declared.retiming.Decision.the-variants.{Strange, Dropped, Kept}

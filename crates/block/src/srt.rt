@@ -17,7 +17,7 @@ ghost use lib.ListN.{length};
 ghost use Rattle.base.specs.Put.{put, placedAt, placeAfter};
 ghost use Rattle.stamp.specs.Read.{timeIn};
 ghost use Rattle.stamp.specs.Write.{timeText};
-ghost use Rattle.segmap.specs.Segment.{segmentsOf};
+ghost use Rattle.segment.specs.Segment.{segmentsOf};
 ghost use Rattle.event.specs.declared.retiming.Decision.the-variants.{Kept};
 ghost use Rattle.event.specs.Decide.{decideIn};
 ghost use Rattle.event.specs.Emit.{warnIf, placesOf, render};

@@ -7,9 +7,9 @@ use native.Mathlib.Omega.{arith}
 use lib.Dec.{ltb}
 use Rattle.base.specs.Limits.{mostTicks}
 use Rattle.time.specs.Convert.{ticksWithin, startWithin, endWithin}
-use Rattle.segmap.specs.declared.segment.Segment.{Segment}
-use Rattle.segmap.specs.Segment.{sourceOf, outputStartOf, endBad}
-use Rattle.segmap.proofs.SegmentLaws.{end-good}
+use Rattle.segment.specs.declared.segment.Segment.{Segment}
+use Rattle.segment.specs.Segment.{sourceOf, outputStartOf, endBad}
+use Rattle.segment.proofs.SegmentLaws.{end-good}
 use Rattle.event.specs.declared.setting.Config.{Config}
 use Rattle.event.specs.declared.meeting.Met.{Met}
 use Rattle.event.specs.declared.meeting.Hit.{Hit}

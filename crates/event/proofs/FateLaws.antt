@@ -11,8 +11,8 @@ use Rattle.time.specs.Kind.{unitsOf}
 use Rattle.time.specs.Convert.{ticksOf, startUnits, endUnits}
 use Rattle.time.specs.Near.{NearStart, NearEnd}
 use Rattle.time.proofs.Drift.{near-start, near-end}
-use Rattle.segmap.specs.declared.segment.Segment.{Segment}
-use Rattle.segmap.specs.Segment.{sourceOf, outputStartOf, sourceEnd}
+use Rattle.segment.specs.declared.segment.Segment.{Segment}
+use Rattle.segment.specs.Segment.{sourceOf, outputStartOf, sourceEnd}
 use Rattle.event.specs.declared.setting.Config.{Config}
 use Rattle.event.specs.declared.retiming.Retimed.{Retimed}
 use Rattle.event.specs.Hit.{meetsParts, meets, Found, miss, hit, findFrom, findHit, metOf}

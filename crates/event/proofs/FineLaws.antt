@@ -11,8 +11,8 @@ use Rattle.base.specs.Limits.{mostTimescale, mostTicks, mostSegments, mostFrame
 use Rattle.time.specs.Kind.{kindBad, unitsOf}
 use Rattle.time.specs.Convert.{ticksOf, startUnits, endUnits, timescaleBad, ticksWithin, startWithin, endWithin, coreTimescale, coreUnits, coreTicks}
 use Rattle.time.proofs.Limits.{Within, ticks-within, start-within, end-within, timescale-low, timescale-high}
-use Rattle.segmap.specs.declared.segment.Segment.{Segment}
-use Rattle.segmap.specs.Segment.{sourceOf, outputStartOf, sourceEnd, segmentsOf, endBad, segmentBad, anyBad, mapBad}
+use Rattle.segment.specs.declared.segment.Segment.{Segment}
+use Rattle.segment.specs.Segment.{sourceOf, outputStartOf, sourceEnd, segmentsOf, endBad, segmentBad, anyBad, mapBad}
 use Rattle.event.specs.declared.setting.Config.{Config}
 use Rattle.event.specs.declared.meeting.Met.{Met}
 use Rattle.event.specs.declared.retiming.Retimed.{Retimed}

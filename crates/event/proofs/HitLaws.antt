@@ -9,9 +9,9 @@ use borrow.Author.Tests.{lt-ltb, le-ltb, ltb-true, ltb-false}
 use lib.Dec.{ltb}
 use lib.ListN.{length, drop, getD, length-drop}
 use Rattle.base.proofs.Laws.{and-left, and-right, and-false, and-true}
-use Rattle.segmap.specs.declared.segment.Segment.{Segment}
-use Rattle.segmap.specs.Segment.{segment, segmentsOf}
-use Rattle.segmap.proofs.SegmentLaws.{segments-cut, segments-short}
+use Rattle.segment.specs.declared.segment.Segment.{Segment}
+use Rattle.segment.specs.Segment.{segment, segmentsOf}
+use Rattle.segment.proofs.SegmentLaws.{segments-cut, segments-short}
 use Rattle.event.specs.declared.meeting.Met.{Met}
 use Rattle.event.specs.declared.meeting.Hit.{Hit}
 use Rattle.event.specs.declared.meeting.Hit.the-variants.{Miss, At}

@@ -9,8 +9,8 @@ use Rattle.time.specs.Kind.{unitsOf}
 use Rattle.time.specs.Convert.{startUnits, endUnits, coreTicks, coreHolds, startWithin, endWithin}
 use Rattle.time.proofs.Conversions.{start-low, end-start}
 use Rattle.time.proofs.Limits.{core-within, units-high}
-use Rattle.segmap.specs.declared.segment.Segment.{Segment}
-use Rattle.segmap.specs.Segment.{sourceOf, outputStartOf, endBad}
+use Rattle.segment.specs.declared.segment.Segment.{Segment}
+use Rattle.segment.specs.Segment.{sourceOf, outputStartOf, endBad}
 use Rattle.event.specs.declared.setting.Config.{Config}
 use Rattle.event.specs.declared.retiming.Decision.{Decision}
 use Rattle.event.specs.declared.retiming.Decision.the-variants.{Strange, Dropped, Kept}

@@ -6,8 +6,8 @@ use Prim.Native.Nat.{ℕ, _+_, _-_, min, max}
 use lib.Dec.{ltb}
 use Rattle.time.specs.Kind.{unitsOf}
 use Rattle.time.specs.Convert.{ticksOf, startUnits, endUnits, ticksWithin, startWithin, endWithin}
-use Rattle.segmap.specs.declared.segment.Segment.{Segment}
-use Rattle.segmap.specs.Segment.{sourceOf, outputStartOf, sourceEnd, endBad}
+use Rattle.segment.specs.declared.segment.Segment.{Segment}
+use Rattle.segment.specs.Segment.{sourceOf, outputStartOf, sourceEnd, endBad}
 use Rattle.event.specs.declared.setting.Config.{Config}
 use Rattle.event.specs.declared.meeting.Met.{Met}
 use Rattle.event.specs.declared.retiming.Retimed.{Retimed}

@@ -4,8 +4,8 @@ use mathlib.Core.List.{List, [], _∷_}
 use Prim.Native.Nat.{ℕ, suc, _+_}
 use lib.Dec.{ltb}
 use lib.ListN.{length, getD}
-use Rattle.segmap.specs.declared.segment.Segment.{Segment}
-use Rattle.segmap.specs.Segment.{sourceOf, outputStartOf}
+use Rattle.segment.specs.declared.segment.Segment.{Segment}
+use Rattle.segment.specs.Segment.{sourceOf, outputStartOf}
 use Rattle.event.specs.declared.meeting.Met.{Met}
 use Rattle.event.specs.declared.meeting.Hit.{Hit}
 use Rattle.event.specs.declared.meeting.Hit.the-variants.{Miss, At}

@@ -5,7 +5,7 @@ use mathlib.Core.List.{List, [], _∷_}
 use Prim.Native.Nat.{ℕ}
 use lib.ListN.{length}
 use Rattle.base.specs.Put.{put}
-use Rattle.segmap.specs.declared.segment.Segment.{Segment}
+use Rattle.segment.specs.declared.segment.Segment.{Segment}
 use Rattle.event.specs.declared.setting.Config.{Config}
 use Rattle.event.specs.declared.telling.Counted.{Counted}
 use Rattle.event.specs.declared.telling.Counted.the-variants.{Nothing, Passed, Dropped, Shifted, Clipped}

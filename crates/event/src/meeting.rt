@@ -1,6 +1,6 @@
 // The first segment that a caption meets. The map is a flat row of numbers, six to a segment.
 ghost use mathlib.Core.Path.{_≡_};
-ghost use Rattle.segmap.specs.Segment.{segmentsOf};
+ghost use Rattle.segment.specs.Segment.{segmentsOf};
 ghost use Rattle.event.specs.Hit.{meetsParts, metAt, findHit, hitOf};
 
 // A segment that is met, its place in the list from 0, and the source start and duration of the very next one.

@@ -6,7 +6,7 @@ ghost use mathlib.Core.Path.{_≡_};
 ghost use mathlib.Core.Bool.{true, false, _&&_};
 ghost use Prim.Native.Nat.{_+_, _<_, min, max};
 ghost use Rattle.time.specs.Convert.{startWithin, endWithin};
-ghost use Rattle.segmap.specs.Segment.{segmentsOf, endBad};
+ghost use Rattle.segment.specs.Segment.{segmentsOf, endBad};
 ghost use Rattle.event.specs.Hit.{meetsParts, lostRule};
 ghost use Rattle.event.specs.Decide.{retimedBy, decideIn};
 
@@ -91,10 +91,10 @@ pub fn decide(map: &[u64], config: Config, s: u64, e: u64) -> Decision
     match crate::meeting::find_hit(map, from, to) {
         Hit::Miss => Decision::Dropped,
         Hit::At(x) => {
-            if segmap::end_bad(x.source, x.duration) {
+            if segment::end_bad(x.source, x.duration) {
                 return Decision::Strange;
             }
-            if segmap::end_bad(x.output, x.duration) {
+            if segment::end_bad(x.output, x.duration) {
                 return Decision::Strange;
             }
             let r = retime(x, config, from, to);

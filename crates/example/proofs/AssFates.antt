@@ -14,8 +14,8 @@ use Rattle.text.specs.Line.{linesOf, textOf, terminatorLength, terminatorOf}
 use Rattle.time.specs.Kind.{kindBad, unitsOf, markOf}
 use Rattle.time.specs.Convert.{ticksOf, startUnits, endUnits, scaledUp}
 use Rattle.stamp.specs.Read.{timeWith, timeIn}
-use Rattle.segmap.specs.declared.segment.Segment.{Segment}
-use Rattle.segmap.specs.Segment.{flatOf, segmentsOf, endBad, segmentBad, anyBad, mapBad}
+use Rattle.segment.specs.declared.segment.Segment.{Segment}
+use Rattle.segment.specs.Segment.{flatOf, segmentsOf, endBad, segmentBad, anyBad, mapBad}
 use Rattle.event.specs.declared.setting.Config.{Config}
 use Rattle.event.specs.Hit.{meetsParts, findFrom, lostRule}
 use Rattle.event.specs.Decide.{decideTicks, decideOf}

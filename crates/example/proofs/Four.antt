@@ -10,7 +10,7 @@ use lib.ListN.{length, getD}
 use borrow.Author.Tests.{ltb-true}
 use Rattle.sheet_vectors.specs.Small.{smallSheet}
 use Rattle.time.specs.Kind.{kindBad}
-use Rattle.segmap.specs.Segment.{flatOf, segmentsOf}
+use Rattle.segment.specs.Segment.{flatOf, segmentsOf}
 use Rattle.segmap.specs.Map.{Map}
 use Rattle.columns.specs.declared.layout.Columns.{Columns}
 use Rattle.table.specs.Example.{theList, theMap, setting}

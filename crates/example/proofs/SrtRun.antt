@@ -16,7 +16,7 @@ use Rattle.time.specs.Kind.{kindBad, unitsOf, markOf, fractionDigits, hourDigit
 use Rattle.time.specs.Convert.{ticksOf, startUnits, endUnits, scaledUp}
 use Rattle.stamp.specs.Read.{timeWith, timeIn}
 use Rattle.stamp.specs.Write.{pad, widthUnder, width, textWith, timeText}
-use Rattle.segmap.specs.Segment.{flatOf, segmentsOf, endBad, segmentBad, anyBad, mapBad}
+use Rattle.segment.specs.Segment.{flatOf, segmentsOf, endBad, segmentBad, anyBad, mapBad}
 use Rattle.event.specs.Hit.{meetsParts, findFrom, lostRule}
 use Rattle.event.specs.Decide.{decideTicks, decideOf}
 use Rattle.event.specs.Emit.{emitBy, emitsOf, render, outputOf, warningsOf}

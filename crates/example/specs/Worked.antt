@@ -4,7 +4,7 @@ use mathlib.Core.Bool.{Bool}
 use mathlib.Core.List.{List, [], _∷_}
 use Prim.Native.Nat.{ℕ}
 use lib.ListN.{length}
-use Rattle.segmap.specs.Segment.{segment, flatOf}
+use Rattle.segment.specs.Segment.{segment, flatOf}
 use Rattle.segmap.specs.Map.{Map}
 use Rattle.event.specs.Emit.{Warning, outputOf, warningsOf}
 use Rattle.columns.specs.declared.layout.Columns.{Columns}

@@ -10,7 +10,7 @@ use borrow.Author.Tests.{ltb-false}
 use Rattle.base.specs.Limits.{mostPiece, leastOutput, leastPlaces, mostHeld}
 use Rattle.base.proofs.Laws.{or-left}
 use Rattle.time.specs.Kind.{kindBad}
-use Rattle.segmap.specs.Segment.{segmentsOf, mapBad}
+use Rattle.segment.specs.Segment.{segmentsOf, mapBad}
 use Rattle.event.specs.declared.setting.Config.{Config}
 use Rattle.event.specs.Says.{Part}
 use Rattle.event.specs.Emit.{Emit, Warning, outputOf, warningsOf, placesOf, emitsOf}

@@ -11,8 +11,8 @@ use Rattle.utf8.specs.Utf8.{utf8}
 use Rattle.white.specs.White.{headFrom, trimHead}
 use Rattle.text.specs.Line.{linesOf, concat, lineCount, hasLf, blank}
 use Rattle.text.proofs.LineLaws.{Finished, lines-end}
-use Rattle.segmap.specs.declared.segment.Segment.{Segment}
-use Rattle.segmap.specs.Segment.{segmentsOf, mapBad}
+use Rattle.segment.specs.declared.segment.Segment.{Segment}
+use Rattle.segment.specs.Segment.{segmentsOf, mapBad}
 use Rattle.event.specs.declared.setting.Config.{Config}
 use Rattle.event.specs.Says.{Part, stays, Fault, notUtf8}
 use Rattle.event.specs.Emit.{emitOf}

@@ -6,7 +6,7 @@ use Prim.Native.Nat.{ℕ}
 use native.Mathlib.Omega.{arith}
 use Rattle.time.specs.Kind.{kindBad}
 use Rattle.time.specs.Convert.{timescaleBad}
-use Rattle.segmap.specs.Segment.{mapBad}
+use Rattle.segment.specs.Segment.{mapBad}
 use Rattle.columns.specs.declared.layout.Columns.{Columns}
 use Rattle.machine.specs.Counts.{noCounts}
 use Rattle.machine.specs.Session.{configBad, Call, lentOf, argumentBad, gate, foreign, noSession, respond, answer}

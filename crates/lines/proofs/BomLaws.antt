@@ -12,7 +12,7 @@ use Rattle.base.specs.Put.{put, putAt, placed}
 use Rattle.base.proofs.PartLaws.{rest-all}
 use Rattle.base.proofs.PutLaws.{put-nil, put-append, tail-back, putAt-nil, putAt-zero, placed-yes, length-tail}
 use Rattle.pattern.specs.Find.{starts}
-use Rattle.segmap.specs.declared.segment.Segment.{Segment}
+use Rattle.segment.specs.declared.segment.Segment.{Segment}
 use Rattle.event.specs.declared.setting.Config.{Config}
 use Rattle.event.specs.Says.{stays, faultNumber}
 use Rattle.event.specs.Emit.{Emit, emit, none, outputOf, warningsOf}

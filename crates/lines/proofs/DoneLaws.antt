@@ -11,8 +11,8 @@ use Rattle.base.specs.Limits.{mostBlock}
 use Rattle.base.specs.Put.{put}
 use Rattle.utf8.specs.Utf8.{utf8}
 use Rattle.text.specs.Line.{concat, linesOf, lineCount}
-use Rattle.segmap.specs.declared.segment.Segment.{Segment}
-use Rattle.segmap.specs.Segment.{segmentsOf}
+use Rattle.segment.specs.declared.segment.Segment.{Segment}
+use Rattle.segment.specs.Segment.{segmentsOf}
 use Rattle.event.specs.declared.setting.Config.{Config}
 use Rattle.event.specs.Says.{Part, stays, notUtf8}
 use Rattle.event.specs.Emit.{Emit, emitBy, emitOf, emitsOf, outputOf, warningsOf, placesOf}

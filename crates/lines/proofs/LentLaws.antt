@@ -9,7 +9,7 @@ use lib.ListN.{length, take, drop}
 use borrow.Author.Tests.{lt-ltb, le-ltb, ltb-false}
 use Rattle.base.proofs.Laws.{or-left, or-right}
 use Rattle.text.specs.Line.{linesOf}
-use Rattle.segmap.specs.declared.segment.Segment.{Segment}
+use Rattle.segment.specs.declared.segment.Segment.{Segment}
 use Rattle.event.specs.declared.setting.Config.{Config}
 use Rattle.columns.specs.declared.layout.Columns.{Columns}
 use Rattle.timing.specs.Style.{srt}

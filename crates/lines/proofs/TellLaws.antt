@@ -14,7 +14,7 @@ use Rattle.base.proofs.PutLaws.{put-nil, then-placed}
 use Rattle.utf8.specs.Utf8.{utf8}
 use Rattle.text.specs.Line.{concat, linesOf, lineCount, lineLength}
 use Rattle.text.proofs.LineLaws.{line-some, lines-cut, lines-end, lines-joined}
-use Rattle.segmap.specs.declared.segment.Segment.{Segment}
+use Rattle.segment.specs.declared.segment.Segment.{Segment}
 use Rattle.event.specs.declared.setting.Config.{Config}
 use Rattle.event.specs.declared.telling.Told.{Told}
 use Rattle.event.specs.declared.telling.Counted.{Counted}

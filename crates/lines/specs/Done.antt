@@ -8,7 +8,7 @@ use Rattle.base.specs.Put.{put}
 use Rattle.text.specs.Line.{concat, linesOf}
 use Rattle.time.specs.Kind.{kindBad}
 use Rattle.time.specs.Convert.{timescaleBad}
-use Rattle.segmap.specs.Segment.{mapBad}
+use Rattle.segment.specs.Segment.{mapBad}
 use Rattle.event.specs.declared.setting.Config.{Config}
 use Rattle.event.specs.Says.{Part, faultNumber}
 use Rattle.event.specs.Emit.{outputOf, warningsOf, placesOf}

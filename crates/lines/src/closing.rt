@@ -10,7 +10,7 @@ ghost use mathlib.Core.List.{[]};
 ghost use Prim.Native.Nat.{_≤_, _<_, _-_, _*_, suc};
 ghost use lib.ListN.{length};
 ghost use Rattle.text.specs.Line.{linesOf, lineCount};
-ghost use Rattle.segmap.specs.Segment.{segmentsOf};
+ghost use Rattle.segment.specs.Segment.{segmentsOf};
 ghost use Rattle.timing.specs.Style.{srt};
 ghost use Rattle.kinds.specs.Takes.{blankState, closes};
 ghost use Rattle.lines.specs.Answer.{answerIn, endIn, EndTells};

@@ -15,7 +15,7 @@ ghost use Prim.Native.Nat.{_≤_, _+_, _-_};
 ghost use lib.ListN.{length, take, drop};
 ghost use Rattle.base.specs.Put.{placed};
 ghost use Rattle.text.specs.Line.{linesOf};
-ghost use Rattle.segmap.specs.Segment.{segmentsOf};
+ghost use Rattle.segment.specs.Segment.{segmentsOf};
 ghost use Rattle.timing.specs.Style.{srt};
 ghost use Rattle.machine.specs.Machine.{bom, hasBom, takeLine};
 ghost use Rattle.kinds.specs.Takes.{lineTakes, blockTakes, takes, machineOf};

@@ -3,7 +3,7 @@ use mathlib.Core.Path.{_≡_, refl, sym, ap, _∙_}
 use mathlib.Core.List.{List, [], _∷_, _++_, append-assoc}
 use Prim.Native.Nat.{ℕ, _+_}
 use native.Mathlib.Omega.{arith}
-use Rattle.segmap.specs.declared.segment.Segment.{Segment}
+use Rattle.segment.specs.declared.segment.Segment.{Segment}
 use Rattle.event.specs.declared.setting.Config.{Config}
 use Rattle.event.specs.declared.retiming.Decision.{Decision}
 use Rattle.event.specs.declared.retiming.Decision.the-variants.{Strange, Dropped, Kept}

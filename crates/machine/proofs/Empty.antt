@@ -4,7 +4,7 @@ use mathlib.Core.Bool.{Bool, true, false}
 use mathlib.Core.List.{List, []}
 use Prim.Native.Nat.{ℕ}
 use native.Mathlib.Omega.{arith}
-use Rattle.segmap.specs.Segment.{mapBad, segmentsOf}
+use Rattle.segment.specs.Segment.{mapBad, segmentsOf}
 use Rattle.machine.specs.declared.counting.Counts.{Counts}
 use Rattle.machine.specs.Counts.{countAll}
 use Rattle.machine.specs.Session.{Session, Kit, Lent, feed, argumentBad, gate, foreign, respond, answer, emitted}

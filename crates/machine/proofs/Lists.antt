@@ -10,7 +10,7 @@ use lib.ListN.{length, length-append}
 use borrow.Author.Tests.{ltb-false}
 use Rattle.base.specs.Limits.{mostTaken, mostPiece, leastOutput, leastPlaces}
 use Rattle.base.proofs.Laws.{or-right}
-use Rattle.segmap.specs.Segment.{mapBad, segmentsOf}
+use Rattle.segment.specs.Segment.{mapBad, segmentsOf}
 use Rattle.event.specs.declared.setting.Config.{Config}
 use Rattle.event.specs.Says.{Part, captionsIn}
 use Rattle.event.specs.Emit.{Emit, Warning, outputOf, warningsOf}

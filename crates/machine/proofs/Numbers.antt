@@ -10,7 +10,7 @@ use lib.ListN.{length}
 use Rattle.base.specs.Limits.{mostLine}
 use Rattle.time.specs.Kind.{kindBad}
 use Rattle.time.specs.Convert.{timescaleBad}
-use Rattle.segmap.specs.Segment.{mapBad}
+use Rattle.segment.specs.Segment.{mapBad}
 use Rattle.event.specs.declared.setting.Config.{Config}
 use Rattle.event.specs.Says.{Part, Fault, longLine, notUtf8, longBlock, badTime, faultNumber}
 use Rattle.machine.specs.Machine.{Machine, Says, faulty, says, withBom, takeLine, Rest, nothing, bomAlone, lastLine, restOf, Run, going, stopped}

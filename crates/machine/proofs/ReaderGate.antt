@@ -8,7 +8,7 @@ use lib.ListN.{length}
 use borrow.Author.Tests.{ltb-true, ltb-false, le-leb, lt-leb}
 use Rattle.base.specs.Limits.{mostPiece, leastOutput, leastPlaces, mostTaken}
 use Rattle.base.specs.Refusal.{_orElse_, faultUnless}
-use Rattle.segmap.specs.Segment.{mapBad}
+use Rattle.segment.specs.Segment.{mapBad}
 use Rattle.machine.specs.Reader.{Reading}
 use Rattle.machine.specs.Session.{Call, lentOf, pieceOf, argumentBad, Gate, refuse, admit, gate}
 use Rattle.machine.specs.Calls.{Reader, ReaderAnswer, readerAccepts, readerRefusal, readerBy, readerAnswer}

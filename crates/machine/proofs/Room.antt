@@ -11,7 +11,7 @@ use Rattle.base.specs.Limits.{mostLine}
 use Rattle.base.proofs.Laws.{and-right}
 use Rattle.pattern.specs.Find.{equals}
 use Rattle.text.specs.Line.{hasLf}
-use Rattle.segmap.specs.declared.segment.Segment.{Segment}
+use Rattle.segment.specs.declared.segment.Segment.{Segment}
 use Rattle.event.specs.declared.setting.Config.{Config}
 use Rattle.event.specs.Says.{Part, stays}
 use Rattle.event.specs.Emit.{Emit, emitBy, emitOf, emitsOf, outputOf, warningsOf}

@@ -8,7 +8,7 @@ use lib.Dec.{leb, eqb}
 use lib.ListN.{length}
 use Rattle.base.specs.Limits.{mostPiece, leastOutput, leastPlaces, mostTaken}
 use Rattle.base.specs.Refusal.{_orElse_, faultUnless}
-use Rattle.segmap.specs.Segment.{mapBad}
+use Rattle.segment.specs.Segment.{mapBad}
 use Rattle.event.specs.declared.setting.Config.{Config}
 use Rattle.event.specs.Emit.{Emit, Warning, outputOf, warningsOf}
 use Rattle.machine.specs.Counts.{countsOf}

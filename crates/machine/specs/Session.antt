@@ -7,7 +7,7 @@ use lib.ListN.{length}
 use Rattle.base.specs.Limits.{mostPiece, leastOutput, leastPlaces, mostTaken}
 use Rattle.time.specs.Kind.{kindBad}
 use Rattle.time.specs.Convert.{timescaleBad}
-use Rattle.segmap.specs.Segment.{segmentsOf, mapBad}
+use Rattle.segment.specs.Segment.{segmentsOf, mapBad}
 use Rattle.event.specs.declared.setting.Config.{Config}
 use Rattle.event.specs.Says.{Part}
 use Rattle.event.specs.Emit.{Emit, emitsOf}

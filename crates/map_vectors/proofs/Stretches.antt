@@ -6,7 +6,7 @@ use Rattle.blocks.specs.Block.{wordAt}
 use Rattle.frames.specs.Frames.{recordWord, decodeOf, syncOf, durationOf}
 use Rattle.sheet_vectors.specs.Small.{smallSheet}
 use Rattle.plan.specs.Snap.{lastBelow, firstFrom, floorSync, ceilSync, snapStart, snapEnd, snapAll, overlapsFault}
-use Rattle.segmap.specs.Segment.{flatOf}
+use Rattle.segment.specs.Segment.{flatOf}
 use Rattle.segmap.specs.Build.{ticksFrom, sourceStart, rangeTicks, rangeFault, rangesFault, segmentIn, segmentsIn}
 use Rattle.map_vectors.specs.Turned.{crossed, backward}
 

@@ -9,7 +9,7 @@ use lib.Dec.{leb}
 use lib.ListN.{length}
 use Rattle.base.specs.Limits.{mostLine}
 use Rattle.time.specs.Kind.{kindBad}
-use Rattle.segmap.specs.Segment.{mapBad}
+use Rattle.segment.specs.Segment.{mapBad}
 use Rattle.machine.specs.Cut.{closedLines, unfinished}
 use Rattle.machine.specs.Machine.{Machine, Says, faulty, says, withBom, takeLine, Rest, nothing, bomAlone, lastLine, restOf}
 use Rattle.machine.specs.Reader.{Reading, readLine, readClose, readLast, readRest, readLines}

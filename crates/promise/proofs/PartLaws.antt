@@ -10,8 +10,8 @@ use borrow.Author.Tests.{lt-ltb}
 use Rattle.time.specs.Kind.{unitsOf}
 use Rattle.time.specs.Convert.{ticksOf}
 use Rattle.stamp.specs.Write.{timeText}
-use Rattle.segmap.specs.declared.segment.Segment.{Segment}
-use Rattle.segmap.specs.Segment.{sourceOf, sourceEnd}
+use Rattle.segment.specs.declared.segment.Segment.{Segment}
+use Rattle.segment.specs.Segment.{sourceOf, sourceEnd}
 use Rattle.event.specs.declared.setting.Config.{Config}
 use Rattle.event.specs.declared.retiming.Retimed.{Retimed}
 use Rattle.event.specs.declared.retiming.Decision.{Decision}

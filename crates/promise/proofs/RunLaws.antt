@@ -8,7 +8,7 @@ use lib.ListN.{length, take}
 use Rattle.base.specs.Limits.{mostHeld}
 use Rattle.base.specs.Put.{put}
 use Rattle.base.proofs.PutLaws.{take-put}
-use Rattle.segmap.specs.Segment.{mapBad}
+use Rattle.segment.specs.Segment.{mapBad}
 use Rattle.event.specs.Emit.{Warning, outputOf, warningsOf, placesOf}
 use Rattle.columns.specs.declared.layout.Columns.{Columns}
 use Rattle.machine.specs.Machine.{Run, going, stopped, finishRun, restOf}

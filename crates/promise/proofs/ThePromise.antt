@@ -10,10 +10,10 @@ use Rattle.sheet.proofs.SheetLaws.{sound-head}
 use Rattle.time.specs.Kind.{kindBad}
 use Rattle.time.specs.Convert.{timescaleBad}
 use Rattle.time.proofs.Limits.{timescale-good}
-use Rattle.segmap.specs.declared.segment.Segment.{Segment}
-use Rattle.segmap.specs.Segment.{flatOf, mapBad}
+use Rattle.segment.specs.declared.segment.Segment.{Segment}
+use Rattle.segment.specs.Segment.{flatOf, mapBad}
 use Rattle.segmap.specs.Map.{mapOf, mapNumber}
-use Rattle.segmap.proofs.SegmentLaws.{flat-back}
+use Rattle.segment.proofs.SegmentLaws.{flat-back}
 use Rattle.segmap.proofs.Built.{map-number, made-parts, made-timescale, made-good}
 use Rattle.columns.specs.declared.layout.Columns.{Columns}
 use Rattle.machine.specs.Session.{Gate, refuse, admit, gate, openBy, openSession}

@@ -7,8 +7,8 @@ use lib.Dec.{ltb, leb}
 use Rattle.time.specs.Kind.{unitsOf}
 use Rattle.time.specs.Convert.{ticksOf}
 use Rattle.stamp.specs.Write.{timeText}
-use Rattle.segmap.specs.declared.segment.Segment.{Segment}
-use Rattle.segmap.specs.Segment.{sourceOf, sourceEnd, segmentsOf}
+use Rattle.segment.specs.declared.segment.Segment.{Segment}
+use Rattle.segment.specs.Segment.{sourceOf, sourceEnd, segmentsOf}
 use Rattle.event.specs.declared.setting.Config.{Config}
 use Rattle.event.specs.Fates.{Fate, passed, dropped, shifted, clipped, FirstMet, Right}
 use Rattle.event.specs.Says.{reasonNumber, Cue, Part, stays, passes, cue, captionsIn}

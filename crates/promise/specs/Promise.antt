@@ -19,8 +19,8 @@ use Prim.Native.Nat.{ℕ, _<_}
 use lib.ListN.{getD}
 use Rattle.time.specs.Kind.{kindBad}
 use mathlib.Core.Bool.{false}
-use Rattle.segmap.specs.declared.segment.Segment.{Segment}
-use Rattle.segmap.specs.Segment.{flatOf}
+use Rattle.segment.specs.declared.segment.Segment.{Segment}
+use Rattle.segment.specs.Segment.{flatOf}
 use Rattle.segmap.specs.Map.{mapOf}
 use Rattle.event.specs.declared.setting.Config.{Config}
 use Rattle.machine.specs.Calls.{Proper}

@@ -9,7 +9,7 @@ use Rattle.base.specs.Put.{put}
 use Rattle.base.proofs.Laws.{yes!, no! }
 use Rattle.base.proofs.RefusalLaws.{else-here, else-next}
 use Rattle.segmap.specs.declared.whole.Made.{Made}
-use Rattle.segmap.specs.Segment.{flatOf}
+use Rattle.segment.specs.Segment.{flatOf}
 use Rattle.segmap.specs.Map.{Map, mapOf, madeOf}
 use Rattle.segmap.proofs.Built.{map-front}
 use Rattle.foreign.specs.declared.holding.Session.{Session}

@@ -7,7 +7,7 @@ use lib.Dec.{ltb}
 use lib.ListN.{length}
 use Rattle.base.specs.Limits.{mostPiece, leastOutput, leastPlaces}
 use Rattle.base.specs.Refusal.{_orElse_}
-use Rattle.segmap.specs.Segment.{flatOf}
+use Rattle.segment.specs.Segment.{flatOf}
 use Rattle.segmap.specs.Map.{Map, mapOf}
 use Rattle.foreign.specs.declared.holding.Session.{Session}
 use Rattle.foreign.specs.View.{stored}

@@ -13,8 +13,8 @@ use Rattle.base.proofs.PutLaws.{sets-put}
 use Rattle.base.proofs.RefusalLaws.{held, else-zero, else-none, else-found}
 use Rattle.frames.specs.Frames.{decodeOf}
 use Rattle.plan.proofs.PairLaws.{leftOf, pairs-start, left-cut, left-short, pairs-done}
-use Rattle.segmap.specs.declared.segment.Segment.{Segment}
-use Rattle.segmap.specs.Segment.{segment, numbersOf, flatOf}
+use Rattle.segment.specs.declared.segment.Segment.{Segment}
+use Rattle.segment.specs.Segment.{segment, numbersOf, flatOf}
 use Rattle.segmap.specs.Build.{ticksFrom, sourceStart, rangeTicks, rangeFault, rangesFault, segmentIn, segmentsIn}
 use Rattle.segmap.proofs.TicksLaws.{ticks-split}
 

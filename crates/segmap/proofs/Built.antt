@@ -22,12 +22,12 @@ use Rattle.trim.specs.TrimList.{listNumber, rangesOf, rangeCount}
 use Rattle.trim.proofs.RangeLaws.{list-number-table, range-count-most, ranges-length}
 use Rattle.plan.specs.Snap.{overlapsFault}
 use Rattle.plan.proofs.SnapMeaning.{Bounded, snap-bounded, overlap-numbers, overlap-apart}
-use Rattle.segmap.specs.declared.segment.Segment.{Segment}
+use Rattle.segment.specs.declared.segment.Segment.{Segment}
 use Rattle.segmap.specs.declared.whole.Made.{Made}
-use Rattle.segmap.specs.Segment.{segment, flatOf, endBad, segmentBad, anyBad, mapBad}
+use Rattle.segment.specs.Segment.{segment, flatOf, endBad, segmentBad, anyBad, mapBad}
 use Rattle.segmap.specs.Build.{ticksFrom, sourceStart, rangeTicks, rangeFault, rangesFault, segmentIn, segmentsIn}
 use Rattle.segmap.specs.Map.{rangesFor, snappedOf, mapNumber, Map, mapAnswer, mapOf, madeOf}
-use Rattle.segmap.proofs.SegmentLaws.{flat-back}
+use Rattle.segment.proofs.SegmentLaws.{flat-back}
 use Rattle.segmap.proofs.TicksLaws.{ticks-none, ticks-split, ticks-more, ticks-most, ticks-within}
 use Rattle.segmap.proofs.BuildLaws.{fault-free, faults-cut}
 use Rattle.segmap.proofs.MapLaws.{segments-count, snapped-length}

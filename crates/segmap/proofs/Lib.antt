@@ -1,4 +1,3 @@
-pub mod SegmentLaws
 pub mod TicksLaws
 pub mod BuildLaws
 pub mod MapLaws

@@ -21,9 +21,9 @@ use Rattle.trim.specs.declared.list.Parsed.{Parsed}
 use Rattle.trim.proofs.RangeLaws.{parse-number, parse-lent, range-count-most, ranges-length, answered-count, places-front}
 use Rattle.plan.specs.Snap.{snapAll, overlapsFault}
 use Rattle.plan.proofs.SnapLaws.{snap-length}
-use Rattle.segmap.specs.declared.segment.Segment.{Segment}
+use Rattle.segment.specs.declared.segment.Segment.{Segment}
 use Rattle.segmap.specs.declared.whole.Made.{Made}
-use Rattle.segmap.specs.Segment.{flatOf}
+use Rattle.segment.specs.Segment.{flatOf}
 use Rattle.segmap.specs.Build.{rangeTicks, rangesFault, segmentsIn}
 use Rattle.segmap.specs.Map.{rangesFor, snappedOf, mapNumber, mapAnswer, mapOf, made, madeOf}
 

@@ -5,8 +5,8 @@ use mathlib.Core.List.{List, [], _∷_}
 use lib.Dec.{leb}
 use Rattle.base.specs.Refusal.{_orElse_, faultUnless}
 use Rattle.frames.specs.Frames.{decodeOf, durationOf}
-use Rattle.segmap.specs.declared.segment.Segment.{Segment}
-use Rattle.segmap.specs.Segment.{segment}
+use Rattle.segment.specs.declared.segment.Segment.{Segment}
+use Rattle.segment.specs.Segment.{segment}
 
 -- the durations of k samples together, in decode order from decode index i on
 unfoldable pub ticksFrom : List ℕ → ℕ → ℕ → ℕ

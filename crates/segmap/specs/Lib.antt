@@ -1,4 +1,3 @@
 -- The segment map.
-pub mod Segment
 pub mod Build
 pub mod Map

@@ -9,7 +9,7 @@ use Rattle.frames.specs.Frames.{framesOf, timescaleOf}
 use Rattle.sheet.specs.Sheet.{sheetFault}
 use Rattle.trim.specs.TrimList.{listNumber, rangesOf}
 use Rattle.plan.specs.Snap.{snapAll, overlapsFault}
-use Rattle.segmap.specs.declared.segment.Segment.{Segment}
+use Rattle.segment.specs.declared.segment.Segment.{Segment}
 use Rattle.segmap.specs.declared.whole.Made.{Made}
 use Rattle.segmap.specs.Build.{rangesFault, segmentsIn}
 

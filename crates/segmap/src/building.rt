@@ -1,10 +1,10 @@
 // The segments of ranges without a fault, written six numbers each.
-use crate::segment::Segment;
 use crate::sums::Reached;
 use crate::sums::at_first;
 use crate::sums::reach;
 use order::DecodeIdx;
 use order::DisplayIdx;
+use segment::Segment;
 ghost use mathlib.Core.Path.{_≡_};
 ghost use Prim.Native.Nat.{_+_, _-_, _*_, _≤_};
 ghost use lib.ListN.{length, take};
@@ -12,7 +12,7 @@ ghost use lib.Seq.{sets};
 ghost use Rattle.base.specs.Limits.{mostFrames, mostTicks, mostSegments};
 ghost use Rattle.base.specs.Put.{put};
 ghost use Rattle.frames.specs.Frames.{decodeOf};
-ghost use Rattle.segmap.specs.Segment.{numbersOf, flatOf};
+ghost use Rattle.segment.specs.Segment.{numbersOf, flatOf};
 ghost use Rattle.segmap.specs.Build.{ticksFrom, rangesFault, segmentIn, segmentsIn};
 
 // A segment, and how far the sum has come with it.

@@ -11,7 +11,7 @@ ghost use Rattle.base.specs.Refusal.{_orElse_};
 ghost use Rattle.frames.specs.Frames.{framesOf, timescaleOf};
 ghost use Rattle.sheet.specs.Sheet.{sheetFault};
 ghost use Rattle.plan.specs.Snap.{overlapsFault};
-ghost use Rattle.segmap.specs.Segment.{flatOf};
+ghost use Rattle.segment.specs.Segment.{flatOf};
 ghost use Rattle.segmap.specs.Build.{rangesFault, segmentsIn};
 ghost use Rattle.segmap.specs.Map.{made, madeOf, mapOf};
 

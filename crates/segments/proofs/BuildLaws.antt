@@ -10,12 +10,12 @@ use Rattle.base.specs.Put.{put}
 use Rattle.frames.specs.Frames.{framesOf}
 use Rattle.sheet.proofs.SheetLaws.{sound-head}
 use Rattle.plan.proofs.SnapMeaning.{Bounded}
-use Rattle.segmap.specs.declared.segment.Segment.{Segment}
+use Rattle.segment.specs.declared.segment.Segment.{Segment}
 use Rattle.segmap.specs.declared.whole.Made.{Made}
-use Rattle.segmap.specs.Segment.{flatOf, segmentsOf}
+use Rattle.segment.specs.Segment.{flatOf, segmentsOf}
 use Rattle.segmap.specs.Build.{rangeTicks, segmentIn, segmentsIn}
 use Rattle.segmap.specs.Map.{snappedOf, mapNumber, Map, mapOf, made, madeOf}
-use Rattle.segmap.proofs.SegmentLaws.{flat-back}
+use Rattle.segment.proofs.SegmentLaws.{flat-back}
 use Rattle.segmap.proofs.MapLaws.{short-made}
 use Rattle.segmap.proofs.Built.{map-count, map-front, told-number, told-count, map-refused, made-parts, made-segments, made-few, made-bounded}
 use Rattle.segments.specs.Records.{recorded, mapInto, narrowed}

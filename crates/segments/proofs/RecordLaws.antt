@@ -11,8 +11,8 @@ use lib.Seq.{drop-cons, drop-length, take-suc, take-all, set-at, length-take-le}
 use Rattle.base.specs.Put.{put, putAt, placed, placedAt}
 use Rattle.base.specs.Refusal.{faultUnless}
 use Rattle.base.proofs.PutLaws.{put-append, then-put, then-placed, placed-yes, placed-no}
-use Rattle.segmap.specs.declared.segment.Segment.{Segment}
-use Rattle.segmap.specs.Segment.{sourceOf, numbersOf, flatOf, segmentsOf}
+use Rattle.segment.specs.declared.segment.Segment.{Segment}
+use Rattle.segment.specs.Segment.{sourceOf, numbersOf, flatOf, segmentsOf}
 use Rattle.segmap.proofs.Built.{flat-length}
 use Rattle.event.specs.declared.meeting.Hit.the-variants.{Miss}
 use Rattle.event.specs.Hit.{meets, findFrom, hitOf, nextSource, nextDuration}

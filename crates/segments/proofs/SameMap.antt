@@ -10,10 +10,10 @@ use lib.Seq.{take-append-seam}
 use Rattle.base.specs.Put.{put, placed}
 use Rattle.base.proofs.PutLaws.{placed-yes, take-put}
 use Rattle.base.proofs.RefusalLaws.{held}
-use Rattle.segmap.specs.declared.segment.Segment.{Segment}
-use Rattle.segmap.specs.Segment.{flatOf, segmentsOf}
+use Rattle.segment.specs.declared.segment.Segment.{Segment}
+use Rattle.segment.specs.Segment.{flatOf, segmentsOf}
 use Rattle.segmap.specs.Map.{mapOf}
-use Rattle.segmap.proofs.SegmentLaws.{flat-back}
+use Rattle.segment.proofs.SegmentLaws.{flat-back}
 use Rattle.segmap.proofs.Built.{flat-length, map-count, map-front}
 use Rattle.event.specs.Hit.{findHit, hitOf}
 use Rattle.segments.specs.Records.{recorded, flatNumber}

@@ -15,9 +15,9 @@ use types.Run.{Opd}
 use denote.Memory.{pointee}
 use denote.Slice.{sliceTy}
 use denote.Struct.Laws as LL
-use Rattle.segmap.specs.declared.segment.Segment.{Segment}
-use Rattle.segmap.proofs.segment.Segment as T
-use Rattle.segmap.proofs.segment.Segment.Laws as T′
+use Rattle.segment.specs.declared.segment.Segment.{Segment}
+use Rattle.segment.proofs.segment.Segment as T
+use Rattle.segment.proofs.segment.Segment.Laws as T′
 
 pub holds : (z : Bool) → Holds z → z ≡ true
 holds true _ = refl

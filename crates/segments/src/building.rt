@@ -1,10 +1,10 @@
 // The map of a sheet and a trim list, written into lent records.
 use segmap::Made;
-use segmap::Segment;
+use segment::Segment;
 ghost use mathlib.Core.Path.{_≡_};
 ghost use Prim.Native.Nat.{_+_, _*_, _≤_};
 ghost use lib.ListN.{length, take};
-ghost use Rattle.segmap.specs.Segment.{segmentsOf};
+ghost use Rattle.segment.specs.Segment.{segmentsOf};
 ghost use Rattle.segmap.specs.Map.{madeOf};
 ghost use Rattle.segments.specs.Records.{recorded, mapInto, segmentAt, narrowed};
 

@@ -1,10 +1,10 @@
 // A map of records as flat numbers, which a session takes.
-use segmap::Segment;
+use segment::Segment;
 ghost use mathlib.Core.Path.{_≡_};
 ghost use Prim.Native.Nat.{_+_, _≤_};
 ghost use lib.ListN.{length};
 ghost use Rattle.base.specs.Put.{putAt, placed};
-ghost use Rattle.segmap.specs.Segment.{numbersOf, flatOf};
+ghost use Rattle.segment.specs.Segment.{numbersOf, flatOf};
 ghost use Rattle.segments.specs.Records.{flatNumber};
 
 // Writes the six numbers of a segment from the place `at` on.

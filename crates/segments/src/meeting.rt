@@ -1,7 +1,7 @@
 // The first record that a caption meets: event's `find_hit` over records.
 use event::Hit;
 use event::Met;
-use segmap::Segment;
+use segment::Segment;
 ghost use mathlib.Core.Path.{_≡_};
 ghost use lib.ListN.{getD};
 ghost use Rattle.event.specs.Hit.{meets, findHit, hitOf};

@@ -15,7 +15,7 @@ use Rattle.base.proofs.PutLaws.{put-nil}
 use Rattle.text.specs.Line.{concat}
 use Rattle.time.specs.Kind.{kindBad}
 use Rattle.time.specs.Convert.{timescaleBad}
-use Rattle.segmap.specs.Segment.{mapBad}
+use Rattle.segment.specs.Segment.{mapBad}
 use Rattle.event.specs.declared.setting.Config.{Config}
 use Rattle.event.specs.Says.{Part}
 use Rattle.event.specs.Emit.{outputOf, warningsOf, placesOf}

@@ -17,7 +17,7 @@ use Rattle.utf8.specs.Utf8.{utf8}
 use Rattle.text.specs.Line.{concat, linesOf, lineCount, hasLf}
 use Rattle.time.specs.Kind.{kindBad}
 use Rattle.event.specs.declared.setting.Config.{Config}
-use Rattle.segmap.specs.Segment.{segmentsOf}
+use Rattle.segment.specs.Segment.{segmentsOf}
 use Rattle.event.specs.Says.{Part, stays, notUtf8, faultNumber}
 use Rattle.event.specs.Emit.{Emit, Warning, emitBy, emitsOf, outputOf, warningsOf, placesOf}
 use Rattle.ass.specs.Line.{LineSays, lineSays, faulty as lineFaulty, says as lineSaid}

@@ -12,7 +12,7 @@ use borrow.Author.Tests.{leb-true, eqb-false}
 use Rattle.base.specs.Limits.{mostLine, mostTaken, mostPiece}
 use Rattle.base.proofs.PutLaws.{put-nil}
 use Rattle.time.specs.Kind.{kindBad}
-use Rattle.segmap.specs.Segment.{segmentsOf}
+use Rattle.segment.specs.Segment.{segmentsOf}
 use Rattle.event.specs.declared.setting.Config.{Config}
 use Rattle.event.specs.Fates.{passed, dropped, shifted, clipped}
 use Rattle.event.specs.Says.{Part, captionsIn}

@@ -14,7 +14,7 @@ use Rattle.base.specs.Limits.{mostLine}
 use Rattle.base.specs.Put.{put}
 use Rattle.base.proofs.PutLaws.{put-back, length-tail}
 use Rattle.text.specs.Line.{concat}
-use Rattle.segmap.specs.Segment.{segmentsOf}
+use Rattle.segment.specs.Segment.{segmentsOf}
 use Rattle.event.specs.declared.setting.Config.{Config}
 use Rattle.event.specs.Says.{Part, faultNumber}
 use Rattle.event.specs.Emit.{Emit, outputOf, warningsOf, placesOf}

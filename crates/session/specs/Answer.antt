@@ -8,7 +8,7 @@ use lib.ListN.{length, take, replicate}
 use Rattle.base.specs.Limits.{mostPiece, leastOutput, leastPlaces, mostTaken, mostHeld}
 use Rattle.base.specs.Put.{put}
 use Rattle.text.specs.Line.{concat}
-use Rattle.segmap.specs.Segment.{mapBad}
+use Rattle.segment.specs.Segment.{mapBad}
 use Rattle.event.specs.declared.setting.Config.{Config}
 use Rattle.event.specs.Emit.{outputOf, warningsOf, placesOf}
 use Rattle.columns.specs.declared.layout.Columns.{Columns}

@@ -53,7 +53,7 @@ fn refusal(session: Session, map: &[u64], piece: usize, out: usize, places: usiz
     if session.ended {
         return 18;
     }
-    if segmap::map_bad(map) {
+    if segment::map_bad(map) {
         return 15;
     }
     if lengths_bad(session.taken, piece, out, places) {
@@ -118,7 +118,7 @@ fn open_refusal(kind: u32, timescale: u32, map: &[u64]) -> u32
     if time::timescale_bad(timescale) {
         return 15;
     }
-    if segmap::map_bad(map) {
+    if segment::map_bad(map) {
         return 15;
     }
     if time::kind_bad(kind) {

@@ -13,8 +13,8 @@ use Rattle.time.specs.Kind.{kindBad, unitsOf, markOf, fractionDigits, hourDigit
 use Rattle.time.specs.Convert.{ticksOf, startUnits, endUnits, scaledUp}
 use Rattle.stamp.specs.Read.{timeWith, timeIn}
 use Rattle.stamp.specs.Write.{pad, widthUnder, width, textWith, timeText}
-use Rattle.segmap.specs.declared.segment.Segment.{Segment}
-use Rattle.segmap.specs.Segment.{segment}
+use Rattle.segment.specs.declared.segment.Segment.{Segment}
+use Rattle.segment.specs.Segment.{segment}
 use Rattle.event.specs.Hit.{meetsParts, findFrom, lostRule}
 use Rattle.event.specs.Decide.{decideTicks, decideOf}
 use Rattle.event.specs.Fates.{fateOf}

@@ -19,8 +19,8 @@ use Rattle.sheet_vectors.proofs.Vectors.{small-fault, small-timescale, small-fr
 use Rattle.trim.specs.Token.{rangeOf, boundsOf, pairOf, closedOf, tokenOf, behindEnd, stepOf, tokenNumber, tokenRange, tokenEnd}
 use Rattle.trim.specs.TrimList.{tokensOf, tokensNumber, rangesIn, headNumber, listNumber, rangesOf}
 use Rattle.plan.specs.Snap.{lastBelow, firstFrom, floorSync, ceilSync, snapStart, snapEnd, snapAll, overlapsFault}
-use Rattle.segmap.specs.declared.segment.Segment.{Segment}
-use Rattle.segmap.specs.Segment.{segment}
+use Rattle.segment.specs.declared.segment.Segment.{Segment}
+use Rattle.segment.specs.Segment.{segment}
 use Rattle.segmap.specs.Build.{ticksFrom, sourceStart, rangeTicks, rangeFault, rangesFault, segmentIn, segmentsIn}
 use Rattle.segmap.specs.Map.{rangesFor, snappedOf, mapNumber, Map, mapAnswer, mapOf}
 use Rattle.table.specs.Example.{theList, theMap, theSegments}

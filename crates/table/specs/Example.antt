@@ -3,7 +3,7 @@ use mathlib.Core.List.{List}
 use Prim.Native.Nat.{ℕ}
 use Rattle.base.specs.Ascii.{ascii}
 use Rattle.sheet_vectors.specs.Small.{smallSheet}
-use Rattle.segmap.specs.declared.segment.Segment.{Segment}
+use Rattle.segment.specs.declared.segment.Segment.{Segment}
 use Rattle.segmap.specs.Map.{Map, mapOf}
 use Rattle.event.specs.declared.setting.Config.{Config}
 

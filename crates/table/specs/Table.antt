@@ -8,7 +8,7 @@ use Prim.Native.String.{String}
 use Rattle.base.specs.Ascii.{ascii}
 use Rattle.stamp.specs.declared.read.Time.the-variants.{At}
 use Rattle.stamp.specs.Read.{timeIn, timeNumber}
-use Rattle.segmap.specs.declared.segment.Segment.{Segment}
+use Rattle.segment.specs.declared.segment.Segment.{Segment}
 use Rattle.event.specs.declared.retiming.Decision.the-variants.{Kept}
 use Rattle.event.specs.Decide.{decideOf}
 use Rattle.event.specs.Fates.{dropped, shifted, clipped, fateOf}

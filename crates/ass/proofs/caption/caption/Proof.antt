@@ -1,7 +1,7 @@
 use mathlib.Core.Path.{refl}
 use lib.ListN.{length, drop}
 use Rattle.text.specs.Line.{textOf}
-use Rattle.segmap.specs.Segment.{segmentsOf}
+use Rattle.segment.specs.Segment.{segmentsOf}
 use Rattle.ass.proofs.SayLaws.{caption-start, caption-end, told-1, told-2, told-times, rest-is, parts-room}
 use borrow.Author.Needs.{needs}
 use Rattle.ass.proofs.caption.caption.Statement.{statement}

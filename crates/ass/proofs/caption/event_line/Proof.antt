@@ -1,6 +1,6 @@
 use mathlib.Core.Path.{refl}
 use native.Mathlib.Omega.{arith}
-use Rattle.segmap.specs.Segment.{segmentsOf}
+use Rattle.segment.specs.Segment.{segmentsOf}
 use Rattle.ass.specs.Line.{dialogueWord, commentWord}
 use Rattle.ass.proofs.SayLaws.{word-1, word-2, word-3, word-4, word-room}
 use borrow.Author.Needs.{needs}

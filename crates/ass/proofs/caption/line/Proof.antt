@@ -1,5 +1,5 @@
 use mathlib.Core.Path.{refl}
-use Rattle.segmap.specs.Segment.{segmentsOf}
+use Rattle.segment.specs.Segment.{segmentsOf}
 use Rattle.ass.proofs.SayLaws.{line-short, line-few, line-section, line-events, line-other}
 use borrow.Author.Needs.{needs}
 use Rattle.ass.proofs.caption.line.Statement.{statement}

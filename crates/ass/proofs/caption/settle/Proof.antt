@@ -1,7 +1,7 @@
 use Rattle.event.specs.declared.retiming.Decision.{Decision}
 use Rattle.event.specs.Says.{Cue}
 use Rattle.event.specs.Decide.{decideIn}
-use Rattle.segmap.specs.Segment.{segmentsOf}
+use Rattle.segment.specs.Segment.{segmentsOf}
 use Rattle.columns.specs.Columns.{fields}
 use Rattle.ass.specs.Line.{lineCue}
 use Rattle.event.proofs.TellLaws.{settle-strange, settle-dropped, settle-kept}

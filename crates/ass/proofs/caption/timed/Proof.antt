@@ -1,4 +1,4 @@
-use Rattle.segmap.specs.Segment.{segmentsOf}
+use Rattle.segment.specs.Segment.{segmentsOf}
 use Rattle.ass.proofs.SayLaws.{times-1, times-2, times-room, times-3}
 use borrow.Author.Needs.{needs}
 use Rattle.ass.proofs.caption.timed.Statement.{statement}

@@ -1,4 +1,4 @@
-use Rattle.segmap.specs.Segment.{segmentsOf}
+use Rattle.segment.specs.Segment.{segmentsOf}
 use Rattle.block.proofs.BlockLaws.{timed-bad, timed-both, timed-room}
 use borrow.Author.Needs.{needs}
 use Rattle.block.proofs.srt.timed.Statement.{statement}

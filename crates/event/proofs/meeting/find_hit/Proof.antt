@@ -3,8 +3,8 @@ use mathlib.Core.Path.{_≡_, refl}
 use Prim.Native.Nat.{_+_, _*_, _≤_}
 use lib.ListN.{length}
 use native.Mathlib.Omega.{arith}
-use Rattle.segmap.specs.Segment.{segmentsOf}
-use Rattle.segmap.proofs.SegmentLaws.{six-less}
+use Rattle.segment.specs.Segment.{segmentsOf}
+use Rattle.segment.proofs.SegmentLaws.{six-less}
 use Rattle.event.specs.Hit.{findHit, findFrom}
 use Rattle.event.proofs.HitLaws.{hit-found, hit-again, hit-none}
 use borrow.Author.Needs.{needs}

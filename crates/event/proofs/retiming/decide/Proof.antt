@@ -7,7 +7,7 @@ use Rattle.event.proofs.retiming.decide.Reads as reads
 use Rattle.event.proofs.retiming.decide.Lts as lts
 use Rattle.event.proofs.meeting.find_hit.Reads as find-hit-reads
 use Rattle.event.proofs.retiming.retime.Reads as retime-reads
-use Rattle.segmap.proofs.end_bad.Reads as end-bad-reads
+use Rattle.segment.proofs.end_bad.Reads as end-bad-reads
 use Rattle.time.proofs.core_ticks.Reads as core-ticks-reads
 
 core-ticks-requires : tie.Need-core-ticks-requires

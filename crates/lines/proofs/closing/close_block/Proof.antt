@@ -1,5 +1,5 @@
 use Rattle.lines.proofs.TellLaws.{lines-some, end-empty, end-fault, end-said, end-fits, still-small}
-use Rattle.segmap.specs.Segment.{segmentsOf}
+use Rattle.segment.specs.Segment.{segmentsOf}
 use borrow.Author.Needs.{needs}
 use Rattle.lines.proofs.closing.close_block.Statement.{statement}
 use Rattle.lines.proofs.closing.close_block.Tie as tie

@@ -2,7 +2,7 @@ use mathlib.Core.Path.{_≡_, sym, _∙_}
 use mathlib.Core.Bool.{true, false}
 use borrow.Author.Tests.{not-true, not-false}
 use Rattle.utf8.specs.Utf8.{utf8}
-use Rattle.segmap.specs.Segment.{segmentsOf}
+use Rattle.segment.specs.Segment.{segmentsOf}
 use Rattle.lines.proofs.TellLaws.{ass-20, ass-fault, ass-said}
 use borrow.Author.Needs.{needs}
 use Rattle.lines.proofs.taking.ass_line.Statement.{statement}

@@ -2,7 +2,7 @@ use mathlib.Core.Path.{_≡_, sym, _∙_}
 use mathlib.Core.Bool.{true, false}
 use borrow.Author.Tests.{not-true, not-false}
 use Rattle.utf8.specs.Utf8.{utf8}
-use Rattle.segmap.specs.Segment.{segmentsOf}
+use Rattle.segment.specs.Segment.{segmentsOf}
 use Rattle.timing.specs.Style.{blankIn}
 use Rattle.lines.proofs.TellLaws.{srt-20, srt-22, srt-blank, srt-21, srt-add}
 use borrow.Author.Needs.{needs}

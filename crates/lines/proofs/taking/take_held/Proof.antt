@@ -1,5 +1,5 @@
 use native.Mathlib.Omega.{arith}
-use Rattle.segmap.specs.Segment.{segmentsOf}
+use Rattle.segment.specs.Segment.{segmentsOf}
 use Rattle.lines.specs.Answer.{stateOf}
 use lib.ListN.{take, length-take, length-drop}
 use Rattle.lines.proofs.BomLaws.{behind-room, take-fault, take-plain, take-behind}

@@ -46,11 +46,11 @@ use denote.Triple.Walked.{says, Stays, stay-none-slice, stay-slice, stay-none, w
 use denote.Exit.{yes}
 use Rattle.base.specs.Limits.{mostSegments}
 use Rattle.base.specs.Put.{put}
-use Rattle.segmap.specs.declared.segment.Segment.{Segment}
+use Rattle.segment.specs.declared.segment.Segment.{Segment}
 use Rattle.segmap.specs.declared.whole.Made.{Made}
-use Rattle.segmap.specs.Segment.{flatOf, segmentsOf}
+use Rattle.segment.specs.Segment.{flatOf, segmentsOf}
 use Rattle.segmap.specs.Map.{mapOf, made, madeOf}
-use Rattle.segmap.proofs.segment.Segment as T
+use Rattle.segment.proofs.segment.Segment as T
 use Rattle.segmap.proofs.whole.Made as M₀
 use Rattle.segmap.proofs.whole.Made.Laws as M′
 use Rattle.segmap.proofs.make as mk

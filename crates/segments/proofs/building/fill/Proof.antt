@@ -48,10 +48,10 @@ use denote.Triple.Clauses.{ensured, lasts}
 use denote.Triple.Table.{entered, cited}
 use denote.Triple.Walked.{says, needs, Stays, stay-none-slice, stay-slice, stay-none, walkOf, Walks, ends-at, walked, goes-none-slice, goes-slice, goes-none, walk-meets}
 use denote.Exit.{yes}
-use Rattle.segmap.specs.declared.segment.Segment.{Segment}
-use Rattle.segmap.specs.Segment.{segmentsOf}
-use Rattle.segmap.proofs.segment.Segment as T
-use Rattle.segmap.proofs.segment.Segment.Laws as T′
+use Rattle.segment.specs.declared.segment.Segment.{Segment}
+use Rattle.segment.specs.Segment.{segmentsOf}
+use Rattle.segment.proofs.segment.Segment as T
+use Rattle.segment.proofs.segment.Segment.Laws as T′
 use Rattle.segments.specs.Records.{noSegment, recorded, narrowed, segmentAt}
 use Rattle.segments.proofs.RecordLaws.{read-length, read-at, record-start, record-turn, record-done}
 use Rattle.segments.proofs.Walk.{word, words, records, vals}

@@ -47,10 +47,10 @@ use denote.Triple.Table.{entered, cited}
 use denote.Triple.Walked.{says, Stays, stay-none-slice, stay-slice, walkOf, Walks, ends-at, walked, goes-none-slice, goes-slice, walk-meets}
 use denote.Exit.{yes}
 use Rattle.base.specs.Put.{put, putAt, placed}
-use Rattle.segmap.specs.declared.segment.Segment.{Segment}
-use Rattle.segmap.specs.Segment.{numbersOf, flatOf}
-use Rattle.segmap.proofs.segment.Segment as T
-use Rattle.segmap.proofs.segment.Segment.Laws as T′
+use Rattle.segment.specs.declared.segment.Segment.{Segment}
+use Rattle.segment.specs.Segment.{numbersOf, flatOf}
+use Rattle.segment.proofs.segment.Segment as T
+use Rattle.segment.proofs.segment.Segment.Laws as T′
 use Rattle.segments.specs.Records.{noSegment, flatNumber}
 use Rattle.segments.proofs.RecordLaws.{flat-short, flat-start, flat-turn, flat-done}
 use Rattle.segments.proofs.Again.{LentAgain, lends-again, comes-back}

@@ -47,9 +47,9 @@ use denote.Triple.Clauses.{ensured, lasts}
 use denote.Triple.Table.{entered, cited}
 use denote.Triple.Walked.{says, Stays, stay-none-slice, stay-none, walkOf, Walks, ends-at, walked, goes-none-slice, goes-none, walk-meets}
 use denote.Exit.{yes}
-use Rattle.segmap.specs.declared.segment.Segment.{Segment}
-use Rattle.segmap.proofs.segment.Segment as T
-use Rattle.segmap.proofs.segment.Segment.Laws as T′
+use Rattle.segment.specs.declared.segment.Segment.{Segment}
+use Rattle.segment.proofs.segment.Segment as T
+use Rattle.segment.proofs.segment.Segment.Laws as T′
 use Rattle.event.specs.declared.meeting.Hit.{Hit}
 use Rattle.event.specs.declared.meeting.Hit.the-variants.{Miss}
 use Rattle.event.specs.Hit.{meets, findFrom, findHit, hitOf}

@@ -38,9 +38,9 @@ use denote.Triple.Spec.{Meets, tripleOf}
 use denote.Triple.Table.{entered}
 use denote.Triple.Walked.{says, Stays, stay-none-slice, stay-none, walkOf, Walks, ends-at, walked, goes-none-slice, goes-none, walk-meets}
 use denote.Exit.{yes}
-use Rattle.segmap.specs.declared.segment.Segment.{Segment}
-use Rattle.segmap.proofs.segment.Segment as T
-use Rattle.segmap.proofs.segment.Segment.Laws as T′
+use Rattle.segment.specs.declared.segment.Segment.{Segment}
+use Rattle.segment.proofs.segment.Segment as T
+use Rattle.segment.proofs.segment.Segment.Laws as T′
 use Rattle.segments.specs.Records.{noSegment}
 use Rattle.segments.proofs.Walk.{holds, fails, word, records, vals}
 use Rattle.segments.proofs.meeting.record_at.Key.{name as #key}

@@ -1,5 +1,5 @@
 use Rattle.session.specs.Answer.{openOf}
-use Rattle.segmap.specs.Segment.{mapBad}
+use Rattle.segment.specs.Segment.{mapBad}
 use Rattle.time.specs.Convert.{timescaleBad}
 use Rattle.time.specs.Kind.{kindBad}
 use mathlib.Core.Bool.{true, false}
@@ -9,7 +9,7 @@ use Rattle.session.proofs.calling.open_refusal.Statement.{statement}
 use Rattle.session.proofs.calling.open_refusal.Tie as tie
 use Rattle.session.proofs.calling.open_refusal.Reads as reads
 use Rattle.session.proofs.calling.open_refusal.Lts as lts
-use Rattle.segmap.proofs.map_bad.Reads as map-bad-reads
+use Rattle.segment.proofs.map_bad.Reads as map-bad-reads
 use Rattle.time.proofs.timescale_bad.Reads as timescale-bad-reads
 use Rattle.time.proofs.kind_bad.Reads as kind-bad-reads
 

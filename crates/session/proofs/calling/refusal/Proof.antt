@@ -1,7 +1,7 @@
 use Rattle.session.specs.Answer.{refusalOf, lengthsBad}
 use Rattle.foreign.proofs.ViewLaws.{native-view}
 use Rattle.foreign.specs.View.{foreignOf}
-use Rattle.segmap.specs.Segment.{mapBad}
+use Rattle.segment.specs.Segment.{mapBad}
 use lib.ListN.{length}
 use mathlib.Core.Bool.{true, false}
 use mathlib.Core.Path.{_≡_, sym, _∙_}
@@ -10,7 +10,7 @@ use Rattle.session.proofs.calling.refusal.Statement.{statement}
 use Rattle.session.proofs.calling.refusal.Tie as tie
 use Rattle.session.proofs.calling.refusal.Reads as reads
 use Rattle.session.proofs.calling.refusal.Lts as lts
-use Rattle.segmap.proofs.map_bad.Reads as map-bad-reads
+use Rattle.segment.proofs.map_bad.Reads as map-bad-reads
 use Rattle.session.proofs.calling.lengths_bad.Reads as lengths-bad-reads
 use Rattle.foreign.proofs.foreign.Reads as foreign-reads
 

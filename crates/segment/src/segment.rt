@@ -1,6 +1,6 @@
 // A segment of the map, and the limits of a map given as flat numbers, six to a segment.
 ghost use mathlib.Core.Path.{_≡_};
-ghost use Rattle.segmap.specs.Segment.{endBad, segmentBad, mapBad};
+ghost use Rattle.segment.specs.Segment.{endBad, segmentBad, mapBad};
 
 // A stretch of the source that is kept (document 01's stretch), with its place in the output. The fields are the Rust's.
 pub struct Segment {

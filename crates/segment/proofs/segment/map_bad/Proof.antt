@@ -1,9 +1,9 @@
 use mathlib.Core.Path.{refl}
 use lib.ListN.{length}
-use Rattle.segmap.proofs.SegmentLaws.{Left, left-parts, left-many, segments-start, left-found, left-again, left-less, left-none}
+use Rattle.segment.proofs.SegmentLaws.{Left, left-parts, left-many, segments-start, left-found, left-again, left-less, left-none}
 use borrow.Author.Needs.{needs}
-use Rattle.segmap.proofs.segment.map_bad.Statement.{statement}
-use Rattle.segmap.proofs.segment.map_bad.Tie as tie
+use Rattle.segment.proofs.segment.map_bad.Statement.{statement}
+use Rattle.segment.proofs.segment.map_bad.Tie as tie
 
 abbrev Inv-loop : tie.InvT-loop
 Inv-loop map parts t₀ t = Left map t

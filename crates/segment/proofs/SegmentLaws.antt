@@ -9,8 +9,8 @@ use lib.Dec.{ltb, eqb}
 use lib.ListN.{length, drop, getD, length-drop}
 use Rattle.base.specs.Limits.{mostFrame, mostTicks, mostSegments}
 use Rattle.base.proofs.Laws.{yes!, no! }
-use Rattle.segmap.specs.declared.segment.Segment.{Segment}
-use Rattle.segmap.specs.Segment.{flatOf, segment, segmentsOf, endBad, segmentBad, anyBad, mapBad}
+use Rattle.segment.specs.declared.segment.Segment.{Segment}
+use Rattle.segment.specs.Segment.{flatOf, segment, segmentsOf, endBad, segmentBad, anyBad, mapBad}
 
 -- ---- a start and a duration against the limit, without their sum
 pub end-past : (a d : ℕ) → mostTicks < a → true ≡ endBad a d

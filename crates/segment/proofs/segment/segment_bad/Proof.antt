@@ -1,8 +1,8 @@
 use Rattle.base.proofs.Laws.{chain, calls}
-use Rattle.segmap.specs.Segment.{segmentBad}
+use Rattle.segment.specs.Segment.{segmentBad}
 use borrow.Author.Needs.{needs}
-use Rattle.segmap.proofs.segment.segment_bad.Statement.{statement}
-use Rattle.segmap.proofs.segment.segment_bad.Tie as tie
+use Rattle.segment.proofs.segment.segment_bad.Statement.{statement}
+use Rattle.segment.proofs.segment.segment_bad.Tie as tie
 
 cast-most : tie.Need-cast-most
 cast-most c = search needs

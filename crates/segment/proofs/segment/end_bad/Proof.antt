@@ -1,7 +1,7 @@
-use Rattle.segmap.proofs.SegmentLaws.{end-past, end-tested}
+use Rattle.segment.proofs.SegmentLaws.{end-past, end-tested}
 use borrow.Author.Needs.{needs}
-use Rattle.segmap.proofs.segment.end_bad.Statement.{statement}
-use Rattle.segmap.proofs.segment.end_bad.Tie as tie
+use Rattle.segment.proofs.segment.end_bad.Statement.{statement}
+use Rattle.segment.proofs.segment.end_bad.Tie as tie
 
 returns : tie.Need-returns
 returns c = search end-past

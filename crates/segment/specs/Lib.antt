@@ -1,0 +1,2 @@
+-- Segments, and the limits of a map.
+pub mod Segment
