@@ -1,4 +1,5 @@
 pub mod Laws
 pub mod RefusalLaws
+pub mod RefusalNumbers
 pub mod PartLaws
 pub mod PutLaws

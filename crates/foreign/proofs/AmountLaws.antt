@@ -1,4 +1,4 @@
--- 17: the tests of config, counts and columns, one by one.
+-- 17: the tests of config and columns, one by one.
 use mathlib.Core.Path.{_≡_, sym, _∙_}
 use mathlib.Core.Bool.{Bool, true, false}
 use Prim.Native.Nat.{ℕ, _≤_, _<_}
@@ -9,8 +9,7 @@ use Rattle.time.specs.Kind.{kindBad}
 use Rattle.time.specs.Convert.{timescaleBad}
 use Rattle.event.specs.declared.setting.Config.{Config}
 use Rattle.columns.specs.declared.layout.Columns.{Columns}
-use Rattle.machine.specs.declared.counting.Counts.{Counts}
-use Rattle.machine.specs.Session.{configBad, countsAbove}
+use Rattle.machine.specs.Session.{configBad}
 use Rattle.kinds.specs.Kit.{columnsBad}
 
 module _ (c : Config) (a : Bool) (e : a ≡ kindBad (c .kind)) where
@@ -19,19 +18,6 @@ module _ (c : Config) (a : Bool) (e : a ≡ kindBad (c .kind)) where
 
   pub by-timescale : (b : Bool) → a ≡ false → b ≡ timescaleBad (c .timescale) → b ≡ configBad c
   by-timescale b p q = let k : kindBad (c .kind) ≡ false = sym e ∙ p in rw k q
-
-module _ (t : ℕ) (c : Counts) where
-  pub above-shifted : t < c .shifted → true ≡ countsAbove t c
-  above-shifted p = rw (lt-ltb t (c .shifted) p)
-
-  pub above-clipped : c .shifted ≤ t → t < c .clipped → true ≡ countsAbove t c
-  above-clipped p q = rw (le-ltb t (c .shifted) p, lt-ltb t (c .clipped) q)
-
-  pub above-dropped : c .shifted ≤ t → c .clipped ≤ t → t < c .dropped → true ≡ countsAbove t c
-  above-dropped p q r = rw (le-ltb t (c .shifted) p, le-ltb t (c .clipped) q, lt-ltb t (c .dropped) r)
-
-  pub above-passed : c .shifted ≤ t → c .clipped ≤ t → c .dropped ≤ t → ltb t (c .passed) ≡ countsAbove t c
-  above-passed p q r = rw (le-ltb t (c .shifted) p, le-ltb t (c .clipped) q, le-ltb t (c .dropped) r)
 
 module _ (c : Columns) where
   pub columns-many : mostColumns < c .columns → true ≡ columnsBad c

@@ -1,9 +1,8 @@
 // The numbers of a session that 17 bounds.
 use columns::Columns;
 use event::Config;
-use machine::Counts;
 ghost use mathlib.Core.Path.{_≡_};
-ghost use Rattle.machine.specs.Session.{configBad, countsAbove};
+ghost use Rattle.machine.specs.Session.{configBad};
 ghost use Rattle.kinds.specs.Kit.{columnsBad};
 
 // Whether there is no such kind, or the timescale is out of range.
@@ -14,22 +13,6 @@ pub fn config_bad(config: Config) -> bool
         return true;
     }
     time::timescale_bad(config.timescale)
-}
-
-// Whether a count is above the bytes taken.
-pub fn counts_above(taken: u32, counts: Counts) -> bool
-    ensures { λ r. ⌜ r ≡ countsAbove taken counts ⌝ }
-{
-    if taken < counts.shifted {
-        return true;
-    }
-    if taken < counts.clipped {
-        return true;
-    }
-    if taken < counts.dropped {
-        return true;
-    }
-    taken < counts.passed
 }
 
 // Whether there are too many columns, or a place past them.

@@ -4,7 +4,6 @@ mod held;
 mod holding;
 mod whole;
 
-pub use amounts::counts_above;
 pub use held::block_end;
 pub use holding::Session;
 pub use whole::foreign;

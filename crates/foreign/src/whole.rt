@@ -1,10 +1,10 @@
 // A foreign session (17).
 use crate::amounts::columns_bad;
 use crate::amounts::config_bad;
-use crate::amounts::counts_above;
 use crate::held::held_bad;
 use crate::holding::Session;
 use columns::Columns;
+use machine::counts_above;
 ghost use mathlib.Core.Path.{_≡_};
 ghost use mathlib.Core.Bool.{_||_};
 ghost use lib.Dec.{ltb};

@@ -135,5 +135,5 @@ pub fn lent_bad(counts: Counts, size: usize, room: usize, places: usize) -> bool
     if places < 4 {
         return true;
     }
-    foreign::counts_above(MOST_COUNT, counts)
+    machine::counts_above(MOST_COUNT, counts)
 }

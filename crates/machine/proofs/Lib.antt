@@ -1,3 +1,4 @@
+pub mod CountLaws
 pub mod Emits
 pub mod CutLaws
 pub mod OpenLines

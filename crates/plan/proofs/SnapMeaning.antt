@@ -12,7 +12,7 @@ use lib.ListN.{length}
 use Rattle.base.specs.Refusal.{faultUnless}
 use Rattle.base.proofs.RefusalLaws.{held, else-zero}
 use Rattle.frames.specs.Frames.{syncOf}
-use Rattle.sheet.proofs.RefusalNumbers.{else-numbers, unless-numbers}
+use Rattle.base.proofs.RefusalNumbers.{else-numbers, unless-numbers}
 use Rattle.plan.specs.Snap.{lastBelow, firstFrom, floorSync, ceilSync, snapStart, snapEnd, snapAll, overlapsFault}
 
 -- ---- the two searches

@@ -16,7 +16,7 @@ use Rattle.base.proofs.PutLaws.{put-nil, take-put}
 use Rattle.base.proofs.RefusalLaws.{else-zero, held}
 use Rattle.frames.specs.Frames.{framesOf, timescaleOf, decodeOf}
 use Rattle.sheet.specs.Sheet.{sheetFault}
-use Rattle.sheet.proofs.RefusalNumbers.{else-numbers, unless-numbers}
+use Rattle.base.proofs.RefusalNumbers.{else-numbers, unless-numbers}
 use Rattle.sheet.proofs.SheetLaws.{sheet-numbers, sound-head}
 use Rattle.trim.specs.TrimList.{listNumber, rangesOf, rangeCount}
 use Rattle.trim.proofs.RangeLaws.{list-number-table, range-count-most, ranges-length}

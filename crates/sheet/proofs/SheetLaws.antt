@@ -19,7 +19,7 @@ use Rattle.sheet.specs.Sheet.{spareFault, headFault, recordFault, checkF
 use Rattle.sheet.specs.declared.answer.Head.{Head}
 use Rattle.sheet.specs.declared.answer.Sheet.{Sheet}
 use Rattle.sheet.specs.declared.answer.Sheet.the-variants.{Sound, Refused}
-use Rattle.sheet.proofs.RefusalNumbers.{else-numbers, cond-numbers, unless-numbers, first-numbers}
+use Rattle.base.proofs.RefusalNumbers.{else-numbers, cond-numbers, unless-numbers, first-numbers}
 
 -- ---- a sheet without a fault
 record SoundParts (s : List ℕ) : Type 0 where

@@ -4,7 +4,7 @@ use Rattle.lines.proofs.telling.lent_bad.Statement.{statement}
 use Rattle.lines.proofs.telling.lent_bad.Tie as tie
 use Rattle.lines.proofs.telling.lent_bad.Reads as reads
 use Rattle.lines.proofs.telling.lent_bad.Lts as lts
-use Rattle.foreign.proofs.counts_above.Reads as counts-above-reads
+use Rattle.machine.proofs.counts_above.Reads as counts-above-reads
 
 returns : tie.Need-returns
 returns c = search short-room

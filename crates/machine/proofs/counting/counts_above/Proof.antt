@@ -1,6 +1,6 @@
-use Rattle.foreign.proofs.AmountLaws.{above-shifted, above-clipped, above-dropped, above-passed}
-use Rattle.foreign.proofs.amounts.counts_above.Statement.{statement}
-use Rattle.foreign.proofs.amounts.counts_above.Tie as tie
+use Rattle.machine.proofs.CountLaws.{above-shifted, above-clipped, above-dropped, above-passed}
+use Rattle.machine.proofs.counting.counts_above.Statement.{statement}
+use Rattle.machine.proofs.counting.counts_above.Tie as tie
 
 returns : tie.Need-returns
 returns c = search above-shifted
