@@ -4,8 +4,9 @@ use mathlib.Core.Bool.{Bool, true, false, cond}
 use mathlib.Core.List.{List, [], _∷_, _++_, append-assoc, append-nil}
 use Prim.Native.Nat.{ℕ, zero, suc, _+_, _-_, _≤_, _<_}
 use native.Mathlib.Omega.{arith}
+use native.Mathlib.Nat.{zero-add}
 use native.Mathlib.Numerals.{add-one}
-use borrow.Author.Tests.{leb-true, leb-false}
+use borrow.Author.Tests.{leb-true, eq-eqb, ne-eqb}
 use lib.Dec.{eqb, leb}
 use lib.ListN.{length, take, drop, length-append, length-take, length-drop}
 use Rattle.base.specs.Put.{put, putAt, placed, placedLength, placedAt, placeAfter}
@@ -40,6 +41,30 @@ length-placed at v l = go (leb (at + length v) (length l)) refl
     go : (t : Bool) → leb (at + length v) (length l) ≡ t → length (cond t (take at l ++ (v ++ drop (length v) (drop at l))) l) ≡ length l
     go true e = simp (length-append, length-take, length-drop) (omega (arith, leb-true (at + length v) (length l) e))
     go false e = refl
+
+-- a piece at the start
+pub at-start : (n : ℕ) (v o o′ : List ℕ) → (n ≡ placedLength v o) × (o′ ≡ placed v o) → (n ≡ placeAfter 0 v o) × (o′ ≡ placedAt 0 v o)
+unfolding placed placedLength placedAt placeAfter putAt
+at-start n v o o′ p = rw (zero-add (length v)) p
+
+-- ---- a column's text
+pub text-new : (b : Bool) (x f o : List ℕ) → b ≡ true → x ≡ f → x ≡ cond b f o
+text-new b x f o h p = rw h p
+
+pub text-old : (b : Bool) (x f o : List ℕ) → b ≡ false → x ≡ o → x ≡ cond b f o
+text-old b x f o h p = rw h p
+
+-- the place after a piece lies within the output
+pub after-room : (at n : ℕ) (v o o′ : List ℕ) → at ≤ length o → (n ≡ placeAfter at v o) × (o′ ≡ placedAt at v o) → n ≤ length o′
+unfolding placeAfter
+after-room at n v o o′ h p = go (leb (at + length v) (length o)) refl (p .0)
+  where
+    same : length o′ ≡ length o
+    same = ap length (p .1) ∙ length-placed at v o
+
+    go : (t : Bool) → leb (at + length v) (length o) ≡ t → n ≡ cond t (at + length v) at → n ≤ length o′
+    go true e q = omega (arith, leb-true (at + length v) (length o) e, same)
+    go false e q = omega (arith, same)
 
 module _ (s e : List ℕ) where
   pub piece-text : (i j k : ℕ) (f : List ℕ) → pieceText s e (pieceAt i j k f) ≡ cond (eqb k j) e (cond (eqb k i) s f)
@@ -83,12 +108,18 @@ module _ (s e : List ℕ) where
   after-append at [] qs o = refl
   after-append at (p ∷ ps) qs o = after-append (placeAfter at (pieceText s e p) o) ps qs (placedAt at (pieceText s e p) o)
 
-  -- ---- one field
-  pub field-put : (i j k at n : ℕ) (f a b o o′ : List ℕ) → a ≡ cond (eqb k i) s f → b ≡ cond (eqb k j) e a → (n ≡ placeAfter at b o) × (o′ ≡ placedAt at b o)
-      → (n ≡ placeAfter at (pieceText s e (pieceAt i j k f)) o) × (o′ ≡ placedAt at (pieceText s e (pieceAt i j k f)) o)
-  field-put i j k at n f a b o o′ ea eb p =
-      let z : b ≡ pieceText s e (pieceAt i j k f) = eb ∙ ap (λ (x : List ℕ). cond (eqb k j) e x) ea ∙ sym (piece-text i j k f) in
-      (p .0 ∙ ap (λ (x : List ℕ). placeAfter at x o) z, p .1 ∙ ap (λ (x : List ℕ). placedAt at x o) z)
+  -- ---- one field: the end's time in its column, elsewhere the start's or the field as it stands
+  pub field-stop : (i j k n : ℕ) (f b o o′ : List ℕ) → k ≡ j → b ≡ e → (n ≡ placedLength b o) × (o′ ≡ placed b o)
+      → (n ≡ placedLength (pieceText s e (pieceAt i j k f)) o) × (o′ ≡ placed (pieceText s e (pieceAt i j k f)) o)
+  field-stop i j k n f b o o′ h eb p =
+      let z : b ≡ pieceText s e (pieceAt i j k f) = eb ∙ sym (piece-text i j k f ∙ ap (λ (t : Bool). cond t e (cond (eqb k i) s f)) (eq-eqb k j h)) in
+      (p .0 ∙ ap (λ (x : List ℕ). placedLength x o) z, p .1 ∙ ap (λ (x : List ℕ). placed x o) z)
+
+  pub field-other : (i j k n : ℕ) (f b o o′ : List ℕ) → (k ≡ j → ⊥) → b ≡ cond (eqb k i) s f → (n ≡ placedLength b o) × (o′ ≡ placed b o)
+      → (n ≡ placedLength (pieceText s e (pieceAt i j k f)) o) × (o′ ≡ placed (pieceText s e (pieceAt i j k f)) o)
+  field-other i j k n f b o o′ h eb p =
+      let z : b ≡ pieceText s e (pieceAt i j k f) = eb ∙ sym (piece-text i j k f ∙ ap (λ (t : Bool). cond t e (cond (eqb k i) s f)) (ne-eqb k j h)) in
+      (p .0 ∙ ap (λ (x : List ℕ). placedLength x o) z, p .1 ∙ ap (λ (x : List ℕ). placed x o) z)
 
   -- ---- the loop over the fields: what is left to write is the whole. i and j are the places of the two times, m the number of columns
   module _ (i j m : ℕ) (rest o₀ : List ℕ) (from : ℕ) where
@@ -97,13 +128,14 @@ module _ (s e : List ℕ) where
 
     pub record Unwritten (n at k : ℕ) (t o : List ℕ) : Type 0 where
       pub long : length o ≡ length o₀
+      pub room : at ≤ length o
       pub part : k + length t ≤ length rest + 1
       pub some : 0 < n
       pub after : frameAfter s e at (fieldPieces i j k (fields n t)) o ≡ frameAfter s e from Whole o₀
       pub placed : framePlaced s e at (fieldPieces i j k (fields n t)) o ≡ framePlaced s e from Whole o₀
 
-    pub unwritten-all : (m ≡ 0 → ⊥) → Unwritten m from 1 rest o₀
-    unwritten-all h = record { long = refl; part = omega arith; some = omega arith; after = refl; placed = refl }
+    pub unwritten-all : (m ≡ 0 → ⊥) → from ≤ length o₀ → Unwritten m from 1 rest o₀
+    unwritten-all h r = record { long = refl; room = r; part = omega arith; some = omega arith; after = refl; placed = refl }
 
     -- no columns: nothing
     pub no-fields : m ≡ 0 → (from ≡ frameAfter s e from Whole o₀) × (o₀ ≡ framePlaced s e from Whole o₀)
@@ -133,6 +165,7 @@ module _ (s e : List ℕ) where
           ∙ pieces-more i j k f (fields (n - 1) u) (fields-least (n - 1) u (omega arith)) in
           record {
             long = ap length (p₂ .1) ∙ length-placed at₁ comma o₁ ∙ ap length (p .1) ∙ length-placed at (pieceText s e P) o ∙ inv .long;
+            room = after-room at₁ at₂ comma o₁ o₂ (after-room at at₁ (pieceText s e P) o o₁ (inv .room) p) p₂;
             part = omega (arith, inv .part, ap length eu, length-drop (l + 1) t);
             some = omega arith;
             after =
@@ -144,6 +177,15 @@ module _ (s e : List ℕ) where
                 ∙ placed-step at₁ at₂ (bytes comma) R comma o₁ o₂ (is-bytes comma) (p₂ .0) (p₂ .1) ∙ placed-step at at₁ P (bytes comma ∷ R) _ o o₁ refl (p .0) (p .1)
                 ∙ ap (λ (ps : List Piece). framePlaced s e at ps o) (sym q) ∙ inv .placed;
           }
+
+  -- the place after pieces lies within the output
+  pub frame-room : (ps : List Piece) (at n : ℕ) (o : List ℕ) → at ≤ length o → n ≡ frameAfter s e at ps o → n ≤ length o
+  frame-room [] at n o h q = omega (arith, q ∙ after-nil at o)
+  frame-room (p ∷ ps) at n o h q =
+      let b = pieceText s e p in
+      let l : length (placedAt at b o) ≡ length o = length-placed at b o in
+      let r : placeAfter at b o ≤ length (placedAt at b o) = after-room at (placeAfter at b o) b o (placedAt at b o) h (refl, refl) in
+      omega (arith, l, frame-room ps (placeAfter at b o) n (placedAt at b o) r (q ∙ sym (after-step at _ p ps b o _ refl refl refl)))
 
   -- ---- the word, the fields, the terminator
   pub line-written : (i j m n₁ n₂ n₃ : ℕ) (w r x o o₁ o₂ o₃ : List ℕ)
@@ -196,9 +238,3 @@ text-held v z y n h en ey =
     let a : n ≡ length v = en ∙ length-yes v z h in
     let b : y ≡ put v z = ey ∙ placed-yes v z h in
     rw (a, b) (take-put v z)
-
-pub text-room : (v z y : List ℕ) (n : ℕ) → length v ≤ length z → n ≡ placedLength v z → y ≡ placed v z → n ≤ length y
-text-room v z y n h en ey =
-    let a : n ≡ length v = en ∙ length-yes v z h in
-    let b : y ≡ put v z = ey ∙ placed-yes v z h in
-    omega (arith, ap length b, length-put v z h)

@@ -4,6 +4,4 @@ mod writing;
 
 pub use tags::has_tag;
 pub use writing::Times;
-pub use writing::column_text;
 pub use writing::write_kept;
-pub use writing::write_line;

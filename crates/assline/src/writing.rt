@@ -3,8 +3,10 @@ use columns::Columns;
 use columns::field_length;
 ghost use mathlib.Core.Path.{_≡_};
 ghost use mathlib.Core.Bool.{cond};
+ghost use Prim.Native.Nat.{_≤_};
+ghost use lib.ListN.{length, take};
 ghost use Rattle.stamp.specs.Write.{timeText};
-ghost use Rattle.base.specs.Put.{placedAt, placeAfter};
+ghost use Rattle.base.specs.Put.{placed, placedLength};
 ghost use Rattle.columns.specs.Columns.{fields};
 ghost use Rattle.assline.specs.Frame.{pieceAt, fieldPieces, lineFrame, pieceText, framePlaced, frameAfter};
 ghost use Rattle.pattern.specs.Piece.{comma};
@@ -17,33 +19,49 @@ pub struct Times {
     pub stop_mark: u8,
 }
 
-// A column's text: the old field, or a fresh time in its place.
-pub fn column_text<'a>(old: &'a [u8], fresh: &'a [u8], replaced: bool) -> &'a [u8]
-    ensures { λ r. ⌜ now r ≡ cond replaced (now (fresh .entry)) (now (old .entry)) ⌝ }
-{
-    if replaced { fresh } else { old }
+// The lengths of two times in the buffers that hold their texts.
+struct Lengths {
+    start: usize,
+    stop: usize,
 }
 
-// Writes the field `old` of column `k`, or a time in its place.
+// A column's text, a part of one of two lent slices: the field of `n` bytes that the old line has there, or the `m` bytes of a fresh time.
+fn column_text<'a>(old: &'a [u8], n: usize, fresh: &'a [u8], m: usize, replaced: bool) -> &'a [u8]
+    ensures { λ r. ⌜ now r ≡ cond replaced (take m (now (fresh .entry))) (take n (now (old .entry))) ⌝ }
+{
+    if replaced {
+        return base::front(fresh, m);
+    }
+    base::front(old, n)
+}
+
+// Writes the field of `n` bytes of column `k`, or a time in its place, into the rest of the output.
 fn write_field<'a>(
     out: &mut [u8],
-    at: usize,
     old: &'a [u8],
+    n: usize,
     k: usize,
     columns: Columns,
     start: &'a [u8],
     stop: &'a [u8],
+    lengths: Lengths,
 ) -> usize
-    ensures { λ r. ⌜ (r ≡ placeAfter at (pieceText (now (start .entry)) (now (stop .entry)) (pieceAt (columns .start) (columns .«end») k (now (old .entry)))) (now (out .entry))) × (now (out .exit) ≡ placedAt at (pieceText (now (start .entry)) (now (stop .entry)) (pieceAt (columns .start) (columns .«end») k (now (old .entry)))) (now (out .entry))) ⌝ }
+    ensures { λ r. ⌜ (r ≡ placedLength (pieceText (take (lengths .start) (now (start .entry))) (take (lengths .stop) (now (stop .entry))) (pieceAt (columns .start) (columns .«end») k (take n (now (old .entry))))) (now (out .entry))) × (now (out .exit) ≡ placed (pieceText (take (lengths .start) (now (start .entry))) (take (lengths .stop) (now (stop .entry))) (pieceAt (columns .start) (columns .«end») k (take n (now (old .entry))))) (now (out .entry))) ⌝ }
 {
-    let text = column_text(old, start, k == columns.start);
-    base::bytes_at(out, at, column_text(text, stop, k == columns.end))
+    if k == columns.end {
+        return base::bytes(out, column_text(old, n, stop, lengths.stop, true));
+    }
+    base::bytes(
+        out,
+        column_text(old, n, start, lengths.start, k == columns.start),
+    )
 }
 
-fn write_comma(out: &mut [u8], at: usize) -> usize
-    ensures { λ r. ⌜ (r ≡ placeAfter at comma (now (out .entry))) × (now (out .exit) ≡ placedAt at comma (now (out .entry))) ⌝ }
+// Writes a comma into the rest of the output.
+fn write_comma(out: &mut [u8]) -> usize
+    ensures { λ r. ⌜ (r ≡ placedLength comma (now (out .entry))) × (now (out .exit) ≡ placed comma (now (out .entry))) ⌝ }
 {
-    base::bytes_at(out, at, b",")
+    base::bytes(out, b",")
 }
 
 // The fields from the place `from` on, with commas between them and the two times in their columns.
@@ -54,8 +72,10 @@ fn write_fields<'a>(
     columns: Columns,
     start: &'a [u8],
     stop: &'a [u8],
+    lengths: Lengths,
 ) -> usize
-    ensures { λ r. ⌜ (r ≡ frameAfter (now (start .entry)) (now (stop .entry)) from (fieldPieces (columns .start) (columns .«end») 1 (fields (columns .columns) (now (rest .entry)))) (now (out .entry))) × (now (out .exit) ≡ framePlaced (now (start .entry)) (now (stop .entry)) from (fieldPieces (columns .start) (columns .«end») 1 (fields (columns .columns) (now (rest .entry)))) (now (out .entry))) ⌝ }
+    requires { ⌜ from ≤ length (now out) ⌝ }
+    ensures { λ r. ⌜ (r ≡ frameAfter (take (lengths .start) (now (start .entry))) (take (lengths .stop) (now (stop .entry))) from (fieldPieces (columns .start) (columns .«end») 1 (fields (columns .columns) (now (rest .entry)))) (now (out .entry))) × (now (out .exit) ≡ framePlaced (take (lengths .start) (now (start .entry))) (take (lengths .stop) (now (stop .entry))) from (fieldPieces (columns .start) (columns .«end») 1 (fields (columns .columns) (now (rest .entry)))) (now (out .entry))) ⌝ }
 {
     let mut left = columns.columns;
     let mut at = from;
@@ -66,11 +86,13 @@ fn write_fields<'a>(
     let mut k: usize = 1;
     loop {
         let i = field_length(t, left);
-        at = write_field(out, at, base::front(t, i), k, columns, start, stop);
+        let n = write_field(&mut out[at..], t, i, k, columns, start, stop, lengths);
+        at += n;
         if t.len() <= i {
             return at;
         }
-        at = write_comma(out, at);
+        let m = write_comma(&mut out[at..]);
+        at += m;
         let u = base::rest(t, i + 1);
         t = u;
         k += 1;
@@ -79,20 +101,22 @@ fn write_fields<'a>(
 }
 
 // The word, the fields and the terminator.
-pub fn write_line<'a>(
+fn write_line<'a>(
     out: &mut [u8],
     word: &[u8],
     rest: &'a [u8],
     columns: Columns,
     start: &'a [u8],
     stop: &'a [u8],
+    lengths: Lengths,
     ending: &[u8],
 ) -> usize
-    ensures { λ r. ⌜ (r ≡ frameAfter (now (start .entry)) (now (stop .entry)) 0 (lineFrame columns (now (word .entry)) (fields (columns .columns) (now (rest .entry))) (now (ending .entry))) (now (out .entry))) × (now (out .exit) ≡ framePlaced (now (start .entry)) (now (stop .entry)) 0 (lineFrame columns (now (word .entry)) (fields (columns .columns) (now (rest .entry))) (now (ending .entry))) (now (out .entry))) ⌝ }
+    ensures { λ r. ⌜ (r ≡ frameAfter (take (lengths .start) (now (start .entry))) (take (lengths .stop) (now (stop .entry))) 0 (lineFrame columns (now (word .entry)) (fields (columns .columns) (now (rest .entry))) (now (ending .entry))) (now (out .entry))) × (now (out .exit) ≡ framePlaced (take (lengths .start) (now (start .entry))) (take (lengths .stop) (now (stop .entry))) 0 (lineFrame columns (now (word .entry)) (fields (columns .columns) (now (rest .entry))) (now (ending .entry))) (now (out .entry))) ⌝ }
 {
-    let first = base::bytes_at(out, 0, word);
-    let last = write_fields(out, first, rest, columns, start, stop);
-    base::bytes_at(out, last, ending)
+    let first = base::bytes(out, word);
+    let last = write_fields(out, first, rest, columns, start, stop, lengths);
+    let n = base::bytes(&mut out[last..], ending);
+    last + n
 }
 
 // The same with two times as texts of a kind, each with its mark.
@@ -111,5 +135,6 @@ pub fn write_kept(
     let mut b = [0u8; 24];
     let n = stamp::write_time(times.start, kind, times.start_mark, &mut a);
     let m = stamp::write_time(times.stop, kind, times.stop_mark, &mut b);
-    write_line(out, word, rest, columns, &a[..n], &b[..m], ending)
+    let lengths = Lengths { start: n, stop: m };
+    write_line(out, word, rest, columns, &a, &b, lengths, ending)
 }

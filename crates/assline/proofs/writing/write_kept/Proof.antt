@@ -1,13 +1,12 @@
-use mathlib.Core.Path.{_≡_, sym, subst, ap, refl}
+use mathlib.Core.Path.{_≡_}
 use mathlib.Core.List.{List}
 use Prim.Native.Nat.{ℕ, _^_, _<_, _≤_, _+_}
 use lib.ListN.{take, drop, length, replicate}
 use native.Mathlib.Omega.{arith}
 use Rattle.base.specs.Put.{placed, placedLength}
-use lib.Seq.{length-take-le}
 use Rattle.stamp.specs.Write.{timeText}
 use Rattle.stamp.proofs.Written.{text-23}
-use Rattle.assline.proofs.WriteLaws.{text-held, text-room}
+use Rattle.assline.proofs.WriteLaws.{text-held}
 use borrow.Author.Needs.{needs}
 use Rattle.assline.proofs.writing.write_kept.Statement.{statement}
 use Rattle.assline.proofs.writing.write_kept.Tie as tie
@@ -26,17 +25,11 @@ first-fits c = let a = c .before .before .before .before .before .before .args i
 first-text : (c : tie.After-write-time) → let a = c .before .before .before .before .before .before .args in take (c .write-time .result) (c .write-time .last .1 .1 .1 .0) ≡ timeText (a .kind) (a .times .«start_mark») (a .times .start)
 first-text c = text-held _ (replicate 24 0) (c .write-time .last .1 .1 .1 .0) (c .write-time .result) (first-fits c) (c .write-time .ensures .0) (c .write-time .ensures .1)
 
-first-room : (c : tie.After-write-time) → c .write-time .result ≤ length (c .write-time .last .1 .1 .1 .0)
-first-room c = text-room _ (replicate 24 0) (c .write-time .last .1 .1 .1 .0) (c .write-time .result) (first-fits c) (c .write-time .ensures .0) (c .write-time .ensures .1)
-
 last-fits : (c : tie.After-write-time2) → let a = c .before .before .before .before .before .before .before .before .before .args in length (timeText (a .kind) (a .times .«stop_mark») (a .times .stop)) ≤ 24
 last-fits c = let a = c .before .before .before .before .before .before .before .before .before .args in omega (arith, text-23 (a .kind) (a .times .«stop_mark») (a .times .stop) (words (c .before .before .before .before .before .before .before .before .before) .1))
 
 last-text : (c : tie.After-write-time2) → let a = c .before .before .before .before .before .before .before .before .before .args in take (c .write-time2 .result) (c .write-time2 .last .1 .1 .1 .0) ≡ timeText (a .kind) (a .times .«stop_mark») (a .times .stop)
 last-text c = text-held _ (replicate 24 0) (c .write-time2 .last .1 .1 .1 .0) (c .write-time2 .result) (last-fits c) (c .write-time2 .ensures .0) (c .write-time2 .ensures .1)
-
-last-room : (c : tie.After-write-time2) → c .write-time2 .result ≤ length (c .write-time2 .last .1 .1 .1 .0)
-last-room c = text-room _ (replicate 24 0) (c .write-time2 .last .1 .1 .1 .0) (c .write-time2 .result) (last-fits c) (c .write-time2 .ensures .0) (c .write-time2 .ensures .1)
 
 slice-aggregate-write-time : tie.Need-slice-aggregate-write-time
 slice-aggregate-write-time c = search needs
@@ -50,17 +43,11 @@ slice-aggregate-write-time-2 c = search needs
 write-time-requires-2 : tie.Need-write-time-requires-2
 write-time-requires-2 c κs = search needs
 
-array-share-prefix-a : tie.Need-array-share-prefix-a
-array-share-prefix-a c = first-room (c .before .before .before .before .before)
-
 slice-aggregate-write-line : tie.Need-slice-aggregate-write-line
-slice-aggregate-write-line c = sym (length-take-le _ _ (first-room (c .before .before .before .before .before .before)))
-
-array-share-prefix-b : tie.Need-array-share-prefix-b
-array-share-prefix-b c = last-room (c .before .before .before)
+slice-aggregate-write-line c = search needs
 
 slice-aggregate-write-line-2 : tie.Need-slice-aggregate-write-line-2
-slice-aggregate-write-line-2 c = sym (length-take-le _ _ (last-room (c .before .before .before .before)))
+slice-aggregate-write-line-2 c = search needs
 
 write-line-requires : tie.Need-write-line-requires
 write-line-requires c κs = search needs
@@ -79,9 +66,7 @@ write-kept-spec =
     write-time-requires
     slice-aggregate-write-time-2
     write-time-requires-2
-    array-share-prefix-a
     slice-aggregate-write-line
-    array-share-prefix-b
     slice-aggregate-write-line-2
     write-line-requires
     same-length
