@@ -20,9 +20,9 @@ number-told s l d n r e p = made-number r (mapOf s l d n) e ∙ ap (λ (x : ℕ)
 pub number-zero : (s l : List ℕ) (d n : ℕ) (r : Made) → r ≡ madeOf (mapOf s l d n) → n ≡ 6144 → r .number ≡ 0 → 0 ≡ mapOf s l d 6144 .number
 number-zero s l d n r e p z = sym z ∙ number-told s l d n r e p
 
-pub too-large : (s l : List ℕ) → 65536 < length s → 11 ≡ printedNumber s l
+pub too-large : (s l : List ℕ) (r : ℕ) → 65536 < length s → r ≡ 11 → r ≡ printedNumber s l
 unfolding printedNumber
-too-large s l h = yes! _ (lt-ltb 65536 (length s) h) refl
+too-large s l r h e = yes! _ (lt-ltb 65536 (length s) h) e
 
 pub within : (s l : List ℕ) (r : ℕ) → length s ≤ 65536 → r ≡ mapOf s l 0 6144 .number → r ≡ printedNumber s l
 unfolding printedNumber

@@ -3,8 +3,9 @@ mod file;
 mod print;
 mod segments;
 
+pub use file::File;
 pub use file::load;
-pub use file::open_below;
+pub use file::path_below;
 pub use print::print_map;
 pub use print::print_map_of;
 pub use print::print_number;

@@ -4,11 +4,14 @@ ghost use mathlib.Core.Path.{_≡_};
 ghost use Rattle.segmap.specs.Map.{mapOf};
 ghost use Rattle.mapfile.specs.Printed.{printedNumber};
 
-// A name, a number and a line end.
-pub fn print_number(name: &[u8], n: u32) {
+// Prints a name, a number and a line end, and answers the number.
+pub fn print_number(name: &[u8], n: u32) -> u32
+    ensures { λ r. ⌜ r ≡ n ⌝ }
+{
     io::write_all(STDOUT_FILENO, name);
     io::print_decimal(STDOUT_FILENO, n as u64);
     io::write_all(STDOUT_FILENO, b"\n");
+    n
 }
 
 // Six numbers in a line, from the place `at` on.
@@ -44,8 +47,7 @@ pub fn print_map_of(sheet: &[u8], list: &[u8], direction: u32) -> u32
     let made = segmap::make(sheet, list, direction, &mut map);
     let number = made.number;
     if number != 0 {
-        print_number(b"refused ", number);
-        return number;
+        return print_number(b"refused ", number);
     }
     print_number(b"timescale ", made.timescale);
     print_segments(&map, made.count);
@@ -57,8 +59,7 @@ pub fn print_map(sheet: &[u8], list: &[u8]) -> u32
     ensures { λ r. ⌜ r ≡ printedNumber (now (sheet .entry)) (now (list .entry)) ⌝ }
 {
     if 65536 < sheet.len() {
-        print_number(b"refused ", 11);
-        return 11;
+        return print_number(b"refused ", 11);
     }
     print_map_of(sheet, list, 0)
 }

@@ -4,14 +4,15 @@ use libc::STDOUT_FILENO;
 fn run_case(name: &[u8]) {
     io::write_all(STDOUT_FILENO, name);
     io::write_all(STDOUT_FILENO, b":\n");
-    let mut prefix = [0u8; 256];
-    let at = base::bytes_at(&mut prefix, 0, name);
-    let end = base::bytes_at(&mut prefix, at, b"/");
-    let mut sheet = [0u8; 65537];
-    let mut list = [0u8; 65537];
-    let n = mapfile::load(base::front(&prefix, end), b"sheet.bin", &mut sheet);
-    let k = mapfile::load(base::front(&prefix, end), b"trim.txt", &mut list);
-    retimefile::retime(base::front(&prefix, end), &sheet[..n], &list[..k]);
+    let sheet = mapfile::load(name, b"sheet.bin");
+    let list = mapfile::load(name, b"trim.txt");
+    let s = sheet.bytes;
+    let l = list.bytes;
+    retimefile::retime(
+        name,
+        base::front(&s, sheet.length),
+        base::front(&l, list.length),
+    );
     io::write_all(STDOUT_FILENO, b"\n");
 }
 
@@ -21,16 +22,13 @@ fn run_cases(names: &[u8]) {
         let n = text::line_length(t);
         let line = base::front(t, n);
         run_case(text::text_of(line));
-        if n == 0 {
-            return;
-        }
         let u = base::rest(t, n);
         t = u;
     }
 }
 
 fn main() {
-    let mut names = [0u8; 4096];
-    let n = mapfile::load(b"", b"cases.txt", &mut names);
-    run_cases(&names[..n]);
+    let file = mapfile::load(b"", b"cases.txt");
+    let names = file.bytes;
+    run_cases(base::front(&names, file.length));
 }

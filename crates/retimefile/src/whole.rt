@@ -15,25 +15,29 @@ fn run_file(fd: i32, kind: u32, timescale: u32, map: &[u64], writing: bool) -> u
     number
 }
 
+// Opens a caption text of a folder; a negative number where it cannot be opened, or where its path does not fit.
+fn open_text(folder: &[u8], name: &[u8]) -> i32 {
+    let mut path = [0u8; 4096];
+    let k = mapfile::path_below(folder, name, &mut path);
+    if k == 0 {
+        return -1;
+    }
+    os::open_read(base::front(&path, k))
+}
+
 // One pass over `subs.ass`, or over `subs.srt` where that cannot be opened; neither: an empty text.
-fn run(prefix: &[u8], timescale: u32, map: &[u64], writing: bool) -> u32
+fn run(folder: &[u8], timescale: u32, map: &[u64], writing: bool) -> u32
     ensures { λ r. ⌜ Chooses timescale (now (map .entry)) r ⌝ }
 {
-    let fd = mapfile::open_below(prefix, b"subs.ass");
+    let fd = open_text(folder, b"subs.ass");
     if 0 <= fd {
         return run_file(fd, 0, timescale, map, writing);
     }
-    run_file(
-        mapfile::open_below(prefix, b"subs.srt"),
-        1,
-        timescale,
-        map,
-        writing,
-    )
+    run_file(open_text(folder, b"subs.srt"), 1, timescale, map, writing)
 }
 
 // The map, outward, then the text dry, then writing where nothing was refused. A sheet above 65,536 bytes is 11.
-fn retimed(prefix: &[u8], sheet: &[u8], list: &[u8]) -> u32
+fn retimed(folder: &[u8], sheet: &[u8], list: &[u8]) -> u32
     ensures { λ r. ⌜ Retimes (now (sheet .entry)) (now (list .entry)) r ⌝ }
 {
     if 65536 < sheet.len() {
@@ -45,18 +49,18 @@ fn retimed(prefix: &[u8], sheet: &[u8], list: &[u8]) -> u32
         return made.number;
     }
     let kept = mapfile::first_segments(&map, made.count);
-    let number = run(prefix, made.timescale, kept, false);
+    let number = run(folder, made.timescale, kept, false);
     if number == 0 {
-        run(prefix, made.timescale, kept, true);
+        run(folder, made.timescale, kept, true);
     }
     number
 }
 
 // Prints the text, or `refused` and the number.
-pub fn retime(prefix: &[u8], sheet: &[u8], list: &[u8]) -> u32
+pub fn retime(folder: &[u8], sheet: &[u8], list: &[u8]) -> u32
     ensures { λ r. ⌜ Retimes (now (sheet .entry)) (now (list .entry)) r ⌝ }
 {
-    let number = retimed(prefix, sheet, list);
+    let number = retimed(folder, sheet, list);
     if number != 0 {
         mapfile::print_number(b"refused ", number);
     }

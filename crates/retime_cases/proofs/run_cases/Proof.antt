@@ -1,7 +1,7 @@
 use Prim.Native.Nat.{_≤_}
 use lib.ListN.{length}
 use native.Mathlib.Omega.{arith}
-use Rattle.base.proofs.Laws.{drop-less}
+use Rattle.text.proofs.LineLaws.{line-less}
 use borrow.Author.Needs.{needs}
 use Rattle.retime_cases.proofs.run_cases.Statement.{statement}
 use Rattle.retime_cases.proofs.run_cases.Tie as tie
@@ -34,20 +34,17 @@ text-of-requires c κs = search needs
 run-case-requires : tie.Need-run-case-requires Inv-loop μ-loop
 run-case-requires c κs = search needs
 
-returns : tie.Need-returns Inv-loop μ-loop
-returns c = search needs
-
 rest-requires : tie.Need-rest-requires Inv-loop μ-loop
 rest-requires c κs = search needs
 
 loop-less : tie.Need-loop-less Inv-loop μ-loop
-loop-less c = search drop-less
+loop-less c = search line-less
 
 loop-again : tie.Need-loop-again Inv-loop μ-loop
 loop-again c = omega arith
 
-returns-2 : tie.Need-returns-2 Inv-loop μ-loop
-returns-2 c = search needs
+returns : tie.Need-returns Inv-loop μ-loop
+returns c = search needs
 
 pub run-cases-spec : {M : Type 1} → statement M
 run-cases-spec =
@@ -60,8 +57,7 @@ run-cases-spec =
     front-requires
     text-of-requires
     run-case-requires
-    returns
     rest-requires
     loop-less
     loop-again
-    returns-2)
+    returns)

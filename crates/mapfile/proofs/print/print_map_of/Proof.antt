@@ -1,5 +1,5 @@
 use Rattle.mapfile.proofs.NumberLaws.{number-told, number-zero}
-use mathlib.Core.Path.{refl}
+use mathlib.Core.Path.{refl, _∙_}
 use borrow.Author.Needs.{needs}
 use Rattle.mapfile.proofs.print.print_map_of.Statement.{statement}
 use Rattle.mapfile.proofs.print.print_map_of.Tie as tie
@@ -22,7 +22,7 @@ print-number-requires : tie.Need-print-number-requires
 print-number-requires c κs = search needs
 
 returns : tie.Need-returns
-returns c = number-told _ _ _ _ _ (c .before .before .before .before .make .ensures .0) refl
+returns c = c .print-number .ensures ∙ number-told _ _ _ _ _ (c .before .before .before .before .make .ensures .0) refl
 
 slice-aggregate-print-number-2 : tie.Need-slice-aggregate-print-number-2
 slice-aggregate-print-number-2 c = search needs
