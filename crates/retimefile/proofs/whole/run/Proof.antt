@@ -4,14 +4,14 @@ use Rattle.retimefile.proofs.whole.run.Statement.{statement}
 use Rattle.retimefile.proofs.whole.run.Tie as tie
 use Rattle.retimefile.proofs.whole.run.Reads as reads
 use Rattle.retimefile.proofs.whole.run.Lts as lts
-use Rattle.mapfile.proofs.open_below.Reads as open-below-reads
+use Rattle.retimefile.proofs.whole.open_text.Reads as open-text-reads
 use Rattle.retimefile.proofs.whole.run_file.Reads as run-file-reads
 
-slice-aggregate-open-below : tie.Need-slice-aggregate-open-below
-slice-aggregate-open-below c = search needs
+slice-aggregate-open-text : tie.Need-slice-aggregate-open-text
+slice-aggregate-open-text c = search needs
 
-open-below-requires : tie.Need-open-below-requires
-open-below-requires c κs = search needs
+open-text-requires : tie.Need-open-text-requires
+open-text-requires c κs = search needs
 
 run-file-requires : tie.Need-run-file-requires
 run-file-requires c κs = search needs
@@ -19,11 +19,11 @@ run-file-requires c κs = search needs
 returns : tie.Need-returns
 returns c = chooses-ass _ _ _ (c .run-file .ensures)
 
-slice-aggregate-open-below-2 : tie.Need-slice-aggregate-open-below-2
-slice-aggregate-open-below-2 c = search needs
+slice-aggregate-open-text-2 : tie.Need-slice-aggregate-open-text-2
+slice-aggregate-open-text-2 c = search needs
 
-open-below-requires-2 : tie.Need-open-below-requires-2
-open-below-requires-2 c κs = search needs
+open-text-requires-2 : tie.Need-open-text-requires-2
+open-text-requires-2 c κs = search needs
 
 run-file-requires-2 : tie.Need-run-file-requires-2
 run-file-requires-2 c κs = search needs
@@ -35,11 +35,11 @@ pub run-spec : {M : Type 1} → statement M
 run-spec =
     tie.close
     (tie.spec
-    slice-aggregate-open-below
-    open-below-requires
+    slice-aggregate-open-text
+    open-text-requires
     run-file-requires
     returns
-    slice-aggregate-open-below-2
-    open-below-requires-2
+    slice-aggregate-open-text-2
+    open-text-requires-2
     run-file-requires-2
     returns-2)
