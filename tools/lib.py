@@ -27,14 +27,16 @@ def usage(form):
 
 
 def words(form, doc, number=('SEED', 'COUNT', 'LISTS', 'SHEETS', 'CONVERSIONS', 'MEGABYTES', 'SEGMENTS')):
-    """The words after the tool's name, by a form as `SEED COUNT [OPS]`; numbers as numbers. --help prints the tool's own text; words that
-    do not fit the form, the usage line."""
-    given = sys.argv[1:]
-    if given in (['--help'], ['-h']):
+    """The words after the tool's name, by a form as `SEED COUNT [OPS] [--install]`; numbers as numbers, options left out (see `chosen`).
+    --help prints the tool's own text; words that do not fit the form, the usage line."""
+    if sys.argv[1:] in (['--help'], ['-h']):
         print(doc.strip())
         sys.exit(0)
-    names = [w.strip('[]') for w in form.split()]
-    least = sum(1 for w in form.split() if not w.startswith('[') and not w.endswith(']'))
+    options = [w.strip('[]') for w in form.split() if w.startswith('[--')]
+    given = [w for w in sys.argv[1:] if w not in options]
+    form_words = [w for w in form.split() if not w.startswith('[--')]
+    names = [w.strip('[]') for w in form_words]
+    least = sum(1 for w in form_words if not w.startswith('[') and not w.endswith(']'))
     if not least <= len(given) <= len(names) or any(w.startswith('-') for w in given):
         usage(form)
     found = []
@@ -43,6 +45,10 @@ def words(form, doc, number=('SEED', 'COUNT', 'LISTS', 'SHEETS', 'CONVERSIONS', 
             usage(form)
         found.append(int(word) if kind in number else word)
     return found
+
+
+def chosen(option):
+    return option in sys.argv[1:]
 
 
 # ---- programs
