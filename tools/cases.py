@@ -1,24 +1,19 @@
 #!/usr/bin/env python3
 """Writes a stream of cases for the oracle and for `replay`: cases.py SEED COUNT OPS > stream
-OPS is a string of op numbers, as 12345: each case draws one of them. The stream's form: a head of eight 32-bit words
-(op a b c d lenX lenY lenZ), then the bytes X, Y, Z. Cases are structured, near every boundary, and damaged."""
+OPS is a string of op numbers, as 12345: each case draws one of them. Cases are structured, near every boundary, and damaged."""
+import os
 import random
 import struct
 import sys
 
+sys.path.insert(0, os.path.dirname(os.path.abspath(__file__)))
+import lib
+from lib import as_bytes, case, place, seal
+
 WHITE = [' ', '\t', '\u3000', '\u00a0', '\u2003', '\u0085', '\u1680', '\u205f', '\r', '\u2029']
 
 
-def case(op, a=0, b=0, c=0, d=0, x=b'', y=b'', z=b''):
-    return struct.pack('<8I', op, a, b, c, d, len(x), len(y), len(z)) + x + y + z
-
-
 # ---- sheets
-def seal(words, b):
-    words[128 * b] = b
-    words[128 * b + 127] = sum(words[128 * b:128 * b + 127]) & 0xFFFFFFFF
-
-
 def sheet_words(r, n=None):
     if n is None:
         n = r.choice([1, 2, 3, 10, 10, 12, 62, 63, 64, 126, 127, r.randint(1, 40), r.randint(1, 200)])
@@ -38,17 +33,13 @@ def sheet_words(r, n=None):
     gap = r.choice([1, 2, 3, 3, 5, 8, 15])
     kind = r.randrange(5)
     for i in range(n):
-        at = 128 * (1 + i // 63) + 1 + 2 * (i % 63)
+        at = place(i)
         sync = (i % gap == 0) if kind < 3 else r.random() < (0.3 if kind == 3 else 0.03)
         w[at] = decode[i] | (1 << 31 if sync else 0)
         w[at + 1] = 1001 if style < 2 else r.choice([0, 1, 1001, 1001, 3003, r.randint(0, 5000), r.getrandbits(32)])
     for b in range(blocks):
         seal(w, b)
     return w
-
-
-def as_bytes(w):
-    return struct.pack('<%dI' % len(w), *w)
 
 
 def sheet(r, damaged=0.5, n=None):
@@ -81,8 +72,7 @@ def sheet(r, damaged=0.5, n=None):
         w[r.choice([5, 6, 126, r.randint(5, 126)])] = r.choice([1, r.getrandbits(32)])
         seal(w, 0)
     if how == 7 and count > 1:  # a decode index
-        i = r.randrange(w[2])
-        at = 128 * (1 + i // 63) + 1 + 2 * (i % 63)
+        at = place(r.randrange(w[2]))
         w[at] = (w[at] & (1 << 31)) | r.choice([w[2], w[2] - 1, w[2] + 1, 0x7FFFFFFF])
         seal(w, at // 128)
     if how == 8:  # past n, or anywhere
@@ -432,14 +422,13 @@ def through_made(r):
         n, gap = r.randint(1, 150), r.choice([1, 1, 2, 3, 5])
         w = sheet_words(r, n)
         for i in range(n):
-            at = 128 * (1 + i // 63) + 1 + 2 * (i % 63)
-            w[at] = i | (1 << 31 if i % gap == 0 else 0)
+            w[place(i)] = i | (1 << 31 if i % gap == 0 else 0)
         for b in range(len(w) // 128):
             seal(w, b)
     n, t = w[2], w[1]
     sums = [0]
     for i in range(n):
-        sums.append(sums[-1] + w[128 * (1 + i // 63) + 2 + 2 * (i % 63)])
+        sums.append(sums[-1] + w[place(i) + 1])
     x = as_bytes(w) if r.random() < 0.98 else sheet(r, 1.0)
     return case(3, r.randrange(2) if r.random() < 0.995 else 2, kind, 0, plan(r), x, fitting_list(r, n, gap) if gap else trim_list(r, n, 0.03),
                 caption_text(r, kind, t, sums, sums[-1]))
@@ -561,11 +550,10 @@ def one(r, op):
 
 
 def main():
-    seed, count, ops = int(sys.argv[1]), int(sys.argv[2]), [int(c) for c in sys.argv[3]]
+    seed, count, ops = lib.words('SEED COUNT OPS', __doc__)
     r = random.Random(seed)
-    out = sys.stdout.buffer
     for _ in range(count):
-        out.write(one(r, r.choice(ops)))
+        sys.stdout.buffer.write(one(r, int(r.choice(ops))))
 
 
 if __name__ == '__main__':

@@ -1,0 +1,149 @@
+"""What the tools share: their arguments, programs that are proved and built first, the oracle, frame sheets, times as text."""
+import os
+import struct
+import subprocess
+import sys
+
+root = os.path.dirname(os.path.dirname(os.path.abspath(__file__)))
+name = os.path.basename(sys.argv[0])
+
+# requests of document 02 that have landed, as the oracle's program takes them
+LANDED = []
+
+
+# ---- arguments
+def said(text):
+    print(f'tools/{name}: {text}', file=sys.stderr, flush=True)
+
+
+def stop(text, status=1):
+    said(text)
+    sys.exit(status)
+
+
+def usage(form):
+    print(f'usage: tools/{name} {form}'.rstrip(), file=sys.stderr)
+    sys.exit(2)
+
+
+def words(form, doc, number=('SEED', 'COUNT', 'LISTS', 'SHEETS', 'CONVERSIONS', 'MEGABYTES', 'SEGMENTS')):
+    """The words after the tool's name, by a form as `SEED COUNT [OPS] [--install]`; numbers as numbers, options left out (see `chosen`).
+    --help prints the tool's own text; words that do not fit the form, the usage line."""
+    if sys.argv[1:] in (['--help'], ['-h']):
+        print(doc.strip())
+        sys.exit(0)
+    options = [w.strip('[]') for w in form.split() if w.startswith('[--')]
+    given = [w for w in sys.argv[1:] if w not in options]
+    form_words = [w for w in form.split() if not w.startswith('[--')]
+    names = [w.strip('[]') for w in form_words]
+    least = sum(1 for w in form_words if not w.startswith('[') and not w.endswith(']'))
+    if not least <= len(given) <= len(names) or any(w.startswith('-') for w in given):
+        usage(form)
+    found = []
+    for kind, word in zip(names, given):
+        if kind in number and not word.isdecimal() or kind == 'OPS' and not (word.isdecimal() and set(word) <= set('12345')):
+            usage(form)
+        found.append(int(word) if kind in number else word)
+    return found
+
+
+def chosen(option):
+    return option in sys.argv[1:]
+
+
+# ---- programs
+def run(command, **how):
+    """A program's run, its output where asked for; another status than 0 ends the tool with a line."""
+    try:
+        done = subprocess.run(command, **how)
+    except OSError as e:
+        stop(f'{command[0]}: {e.strerror}')
+    if done.returncode:
+        stop(f'{" ".join(command)}: exit status {done.returncode}')
+    return done
+
+
+def output(command, **how):
+    return run(command, stdout=subprocess.PIPE, **how).stdout
+
+
+def built(program):
+    """The path of a proved program; what is missing is proved and built."""
+    said(f'rt check {program} (proves and builds what is missing)')
+    run(['rt', 'check', program], cwd=root, stdout=subprocess.DEVNULL, stderr=subprocess.DEVNULL)
+    return os.path.join(root, 'target/bin', program)
+
+
+def oracle():
+    """The oracle's program as a command. ORACLE names its build script."""
+    if not os.environ.get('ORACLE'):
+        stop('ORACLE must name the build script of the oracle', 2)
+    path = output([os.environ['ORACLE'], os.path.join(root, 'target/oracle')], text=True).split()[-1]
+    return [path, *LANDED]
+
+
+def beside_oracle(program, **how):
+    """The path of tools/PROGRAM.rs built beside the oracle's copy of the Rust."""
+    oracle()
+    where = os.path.join(root, 'target/oracle')
+    copy = os.path.join(where, 'src/bin', program + '.rs')
+    os.makedirs(os.path.join(where, 'src/bin/mp4io'), exist_ok=True)
+    with open(os.path.join(root, 'tools', program + '.rs')) as f, open(copy, 'w') as g:
+        g.write(f.read())
+    try:
+        run(['cargo', 'build', '-q', '--release', '--offline', '--bin', program], cwd=where, **how)
+    finally:
+        os.remove(copy)
+    return os.path.join(where, 'target/release', program)
+
+
+# ---- a stream of cases: a head of eight 32-bit words (op a b c d lenX lenY lenZ), then the bytes X, Y, Z
+def case(op, a=0, b=0, c=0, d=0, x=b'', y=b'', z=b''):
+    return struct.pack('<8I', op, a, b, c, d, len(x), len(y), len(z)) + x + y + z
+
+
+def answer(command, one):
+    """A program's answer to one case, without the line `case 0`."""
+    return output(command, input=one).split(b'\n', 1)[1]
+
+
+def text_of(told):
+    """The bytes of the retimed text in an answer `retimed ..`."""
+    at = told.index(b'\noutput ') + 1
+    size, rest = told[at:].split(b'\n', 1)
+    return rest[:int(size.split()[1])]
+
+
+# ---- frame sheets (docs/SHEET.md): words, 128 to a block
+def seal(words, block):
+    words[128 * block] = block
+    words[128 * block + 127] = sum(words[128 * block:128 * block + 127]) & 0xFFFFFFFF
+
+
+def place(frame):
+    """Where the two words of a frame's record stand."""
+    return 128 * (1 + frame // 63) + 1 + 2 * (frame % 63)
+
+
+def sheet(n, timescale=30000, sync=lambda i: i in (0, 3, 6), decode=lambda i: i, duration=lambda i: 1001, rate=(30000, 1001)):
+    w = [0] * (128 * (1 + -(-n // 63)))
+    w[1], w[2], w[3], w[4] = timescale, n, *rate
+    for i in range(n):
+        w[place(i)] = decode(i) | (1 << 31 if sync(i) else 0)
+        w[place(i) + 1] = duration(i)
+    for b in range(len(w) // 128):
+        seal(w, b)
+    return w
+
+
+def as_bytes(words):
+    return struct.pack('<%dI' % len(words), *words)
+
+
+# ---- times as text, in units of 1/100 s (ASS) and 1/1000 s (SRT)
+def ass_time(units):
+    return '%d:%02d:%02d.%02d' % (units // 360000, units // 6000 % 60, units // 100 % 60, units % 100)
+
+
+def srt_time(units):
+    return '%02d:%02d:%02d,%03d' % (units // 3600000, units // 60000 % 60, units // 1000 % 60, units % 1000)
