@@ -75,6 +75,8 @@ pub record Table (m : List Segment) : Type 0 where
   -- ---- the rules of a line
   -- a section line is trimmed, from `[` to `]`, two bytes or more; only exactly `Events` counts
   pub section : leaves (lineSays outside 0 (lf " [Events]\t")) ≡ inEvents
+  -- trimmed of White_Space, not of ASCII blanks alone: U+3000 is the bytes 227, 128, 128
+  pub wide-space : leaves (lineSays outside 0 (227 ∷ 128 ∷ 128 ∷ lf "[Events]")) ≡ inEvents
   pub empty-section : leaves (lineSays inEvents 0 (lf "[]")) ≡ outside
   pub one-byte : lineSays inEvents 0 (lf "[") ≡ says inEvents (stays (lf "["))
   pub other-section : leaves (lineSays inEvents 0 (lf "[events]")) ≡ outside
@@ -83,6 +85,7 @@ pub record Table (m : List Segment) : Type 0 where
   -- `Format:` gives the columns, trimmed: their count, the first Start and the first End
   pub format : leaves (lineSays inEvents 1 (lf "Format: Start, End, Text")) ≡ inPlace
   pub first-columns : leaves (lineSays inEvents 1 (lf "Format:Start,Start,End")) ≡ record { events = true; columns = 3; start = 1; «end» = 3 }
+  pub first-end : leaves (lineSays inEvents 1 (lf "Format:End,Start,End")) ≡ record { events = true; columns = 3; start = 2; «end» = 1 }
   -- only at the line's start, and in Events; it stays until the next one, across sections too
   pub format-inside : leaves (lineSays inEvents 1 (lf " Format:Start,End")) ≡ inEvents
   pub format-outside : leaves (lineSays outside 1 (lf "Format:Start,End")) ≡ outside
@@ -108,7 +111,15 @@ pub record Table (m : List Segment) : Type 0 where
   pub commas : becomes m (lineSays inPlace 2 (lf "Comment:0:0:0.21,0:0:0.25,a,b")) ≡ lf "Comment:0:00:00.10,0:00:00.15,a,b"
   -- other lines are kept
   pub other-line : lineSays inPlace 2 (lf "Picture:0:0:0.21,0:0:0.25,c") ≡ says inPlace (stays (lf "Picture:0:0:0.21,0:0:0.25,c"))
-  -- through the map: the start cut and a tag in the last field, warning 3; a bad time, 22; a dropped caption loses its terminator too
+  -- through the map: the start cut and any of the five tags in the last field, warning 3; no other tag, no other field, no other start
   pub tag-warned : warns m (lineSays inPlace 2 (lf "Dialogue:0:0:0.20,0:0:0.21,{\\k5}c")) ≡ warning 3 3 ∷ []
+  pub tag-move : warns m (lineSays inPlace 2 (lf "Dialogue:0:0:0.20,0:0:0.21,{\\move(1,2)}c")) ≡ warning 3 3 ∷ []
+  pub tag-t : warns m (lineSays inPlace 2 (lf "Dialogue:0:0:0.20,0:0:0.21,{\\t(5)}c")) ≡ warning 3 3 ∷ []
+  pub tag-fad : warns m (lineSays inPlace 2 (lf "Dialogue:0:0:0.20,0:0:0.21,{\\fad(1,2)}c")) ≡ warning 3 3 ∷ []
+  pub tag-fade : warns m (lineSays inPlace 2 (lf "Dialogue:0:0:0.20,0:0:0.21,{\\fade(1)}c")) ≡ warning 3 3 ∷ []
+  pub no-tag : warns m (lineSays inPlace 2 (lf "Dialogue:0:0:0.20,0:0:0.21,{\\pos(1)}c")) ≡ []
+  pub tag-elsewhere : warns m (lineSays (record { events = true; columns = 3; start = 2; «end» = 3 }) 2 (lf "Dialogue:{\\k5},0:0:0.20,0:0:0.21")) ≡ []
+  pub tag-uncut : warns m (lineSays inPlace 2 (lf "Dialogue:0:0:0.21,0:0:0.25,{\\k5}c")) ≡ []
+  -- a bad time, 22; a dropped caption loses its terminator too
   pub bad-time : faultIn (lineSays inPlace 2 (lf "Dialogue:0:60:00.00,0:0:0.25,c")) ≡ 22
   pub dropped-line : becomes m (lineSays inPlace 2 (lf "Dialogue:0:0:0.12,0:0:0.20,c")) ≡ []
