@@ -8,11 +8,13 @@ use lib.ListN.{length}
 use borrow.Author.Tests.{le-leb}
 use Rattle.base.specs.Refusal.{_orElse_, faultUnless}
 use Rattle.utf8.specs.Utf8.{utf8}
+use Rattle.text.specs.Line.{concat, hasLf}
 use Rattle.time.specs.Convert.{timescaleBad}
 use Rattle.segment.specs.Segment.{segmentsOf, anyBad, mapBad}
+use Rattle.machine.specs.Cut.{closedLines, unfinished}
 use Rattle.machine.specs.Session.{feed, finish}
 use Rattle.machine.specs.Calls.{readerRefusal}
-use Rattle.kinds.specs.Kit.{columnsBad}
+use Rattle.kinds.specs.Kit.{linesBad, heldBad, columnsBad}
 use Rattle.promise.specs.Plain.{lineFault, bodyLineFault}
 use Rattle.promise.specs.Bounds.{having, lending, Bounds}
 
@@ -82,6 +84,28 @@ block-over : (n : ℕ) (l : List ℕ) → n + length l ≡ 4097 → length l ≤
 unfolding bodyLineFault lineFault faultUnless _orElse_
 block-over n l e h u = rw (le-leb (0 + length l) 4096 (omega (arith, h)), u, e)
 
+-- ---- what is held
+held-full : (h : List ℕ) → length h ≡ 4096 → hasLf h ≡ false → heldBad 0 h ≡ false
+unfolding heldBad
+held-full h e f = rw (e, f)
+
+held-over : (h : List ℕ) → length h ≡ 4097 → heldBad 0 h ≡ true
+unfolding heldBad
+held-over h e = rw e
+
+module _ (h : List ℕ) where
+  block-held : length (concat (closedLines h)) ≡ 4096 → linesBad 1 (closedLines h) ≡ false → length (unfinished h) ≡ 4096 → heldBad 1 h ≡ false
+  unfolding heldBad
+  block-held e f g = rw (e, f, g)
+
+  block-over-held : length (concat (closedLines h)) ≡ 4097 → heldBad 1 h ≡ true
+  unfolding heldBad
+  block-over-held e = rw e
+
+  rest-over-held : length (concat (closedLines h)) ≡ 4096 → linesBad 1 (closedLines h) ≡ false → length (unfinished h) ≡ 4097 → heldBad 1 h ≡ true
+  unfolding heldBad
+  rest-over-held e f g = rw (e, f, g)
+
 columns-told : (columnsBad (record { events = false; columns = 4096; start = 0; «end» = 0 }) ≡ false)
     × (columnsBad (record { events = false; columns = 4097; start = 0; «end» = 0 }) ≡ true)
 unfolding columnsBad
@@ -108,6 +132,11 @@ bounds =
       marked-next = marked-over;
       block-most = block-full;
       block-next = block-over;
+      held-most = held-full;
+      held-next = held-over;
+      block-held-most = block-held;
+      block-held-next = block-over-held;
+      rest-held-next = rest-over-held;
       columns-most = columns-told .0;
       columns-next = columns-told .1;
     }

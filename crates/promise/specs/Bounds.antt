@@ -5,11 +5,13 @@ use mathlib.Core.List.{List, []}
 use Prim.Native.Nat.{ℕ, _+_, _≤_}
 use lib.ListN.{length}
 use Rattle.utf8.specs.Utf8.{utf8}
+use Rattle.text.specs.Line.{concat, hasLf}
 use Rattle.time.specs.Convert.{timescaleBad}
 use Rattle.segment.specs.Segment.{segmentsOf, anyBad, mapBad}
+use Rattle.machine.specs.Cut.{closedLines, unfinished}
 use Rattle.machine.specs.Session.{Lent, feed, finish}
 use Rattle.machine.specs.Calls.{Reader, readerRefusal}
-use Rattle.kinds.specs.Kit.{columnsBad}
+use Rattle.kinds.specs.Kit.{linesBad, heldBad, columnsBad}
 use Rattle.promise.specs.Plain.{lineFault, bodyLineFault}
 
 -- a reader that has taken some text
@@ -45,6 +47,13 @@ pub record Bounds : Type 0 where
   -- 21: a block's non-blank lines of at most 4,096 bytes; n of them stand before the line l
   pub block-most : (n : ℕ) (l : List ℕ) → n + length l ≡ 4096 → utf8 l ≡ true → bodyLineFault 0 n l ≡ 0
   pub block-next : (n : ℕ) (l : List ℕ) → n + length l ≡ 4097 → length l ≤ 4096 → utf8 l ≡ true → bodyLineFault 0 n l ≡ 21
-  -- 17: at most 4,096 columns
+  -- 17: held bytes, in ASS at most 4,096, in SRT 4,096 of finished lines and 4,096 of an unfinished one; at most 4,096 columns
+  pub held-most : (h : List ℕ) → length h ≡ 4096 → hasLf h ≡ false → heldBad 0 h ≡ false
+  pub held-next : (h : List ℕ) → length h ≡ 4097 → heldBad 0 h ≡ true
+  pub block-held-most : (h : List ℕ) → length (concat (closedLines h)) ≡ 4096 → linesBad 1 (closedLines h) ≡ false → length (unfinished h) ≡ 4096
+      → heldBad 1 h ≡ false
+  pub block-held-next : (h : List ℕ) → length (concat (closedLines h)) ≡ 4097 → heldBad 1 h ≡ true
+  pub rest-held-next : (h : List ℕ) → length (concat (closedLines h)) ≡ 4096 → linesBad 1 (closedLines h) ≡ false → length (unfinished h) ≡ 4097
+      → heldBad 1 h ≡ true
   pub columns-most : columnsBad (record { events = false; columns = 4096; start = 0; «end» = 0 }) ≡ false
   pub columns-next : columnsBad (record { events = false; columns = 4097; start = 0; «end» = 0 }) ≡ true
