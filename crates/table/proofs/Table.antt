@@ -2,6 +2,7 @@
 use mathlib.Core.Path.{_≡_, refl, sym, subst}
 use mathlib.Core.Bool.{cond}
 use mathlib.Core.List.{List, [], _∷_}
+use Rattle.table.proofs.Past.{strange-told, limit-told}
 use Rattle.base.specs.Part.{last}
 use Rattle.utf8.specs.Utf8.{leadLen, secondLow, secondHigh, tail, widthBy, charWidth, codeBy, codeHead}
 use Rattle.white.specs.White.{whiteHigh, white, whiteHead, endsWhite, whiteTail, headFrom, keepFrom, trimHead, trimTail, trim}
@@ -30,7 +31,6 @@ use Rattle.block.specs.Block.{timingLineSays, blockSays}
 use Rattle.table.specs.Example.{theSegments}
 use Rattle.table.specs.Table.{Table}
 use Rattle.table.proofs.TheMap.{segments-is}
-use Rattle.table.proofs.Past.{strange-told, limit-told}
 
 rows : Table (segment 0 3 0 3 0 3003 ∷ segment 6 10 6006 4 3003 4004 ∷ [])
 unfolding leadLen secondLow secondHigh tail widthBy charWidth codeBy codeHead whiteHigh white whiteHead last endsWhite whiteTail headFrom keepFrom trimHead trimTail trim starts equals first contains upTo past piecesFrom pieces digit digits valueFrom natural unsigned number linesOf textOf terminatorLength terminatorOf kindBad unitsOf markOf timeWith timeIn namesIn placeIn columnsIn fields fieldAt holdsAny bracketed inside pieceAt fieldPieces captionSays wordSays textSays lineSays emitBy render timeText textWith pad width widthUnder fractionDigits hourDigits fateOf decideOf decideTicks findFrom meetsParts lostRule ticksOf startUnits endUnits scaledUp srtEnd timingOf afterArrow timingLineSays blockSays
