@@ -1,6 +1,7 @@
 pub mod HitLaws
 pub mod DecideLaws
 pub mod FateLaws
+mod CaseLaws
 pub mod FineLaws
 pub mod WordLaws
 pub mod TellLaws

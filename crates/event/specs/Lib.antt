@@ -5,4 +5,5 @@ pub mod Fates
 pub mod Says
 pub mod Mark
 pub mod Emit
+pub mod Cases
 pub mod Told

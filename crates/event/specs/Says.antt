@@ -2,6 +2,8 @@
 use mathlib.Core.Bool.{Bool}
 use mathlib.Core.List.{List, [], _∷_}
 use Prim.Native.Nat.{ℕ, suc}
+use Rattle.stamp.specs.declared.read.Time.the-variants.{Bad}
+use Rattle.stamp.specs.Read.{timeNumber}
 
 -- the bytes around a caption's two times: pieces that stay, and the places of the start and of the end
 pub data Piece : Type 0 where
@@ -45,7 +47,7 @@ pub data Part : Type 0 where
   passes : Reason → (line : ℕ) → List ℕ → Part
   cue : Cue → Part
 
--- a text fault, and document 01's number
+-- a text fault, and document 01's number: a bad time's is that of the time
 pub data Fault : Type 0 where
   longLine notUtf8 longBlock badTime : Fault
 
@@ -53,7 +55,7 @@ abbrev pub faultNumber : Fault → ℕ
 faultNumber longLine = 19
 faultNumber notUtf8 = 20
 faultNumber longBlock = 21
-faultNumber badTime = 22
+faultNumber badTime = timeNumber Bad
 
 -- captions decided: the cues, and the captions that pass
 unfoldable pub captionsIn : List Part → ℕ

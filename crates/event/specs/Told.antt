@@ -12,6 +12,7 @@ use Rattle.event.specs.declared.telling.Counted.the-variants.{Nothing, P
 use Rattle.event.specs.declared.telling.Told.{Told}
 use Rattle.event.specs.declared.retiming.Decision.{Decision}
 use Rattle.event.specs.declared.retiming.Decision.the-variants.{Strange, Dropped as Gone, Kept}
+use Rattle.event.specs.Cases.{decisionCase}
 use Rattle.event.specs.Decide.{decideIn}
 use Rattle.event.specs.Fates.{Fate, passed, dropped, shifted, clipped}
 use Rattle.event.specs.Says.{Fault, faultNumber, Cue, Part, stays, passes, cue}
@@ -38,7 +39,7 @@ answered e = record { number = 0; emitted = e }
 
 -- a part through the map as the code decides it: 15 where the segment that is met is past the limits
 abbrev pub cueIn : (kind : ℕ) → Cue → Decision → Answer
-cueIn kind q Strange = refusal 15
+cueIn kind q Strange = refusal (decisionCase Strange .number)
 cueIn kind q Gone = answered (cueEmit kind q Gone)
 cueIn kind q (Kept r) = answered (cueEmit kind q (Kept r))
 

@@ -1,4 +1,4 @@
--- Four calls on an ASS text, by computation: a cue clipped with warning 4, one dropped, a line that passes with warning 2, and a cue shifted at finish.
+-- Four calls on an ASS text, by computation: cues clipped, dropped and shifted, lines that pass with warning 2, the last cue at finish.
 use Prim.Native.Nat.{ℕ}
 use mathlib.Core.Path.{_≡_, refl, ap, _∙_}
 use mathlib.Core.Bool.{true, false}

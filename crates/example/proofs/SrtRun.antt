@@ -1,4 +1,4 @@
--- Four calls on an SRT text, by computation: a cue clipped with warning 4, one dropped with its block, and one shifted at finish.
+-- Four calls on an SRT text, by computation: cues clipped, dropped with their blocks and shifted, the last one at finish.
 use Prim.Native.Nat.{ℕ}
 use mathlib.Core.Path.{_≡_, refl, ap, _∙_}
 use mathlib.Core.Bool.{true, false}

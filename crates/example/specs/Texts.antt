@@ -12,18 +12,20 @@ abbrev pub assFirst : List ℕ
 assFirst = ascii "[Events]\nFormat:Start,End\nDialogue:0:0:0.05,0:0:0."
 
 abbrev pub assRest : List ℕ
-assRest = ascii "25\nDialogue:0:0:0.12,0:0:0.20\nDialogue:0:0:0.21\nDialogue:0:0:0.21,0:0:0.25"
+assRest =
+    ascii "25\nDialogue:0:0:0.12,0:0:0.20\nDialogue:0:0:0.21\nDialogue:0:0:0.21,0:0:0.25\nDialogue:0:0:0.0,0:0:0.0\nDialogue:0:0:0.13,0:0:0.14\nDialogue:a\nDialogue:b\nComment:c\nDialogue:0:0:0.20,0:0:0.21"
 
--- 5–25 clipped to 5–11 with warning 4, 12–20 dropped, one field of two passed with warning 2, 21–25 shifted to 10–15
+-- 5–25 clipped to 5–11 with warning 4, 12–20 dropped, one field of two passed with warning 2, 21–25 shifted to 10–15; then two more dropped, three
+-- more passed, and 20–21 clipped to 10–11 at the finish: four different counts
 abbrev pub assTold : Told
 assTold =
     record {
       numbers = 0 ∷ 16 ∷ 0 ∷ 0 ∷ [];
-      output = ascii "[Events]\nFormat:Start,End\nDialogue:0:00:00.05,0:00:00.11\nDialogue:0:0:0.21\nDialogue:0:00:00.10,0:00:00.15";
-      warnings = warning 4 3 ∷ warning 2 5 ∷ [];
+      output = ascii "[Events]\nFormat:Start,End\nDialogue:0:00:00.05,0:00:00.11\nDialogue:0:0:0.21\nDialogue:0:00:00.10,0:00:00.15\nDialogue:a\nDialogue:b\nComment:c\nDialogue:0:00:00.10,0:00:00.11";
+      warnings = warning 4 3 ∷ warning 2 5 ∷ warning 2 9 ∷ warning 2 10 ∷ warning 2 11 ∷ [];
       outcome = 0;
-      counts = record { shifted = 1; clipped = 1; dropped = 1; passed = 1 };
-      taken = 124;
+      counts = record { shifted = 1; clipped = 2; dropped = 3; passed = 4 };
+      taken = 235;
       ended = true;
     }
 
@@ -47,7 +49,13 @@ assParts =
     ∷ cue (assCue 3 5 25 (10 ∷ []))
     ∷ cue (assCue 4 12 20 (10 ∷ []))
     ∷ passes short 5 (ascii "Dialogue:0:0:0.21\n")
-    ∷ cue (assCue 6 21 25 [])
+    ∷ cue (assCue 6 21 25 (10 ∷ []))
+    ∷ cue (assCue 7 0 0 (10 ∷ []))
+    ∷ cue (assCue 8 13 14 (10 ∷ []))
+    ∷ passes short 9 (ascii "Dialogue:a\n")
+    ∷ passes short 10 (ascii "Dialogue:b\n")
+    ∷ passes short 11 (ascii "Comment:c\n")
+    ∷ cue (assCue 12 20 21 [])
     ∷ []
 
 -- ---- SRT; the last block is ended by the finish
@@ -55,17 +63,19 @@ abbrev pub srtFirst : List ℕ
 srtFirst = ascii "1\n00:00:00,050 --> 00:00:0"
 
 abbrev pub srtRest : List ℕ
-srtRest = ascii "0,250\na\n\n2\n00:00:00,120 --> 00:00:00,200\nb\n\n3\n00:00:00,210 --> 00:00:00,250\nc"
+srtRest =
+    ascii "0,250\na\n\n2\n00:00:00,120 --> 00:00:00,200\nb\n\n3\n00:00:00,210 --> 00:00:00,250\nc\n\n4\n0:0:0,0-->0:0:0,0\n\n0:0:0,130-->0:0:0,140\n\n0:0:0,200-->0:0:0,210"
 
--- 50–250 clipped to 50–101 with warning 4, 120–200 dropped with its block, 210–250 shifted to 109–150
+-- 50–250 clipped to 50–101 with warning 4, 120–200 dropped with its block, 210–250 shifted to 109–150; then two more dropped, and 200–210 clipped to
+-- 100–110 at the finish: four different counts
 abbrev pub srtTold : Told
 srtTold =
     record {
       numbers = 0 ∷ 16 ∷ 0 ∷ 0 ∷ [];
-      output = ascii "1\n00:00:00,050 --> 00:00:00,101\na\n\n\n3\n00:00:00,109 --> 00:00:00,150\nc";
+      output = ascii "1\n00:00:00,050 --> 00:00:00,101\na\n\n\n3\n00:00:00,109 --> 00:00:00,150\nc\n\n\n\n00:00:00,100 --> 00:00:00,110";
       warnings = warning 4 2 ∷ [];
       outcome = 0;
-      counts = record { shifted = 1; clipped = 1; dropped = 1; passed = 0 };
-      taken = 103;
+      counts = record { shifted = 1; clipped = 2; dropped = 3; passed = 0 };
+      taken = 170;
       ended = true;
     }

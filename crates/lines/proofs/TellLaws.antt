@@ -18,7 +18,7 @@ use Rattle.segment.specs.declared.segment.Segment.{Segment}
 use Rattle.event.specs.declared.setting.Config.{Config}
 use Rattle.event.specs.declared.telling.Told.{Told}
 use Rattle.event.specs.declared.telling.Counted.{Counted}
-use Rattle.event.specs.declared.telling.Counted.the-variants.{Passed, Dropped, Shifted, Clipped}
+use Rattle.event.specs.declared.telling.Counted.the-variants.{Nothing, Passed, Dropped, Shifted, Clipped}
 use Rattle.event.specs.declared.retiming.Decision.{Decision}
 use Rattle.event.specs.declared.retiming.Decision.the-variants.{Strange, Dropped as Gone, Kept}
 use Rattle.event.specs.Decide.{decideIn}
@@ -47,6 +47,9 @@ use Rattle.lines.specs.Told.{countBy, quietLine, quietEnd, blankLine}
 
 -- ---- one more caption
 module _ (t : Counts) (k : Counted) where
+  pub count-nothing : k ≡ Nothing → t ≡ countBy k t
+  count-nothing e = rw e
+
   pub count-passed : k ≡ Passed → _≡_ {A = Counts} (record { shifted = t .shifted; clipped = t .clipped; dropped = t .dropped; passed = t .passed + 1 }) (countBy k t)
   count-passed e = rw (e, add-one)
 

@@ -1,20 +1,23 @@
 -- What the private functions hand back.
 use mathlib.Core.Bool.{Bool, false}
-use Prim.Native.Nat.{ℕ, _+_, suc}
+use Prim.Native.Nat.{ℕ, _+_}
 use Rattle.event.specs.declared.telling.Counted.{Counted}
-use Rattle.event.specs.declared.telling.Counted.the-variants.{Nothing, Passed, Dropped, Shifted, Clipped}
+use Rattle.event.specs.Cases.{countedAdds}
 use Rattle.columns.specs.declared.layout.Columns.{Columns}
 use Rattle.machine.specs.declared.counting.Counts.{Counts}
+use Rattle.machine.specs.Counts.{countIf}
 use Rattle.lines.specs.declared.telling.Taken.{Taken}
 use Rattle.lines.specs.declared.telling.Ended.{Ended}
 
 -- the counts with a caption that is counted so
 abbrev pub countBy : Counted → Counts → Counts
-countBy Nothing c = c
-countBy Passed c = record { shifted = c .shifted; clipped = c .clipped; dropped = c .dropped; passed = suc (c .passed) }
-countBy Dropped c = record { shifted = c .shifted; clipped = c .clipped; dropped = suc (c .dropped); passed = c .passed }
-countBy Shifted c = record { shifted = suc (c .shifted); clipped = c .clipped; dropped = c .dropped; passed = c .passed }
-countBy Clipped c = record { shifted = c .shifted; clipped = suc (c .clipped); dropped = c .dropped; passed = c .passed }
+countBy k c =
+    record {
+      shifted = countIf (countedAdds k .shifted) (c .shifted);
+      clipped = countIf (countedAdds k .clipped) (c .clipped);
+      dropped = countIf (countedAdds k .dropped) (c .dropped);
+      passed = countIf (countedAdds k .passed) (c .passed);
+    }
 
 -- a line that wrote nothing
 abbrev pub quietLine : ℕ → (added : Bool) → Counts → Columns → Taken

@@ -1,5 +1,6 @@
 pub mod CountLaws
 pub mod Emits
+pub mod Counted
 pub mod CutLaws
 pub mod OpenLines
 pub mod Bytes

@@ -1,4 +1,6 @@
 -- The counts of a session: how many captions were shifted, clipped, dropped and passed.
+use mathlib.Core.Path.{_≡_}
+use mathlib.Core.Bool.{Bool, true, false}
 use mathlib.Core.List.{List, [], _∷_}
 use Prim.Native.Nat.{ℕ, suc, _+_}
 use Rattle.event.specs.Fates.{Fate, passed, dropped, shifted, clipped}
@@ -39,3 +41,49 @@ captions (e ∷ es) = one (e .caption) + captions es
 -- shifted + clipped + dropped + passed
 abbrev pub total : Counts → ℕ
 total c = c .shifted + c .clipped + c .dropped + c .passed
+
+-- ---- the same, fate by fate
+abbrev pub wasShifted : Caption → Bool
+wasShifted none = false
+wasShifted (decided passed) = false
+wasShifted (decided dropped) = false
+wasShifted (decided (shifted s e)) = true
+wasShifted (decided (clipped s e)) = false
+
+abbrev pub wasClipped : Caption → Bool
+wasClipped none = false
+wasClipped (decided passed) = false
+wasClipped (decided dropped) = false
+wasClipped (decided (shifted s e)) = false
+wasClipped (decided (clipped s e)) = true
+
+abbrev pub wasDropped : Caption → Bool
+wasDropped none = false
+wasDropped (decided passed) = false
+wasDropped (decided dropped) = true
+wasDropped (decided (shifted s e)) = false
+wasDropped (decided (clipped s e)) = false
+
+abbrev pub wasPassed : Caption → Bool
+wasPassed none = false
+wasPassed (decided passed) = true
+wasPassed (decided dropped) = false
+wasPassed (decided (shifted s e)) = false
+wasPassed (decided (clipped s e)) = false
+
+-- one more where a test holds
+abbrev pub countIf : Bool → ℕ → ℕ
+countIf true n = suc n
+countIf false n = n
+
+-- how many captions a test holds of
+unfoldable pub howMany : (Caption → Bool) → List Emit → ℕ
+howMany t [] = 0
+howMany t (e ∷ es) = countIf (t (e .caption)) (howMany t es)
+
+-- each count is the number of captions with that fate
+pub record CountedBy (es : List Emit) (n : Counts) : Type 0 where
+  pub shifted-are : n .shifted ≡ howMany wasShifted es
+  pub clipped-are : n .clipped ≡ howMany wasClipped es
+  pub dropped-are : n .dropped ≡ howMany wasDropped es
+  pub passed-are : n .passed ≡ howMany wasPassed es

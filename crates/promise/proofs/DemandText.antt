@@ -9,11 +9,12 @@ use Rattle.segment.specs.Segment.{segmentsOf}
 use Rattle.event.specs.declared.setting.Config.{Config}
 use Rattle.columns.specs.declared.layout.Columns.{Columns}
 use Rattle.machine.specs.declared.counting.Counts.{Counts}
-use Rattle.machine.specs.Counts.{total}
+use Rattle.machine.specs.Counts.{total, CountedBy}
 use Rattle.machine.specs.Reader.{Reading}
 use Rattle.machine.specs.Session.{Session, Answer, Call, openSession, fresh}
-use Rattle.machine.specs.Calls.{play, Proper, newReader, hear, SameAsReader}
+use Rattle.machine.specs.Calls.{play, Proper, newReader, hear, emitsIn, SameAsReader}
 use Rattle.machine.proofs.Emits.{total-parts}
+use Rattle.machine.proofs.Counted.{counted-by}
 use Rattle.machine.proofs.Lists.{same-as-reader}
 use Rattle.machine.proofs.Numbers.{Opened, opened, opens-fresh, opened-config}
 use Rattle.machine.proofs.Refine.{Returned, Trace, traced, trace-plays}
@@ -43,6 +44,9 @@ module _ (c : Config) (m : List ℕ) (o : Opened c m) where
       record {
         same = h;
         sum = sym (ap total (h .counts) ∙ total-parts c (segmentsOf m) ps);
+        counted =
+            let es = emitsIn (plainRead (c .kind)) c m (heard c xs .reader) in
+            subst (CountedBy es) (sym (h .counts)) (counted-by es);
         passed =
             ap (λ (k : Counts). k .passed) (h .counts) ∙ passed-warnings c (segmentsOf m) ps
             ∙ ap passings (sym (h .warnings));

@@ -8,6 +8,7 @@ pub mod PartLaws
 pub mod AgainLaws
 pub mod DemandText
 pub mod Examples
+pub mod BoundLaws
 pub mod RunLaws
 pub mod ThePromise
 pub mod Numbers17

@@ -14,10 +14,10 @@ use Rattle.event.specs.Fates.{Fate, passed, dropped, shifted, clipped, FirstMet
 use Rattle.event.specs.Says.{reasonNumber, Cue, Part, stays, passes, cue, captionsIn}
 use Rattle.event.specs.Emit.{Warning, warning, warnIf, none, decided, Emit, render, emitOf}
 use Rattle.columns.specs.declared.layout.Columns.{Columns}
-use Rattle.machine.specs.Counts.{total}
+use Rattle.machine.specs.Counts.{total, countIf, CountedBy}
 use Rattle.machine.specs.Reader.{Reading}
 use Rattle.machine.specs.Session.{Call, openSession}
-use Rattle.machine.specs.Calls.{Played, play, Heard, newReader, hear, readingOf, SameAsReader}
+use Rattle.machine.specs.Calls.{Played, play, Heard, newReader, hear, readingOf, emitsIn, SameAsReader}
 use Rattle.kinds.specs.Kit.{kit}
 use Rattle.promise.specs.Plain.{plainRead}
 use Rattle.promise.specs.Again.{AllAgain}
@@ -67,10 +67,6 @@ module _ (c : Config) (m : List Segment) where
   AllRight (p ∷ ps) = PartRight p (emitOf c m p) × AllRight ps
 
 -- how many warnings of kind 1 or 2
-abbrev pub countIf : Bool → ℕ → ℕ
-countIf true n = suc n
-countIf false n = n
-
 unfoldable pub passings : List Warning → ℕ
 passings [] = 0
 passings (w ∷ ws) = countIf (leb (w .kind) 2) (passings ws)
@@ -93,6 +89,8 @@ pub record Demand (c : Config) (m : List ℕ) (xs : List Call) (p : Played Colum
   pub same : SameAsReader (plainRead (c .kind)) c m p (heard c xs)
   -- captions decided, counted from the text alone, are shifted + clipped + dropped + passed
   pub sum : captionsIn (saidIn c xs .parts) ≡ total (p .session .counts)
+  -- and each of the four is the number of captions with that fate
+  pub counted : CountedBy (emitsIn (plainRead (c .kind)) c m (heard c xs .reader)) (p .session .counts)
   -- passed counts warnings 1 and 2
   pub passed : p .session .counts .passed ≡ passings (p .warnings)
   -- every caption has its true fate, its bytes and its warnings

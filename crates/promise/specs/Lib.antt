@@ -4,5 +4,6 @@ pub mod Plain
 pub mod Whole
 pub mod Again
 pub mod Demand
+pub mod Bounds
 pub mod Runs
 pub mod Promise

@@ -6,7 +6,8 @@
 -- list of calls made (`Made`), each lent the map or one that 15 refuses (`Proper`), each meeting its contract with the session of the last (`Ran`).
 -- "the number of every call is the one that 01's plain reader gives. After the list, joined output, warnings in order, outcome and all counts are
 -- the reader's for the whole text taken." Demand: `same`, over `plainRead` (specs/Plain).
--- "Captions decided = shifted + clipped + dropped + passed." Demand: `sum`; and `passed` counts warnings 1 and 2.
+-- "Captions decided = shifted + clipped + dropped + passed." Demand: `sum`, and `counted`: each of the four is the number
+-- of captions with that fate; and `passed` counts warnings 1 and 2.
 -- "A decided one whose times are read is dropped exactly when, in ticks rounded down, no stretch of positive length ends after its start and
 -- starts before its end." Demand: `fates`, each `CueRight`, with event/specs/Fates: `Right`, `NoneMeets`.
 -- "Otherwise both ticks, cut to the first such stretch, move by its shift d." event/specs/Fates: `IsShifted`, `IsClipped`, `FirstMet`.

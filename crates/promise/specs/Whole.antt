@@ -1,4 +1,4 @@
--- Whole texts and the plain reader, after a finish. Without a fault it has read what the whole text says (the files `Whole` of `ass` and `block`);
+-- Whole texts and the plain reader, after a finish. Without a fault it has read what the whole text says (whole/specs/Ass and Srt);
 -- with one, what the lines before the fault's line or block say.
 use mathlib.Core.Path.{_≡_}
 use mathlib.Core.Bool.{Bool, true}

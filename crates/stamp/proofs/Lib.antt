@@ -4,4 +4,5 @@ pub mod Written
 pub mod Reading
 pub mod RoundTrip
 pub mod ReadFree
+mod Values
 mod Examples

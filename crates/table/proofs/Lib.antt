@@ -1,2 +1,3 @@
 pub mod TheMap
+pub mod Past
 pub mod Table

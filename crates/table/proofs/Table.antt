@@ -2,6 +2,7 @@
 use mathlib.Core.Path.{_≡_, refl, sym, subst}
 use mathlib.Core.Bool.{cond}
 use mathlib.Core.List.{List, [], _∷_}
+use Rattle.table.proofs.Past.{strange-told, limit-told}
 use Rattle.base.specs.Part.{last}
 use Rattle.utf8.specs.Utf8.{leadLen, secondLow, secondHigh, tail, widthBy, charWidth, codeBy, codeHead}
 use Rattle.white.specs.White.{whiteHigh, white, whiteHead, endsWhite, whiteTail, headFrom, keepFrom, trimHead, trimTail, trim}
@@ -44,17 +45,31 @@ rows =
       zero-length = refl;
       instant = refl;
       turned = refl;
+      hit-first = refl;
+      hit-second = refl;
+      hit-none = refl;
+      decision-kept = refl;
+      decision-dropped = refl;
+      decision-strange = strange-told;
+      decision-limit = limit-told;
       sixty-minutes = refl;
+      sixty-units = refl;
+      sixty-mark = refl;
       last-hundredth = refl;
+      last-number = refl;
+      last-units = refl;
+      last-mark = refl;
       srt-end = refl;
       dialogue = refl;
       section = refl;
+      wide-space = refl;
       empty-section = refl;
       one-byte = refl;
       other-section = refl;
       lone-cr = refl;
       format = refl;
       first-columns = refl;
+      first-end = refl;
       format-inside = refl;
       format-outside = refl;
       format-anew = refl;
@@ -66,6 +81,13 @@ rows =
       commas = refl;
       other-line = refl;
       tag-warned = refl;
+      tag-move = refl;
+      tag-t = refl;
+      tag-fad = refl;
+      tag-fade = refl;
+      no-tag = refl;
+      tag-elsewhere = refl;
+      tag-uncut = refl;
       bad-time = refl;
       dropped-line = refl;
     }

@@ -7,10 +7,13 @@ use Prim.Native.Nat.{ℕ}
 use Prim.Native.String.{String}
 use Rattle.base.specs.Ascii.{ascii}
 use Rattle.stamp.specs.declared.read.Time.the-variants.{At}
-use Rattle.stamp.specs.Read.{timeIn, timeNumber}
+use Rattle.stamp.specs.Read.{timeIn, timeNumber, timeUnits, timeMark}
 use Rattle.segment.specs.declared.segment.Segment.{Segment}
+use Rattle.segment.specs.Segment.{segment}
 use Rattle.event.specs.declared.retiming.Decision.the-variants.{Kept}
-use Rattle.event.specs.Decide.{decideOf}
+use Rattle.event.specs.Hit.{findHit, hitOf}
+use Rattle.event.specs.Decide.{decideOf, decideIn}
+use Rattle.event.specs.Cases.{told, hitCase, decisionCase}
 use Rattle.event.specs.Fates.{dropped, shifted, clipped, fateOf}
 use Rattle.event.specs.Says.{bytes, start, stop, stays, passes, cue, unplaced, short, faultNumber}
 use Rattle.event.specs.Emit.{Warning, warning, emitOf}
@@ -64,9 +67,23 @@ pub record Table (m : List Segment) : Type 0 where
   pub zero-length : fateOf (setting 0) m 0 0 ≡ dropped
   pub instant : fateOf (setting 0) m 5 5 ≡ shifted 5 5
   pub turned : fateOf (setting 0) m 7 5 ≡ shifted 7 5
+  -- the same as numbers: the hit of 5–25 and of 21–25 (300 ticks to a hundredth), and of 12–20, which is none
+  pub hit-first : hitCase (hitOf (findHit m 1500 7500)) ≡ told 0 (0 ∷ 0 ∷ 0 ∷ 3003 ∷ [])
+  pub hit-second : hitCase (hitOf (findHit m 6300 7500)) ≡ told 0 (1 ∷ 6006 ∷ 3003 ∷ 4004 ∷ [])
+  pub hit-none : hitCase (hitOf (findHit m 3600 6000)) ≡ told 0 []
+  pub decision-kept : decisionCase (decideOf (setting 0) m 5 25) ≡ told 0 (5 ∷ 11 ∷ [])
+  pub decision-dropped : decisionCase (decideOf (setting 0) m 12 20) ≡ told 0 []
+  -- output start + duration above 2^52: 15; at 2^52 it is kept
+  pub decision-strange : decisionCase (decideIn (setting 0) (segment 0 1 0 1 4503599627370496 1 ∷ []) 0 1) ≡ told 15 []
+  pub decision-limit : decisionCase (decideIn (setting 0) (segment 0 1 0 1 4503599627370495 1 ∷ []) 0 1) .number ≡ 0
   -- ---- times
   pub sixty-minutes : timeNumber (timeIn 0 (ascii "0:60:00.00")) ≡ 22
+  pub sixty-units : timeUnits (timeIn 0 (ascii "0:60:00.00")) ≡ 0
+  pub sixty-mark : timeMark (timeIn 0 (ascii "0:60:00.00")) ≡ 0
   pub last-hundredth : timeIn 0 (ascii "0:59:59.99") ≡ At 359999 46
+  pub last-number : timeNumber (timeIn 0 (ascii "0:59:59.99")) ≡ 0
+  pub last-units : timeUnits (timeIn 0 (ascii "0:59:59.99")) ≡ 359999
+  pub last-mark : timeMark (timeIn 0 (ascii "0:59:59.99")) ≡ 46
   -- SRT: the end `100:00:00,456` is read as 100 h and 45 ms, trailing `6`
   pub srt-end : blockSays srt 1 (lf "0:0:1,5 --> 100:00:00,456" ∷ [])
       ≡ blockSaid (cue (blockCue 1 1005 44 360000045 44 (blockFrame [] (ascii "6") (10 ∷ []) [])))
@@ -75,6 +92,8 @@ pub record Table (m : List Segment) : Type 0 where
   -- ---- the rules of a line
   -- a section line is trimmed, from `[` to `]`, two bytes or more; only exactly `Events` counts
   pub section : leaves (lineSays outside 0 (lf " [Events]\t")) ≡ inEvents
+  -- trimmed of White_Space, not of ASCII blanks alone: U+3000 is the bytes 227, 128, 128
+  pub wide-space : leaves (lineSays outside 0 (227 ∷ 128 ∷ 128 ∷ lf "[Events]")) ≡ inEvents
   pub empty-section : leaves (lineSays inEvents 0 (lf "[]")) ≡ outside
   pub one-byte : lineSays inEvents 0 (lf "[") ≡ says inEvents (stays (lf "["))
   pub other-section : leaves (lineSays inEvents 0 (lf "[events]")) ≡ outside
@@ -83,6 +102,7 @@ pub record Table (m : List Segment) : Type 0 where
   -- `Format:` gives the columns, trimmed: their count, the first Start and the first End
   pub format : leaves (lineSays inEvents 1 (lf "Format: Start, End, Text")) ≡ inPlace
   pub first-columns : leaves (lineSays inEvents 1 (lf "Format:Start,Start,End")) ≡ record { events = true; columns = 3; start = 1; «end» = 3 }
+  pub first-end : leaves (lineSays inEvents 1 (lf "Format:End,Start,End")) ≡ record { events = true; columns = 3; start = 2; «end» = 1 }
   -- only at the line's start, and in Events; it stays until the next one, across sections too
   pub format-inside : leaves (lineSays inEvents 1 (lf " Format:Start,End")) ≡ inEvents
   pub format-outside : leaves (lineSays outside 1 (lf "Format:Start,End")) ≡ outside
@@ -108,7 +128,15 @@ pub record Table (m : List Segment) : Type 0 where
   pub commas : becomes m (lineSays inPlace 2 (lf "Comment:0:0:0.21,0:0:0.25,a,b")) ≡ lf "Comment:0:00:00.10,0:00:00.15,a,b"
   -- other lines are kept
   pub other-line : lineSays inPlace 2 (lf "Picture:0:0:0.21,0:0:0.25,c") ≡ says inPlace (stays (lf "Picture:0:0:0.21,0:0:0.25,c"))
-  -- through the map: the start cut and a tag in the last field, warning 3; a bad time, 22; a dropped caption loses its terminator too
+  -- through the map: the start cut and any of the five tags in the last field, warning 3; no other tag, no other field, no other start
   pub tag-warned : warns m (lineSays inPlace 2 (lf "Dialogue:0:0:0.20,0:0:0.21,{\\k5}c")) ≡ warning 3 3 ∷ []
+  pub tag-move : warns m (lineSays inPlace 2 (lf "Dialogue:0:0:0.20,0:0:0.21,{\\move(1,2)}c")) ≡ warning 3 3 ∷ []
+  pub tag-t : warns m (lineSays inPlace 2 (lf "Dialogue:0:0:0.20,0:0:0.21,{\\t(5)}c")) ≡ warning 3 3 ∷ []
+  pub tag-fad : warns m (lineSays inPlace 2 (lf "Dialogue:0:0:0.20,0:0:0.21,{\\fad(1,2)}c")) ≡ warning 3 3 ∷ []
+  pub tag-fade : warns m (lineSays inPlace 2 (lf "Dialogue:0:0:0.20,0:0:0.21,{\\fade(1)}c")) ≡ warning 3 3 ∷ []
+  pub no-tag : warns m (lineSays inPlace 2 (lf "Dialogue:0:0:0.20,0:0:0.21,{\\pos(1)}c")) ≡ []
+  pub tag-elsewhere : warns m (lineSays (record { events = true; columns = 3; start = 2; «end» = 3 }) 2 (lf "Dialogue:{\\k5},0:0:0.20,0:0:0.21")) ≡ []
+  pub tag-uncut : warns m (lineSays inPlace 2 (lf "Dialogue:0:0:0.21,0:0:0.25,{\\k5}c")) ≡ []
+  -- a bad time, 22; a dropped caption loses its terminator too
   pub bad-time : faultIn (lineSays inPlace 2 (lf "Dialogue:0:60:00.00,0:0:0.25,c")) ≡ 22
   pub dropped-line : becomes m (lineSays inPlace 2 (lf "Dialogue:0:0:0.12,0:0:0.20,c")) ≡ []

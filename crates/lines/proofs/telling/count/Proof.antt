@@ -1,4 +1,4 @@
-use Rattle.lines.proofs.TellLaws.{count-passed, count-dropped, count-shifted, count-clipped}
+use Rattle.lines.proofs.TellLaws.{count-nothing, count-passed, count-dropped, count-shifted, count-clipped}
 use borrow.Author.Needs.{needs}
 use Rattle.lines.proofs.telling.count.Statement.{statement}
 use Rattle.lines.proofs.telling.count.Tie as tie
@@ -33,7 +33,7 @@ add-t7 : tie.Need-add-t7
 add-t7 c = search needs
 
 returns : tie.Need-returns
-returns c = search needs
+returns c = search count-nothing
 
 returns-2 : tie.Need-returns-2
 returns-2 c = search count-passed

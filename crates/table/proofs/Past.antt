@@ -1,0 +1,19 @@
+-- A segment past the limits of a map, and one at them.
+use mathlib.Core.Path.{_≡_, refl}
+use mathlib.Core.Bool.{cond}
+use mathlib.Core.List.{List, [], _∷_}
+use Rattle.time.specs.Kind.{kindBad, unitsOf}
+use Rattle.time.specs.Convert.{ticksOf, coreHolds, ticksWithin}
+use Rattle.segment.specs.Segment.{segment, endBad}
+use Rattle.event.specs.Hit.{meetsParts, findFrom}
+use Rattle.event.specs.Decide.{decideIn}
+use Rattle.event.specs.Cases.{told, decisionCase}
+use Rattle.table.specs.Example.{setting}
+
+pub strange-told : decisionCase (decideIn (setting 0) (segment 0 1 0 1 4503599627370496 1 ∷ []) 0 1) ≡ told 15 []
+unfolding kindBad unitsOf ticksOf coreHolds ticksWithin endBad meetsParts findFrom decideIn
+strange-told = refl
+
+pub limit-told : decisionCase (decideIn (setting 0) (segment 0 1 0 1 4503599627370495 1 ∷ []) 0 1) .number ≡ 0
+unfolding kindBad unitsOf ticksOf coreHolds ticksWithin endBad meetsParts findFrom decideIn
+limit-told = refl
