@@ -12,7 +12,7 @@ use Rattle.segment.specs.declared.segment.Segment.{Segment}
 use Rattle.segment.specs.Segment.{flatOf}
 use Rattle.segmap.specs.declared.whole.Made.{Made}
 use Rattle.segmap.specs.Map.{mapNumber, Map, mapOf, made, madeOf}
-use Rattle.segmap.proofs.MapLaws.{short-made}
+use Rattle.segmap.proofs.MapLaws.{short-made, short-map}
 use Rattle.segmap.proofs.Built.{flat-length, map-count, told-number, told-count, map-refused}
 use Rattle.event.specs.declared.meeting.Hit.{Hit}
 use Rattle.event.specs.declared.meeting.Hit.the-variants.{Miss}
@@ -20,7 +20,7 @@ use Rattle.event.specs.Hit.{findFrom, findHit, hitOf}
 use Rattle.segments.specs.declared.through.Through.{Through}
 use Rattle.segments.specs.Records.{recorded, mapInto}
 use Rattle.segments.specs.Through.{throughOf}
-use Rattle.segments.proofs.BuildLaws.{count-few}
+use Rattle.segments.proofs.BuildLaws.{map-lent, count-few}
 
 -- the map m was built in the 1,024 records l, as z; r is what the call told
 module _ (s list : List ℕ) (d : ℕ) (l z : List Segment) (n : length l ≡ 1024) (r : Made) (e : r ≡ madeOf (mapInto s list d l)) (w : z ≡ recorded (mapInto s list d l .segments) l) where
@@ -55,3 +55,27 @@ module _ (s list : List ℕ) (d : ℕ) (l z : List Segment) (n : length l ≡ 10
       let few : length (m .segments) ≤ mostSegments = omega (arith, in-records, told-count s list d 6144 r told, map-count s list d 6144) in
       let fits : length (flatOf (m .segments)) ≤ length f = omega (arith, flat-length (m .segments), few) in
       q ∙ ap (λ (xs : List Segment). placed (flatOf xs) f) front ∙ placed-yes (flatOf (m .segments)) f fits
+
+-- ---- the numbers f that are lent: fewer than 6,144 are 16, and more count only as enough
+module _ (s list : List ℕ) (d a b : ℕ) (f : List ℕ) where
+  abbrev lent : Map
+  lent = mapOf s list d (length f)
+
+  short-hit : length f < 6 * mostSegments → Miss ≡ hitOf (findHit (lent .segments) a b)
+  unfolding findFrom
+  short-hit h =
+      let e : 16 ≡ mapNumber s list d (length f) = told-number s list d (length f) (made 16 0 0) (short-made s list d (length f) (made 16 0 0) h refl) in
+      sym (ap (λ (xs : List Segment). hitOf (findHit xs a b)) (map-refused s list d (length f) (omega arith)))
+
+  pub short-through : length f < 6 * mostSegments → (_≡_ {A = Through} (record { made = made 16 0 0; hit = Miss }) (throughOf lent a b)) × (f ≡ put (flatOf (lent .segments)) f)
+  unfolding throughOf
+  short-through h =
+      let t : made 16 0 0 ≡ madeOf lent = short-made s list d (length f) (made 16 0 0) h refl in
+      let m : Miss ≡ hitOf (findHit (lent .segments) a b) = short-hit h in
+      (λ i. record { made = t i; hit = m i }, short-map s list d (length f) f h)
+
+  pub enough-through : (r : Through) (f′ : List ℕ) → 6 * mostSegments ≤ length f → (r ≡ throughOf (mapOf s list d 6144) a b) × (f′ ≡ put (flatOf (mapOf s list d 6144 .segments)) f)
+      → (r ≡ throughOf lent a b) × (f′ ≡ put (flatOf (lent .segments)) f)
+  enough-through r f′ h e =
+      let same : mapOf s list d 6144 ≡ lent = map-lent s list d 6144 (length f) (omega arith) h in
+      (e .0 ∙ ap (λ (m : Map). throughOf m a b) same, e .1 ∙ ap (λ (m : Map). put (flatOf (m .segments)) f) same)
