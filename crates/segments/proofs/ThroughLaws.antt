@@ -1,6 +1,6 @@
 -- Laws of a map that is built in records and read from them: the records in front are its segments.
 use mathlib.Core.Path.{_≡_, refl, sym, ap, _∙_}
-use mathlib.Core.List.{List, []}
+use mathlib.Core.List.{List}
 use Prim.Native.Nat.{ℕ, _*_, _<_, _≤_}
 use native.Mathlib.Omega.{arith}
 use lib.ListN.{length, take, drop}
@@ -12,7 +12,7 @@ use Rattle.segment.specs.declared.segment.Segment.{Segment}
 use Rattle.segment.specs.Segment.{flatOf}
 use Rattle.segmap.specs.declared.whole.Made.{Made}
 use Rattle.segmap.specs.Map.{mapNumber, Map, mapOf, made, madeOf}
-use Rattle.segmap.proofs.MapLaws.{short-made, short-map}
+use Rattle.segmap.proofs.MapLaws.{short-made}
 use Rattle.segmap.proofs.Built.{flat-length, map-count, told-number, told-count, map-refused}
 use Rattle.event.specs.declared.meeting.Hit.{Hit}
 use Rattle.event.specs.declared.meeting.Hit.the-variants.{Miss}
@@ -67,15 +67,18 @@ module _ (s list : List ℕ) (d a b : ℕ) (f : List ℕ) where
       let e : 16 ≡ mapNumber s list d (length f) = told-number s list d (length f) (made 16 0 0) (short-made s list d (length f) (made 16 0 0) h refl) in
       sym (ap (λ (xs : List Segment). hitOf (findHit xs a b)) (map-refused s list d (length f) (omega arith)))
 
-  pub short-through : length f < 6 * mostSegments → (_≡_ {A = Through} (record { made = made 16 0 0; hit = Miss }) (throughOf lent a b)) × (f ≡ put (flatOf (lent .segments)) f)
+  pub short-through : length f < 6 * mostSegments → _≡_ {A = Through} (record { made = made 16 0 0; hit = Miss }) (throughOf lent a b)
   unfolding throughOf
   short-through h =
       let t : made 16 0 0 ≡ madeOf lent = short-made s list d (length f) (made 16 0 0) h refl in
       let m : Miss ≡ hitOf (findHit (lent .segments) a b) = short-hit h in
-      (λ i. record { made = t i; hit = m i }, short-map s list d (length f) f h)
+      λ i. record { made = t i; hit = m i }
 
-  pub enough-through : (r : Through) (f′ : List ℕ) → 6 * mostSegments ≤ length f → (r ≡ throughOf (mapOf s list d 6144) a b) × (f′ ≡ put (flatOf (mapOf s list d 6144 .segments)) f)
-      → (r ≡ throughOf lent a b) × (f′ ≡ put (flatOf (lent .segments)) f)
-  enough-through r f′ h e =
-      let same : mapOf s list d 6144 ≡ lent = map-lent s list d 6144 (length f) (omega arith) h in
-      (e .0 ∙ ap (λ (m : Map). throughOf m a b) same, e .1 ∙ ap (λ (m : Map). put (flatOf (m .segments)) f) same)
+  same-lent : 6 * mostSegments ≤ length f → mapOf s list d 6144 ≡ lent
+  same-lent h = map-lent s list d 6144 (length f) (omega arith) h
+
+  pub enough-through : (r : Through) → 6 * mostSegments ≤ length f → r ≡ throughOf (mapOf s list d 6144) a b → r ≡ throughOf lent a b
+  enough-through r h e = e ∙ ap (λ (m : Map). throughOf m a b) (same-lent h)
+
+  pub enough-flat : (f′ : List ℕ) → 6 * mostSegments ≤ length f → f′ ≡ put (flatOf (mapOf s list d 6144 .segments)) f → f′ ≡ put (flatOf (lent .segments)) f
+  enough-flat f′ h e = e ∙ ap (λ (m : Map). put (flatOf (m .segments)) f) (same-lent h)
