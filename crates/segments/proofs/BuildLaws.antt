@@ -40,7 +40,7 @@ narrowed-none = refl
 
 module _ (s list : List ℕ) (d : ℕ) where
   -- the places that are lent count only as enough
-  map-lent : (lent lent′ : ℕ) → 6 * mostSegments ≤ lent → 6 * mostSegments ≤ lent′ → mapOf s list d lent ≡ mapOf s list d lent′
+  pub map-lent : (lent lent′ : ℕ) → 6 * mostSegments ≤ lent → 6 * mostSegments ≤ lent′ → mapOf s list d lent ≡ mapOf s list d lent′
   unfolding mapOf mapNumber
   map-lent lent lent′ h k = rw (le-leb (6 * mostSegments) lent h, le-leb (6 * mostSegments) lent′ k)
 

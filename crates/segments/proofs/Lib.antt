@@ -3,4 +3,6 @@ pub mod BuildLaws
 pub mod Again
 pub mod Walk
 pub mod LocalArray
+pub mod StructArray
 pub mod SameMap
+pub mod ThroughLaws

@@ -1,2 +1,3 @@
 -- Maps as lists of records.
 pub mod Records
+pub mod Through
