@@ -139,7 +139,7 @@ def table():
                     cells[k].append(file)
         if any(cells):
             lines.append(f'| {crate} | ' + ' | '.join(', '.join(c) for c in cells) + ' |')
-    lines.append('| lines | ' + ' | '.join(f'{count(d, keys):,}' for keys in found) + ' |')
+    lines.append('| all: lines of definitions | ' + ' | '.join(f'{count(d, keys):,}' for keys in found) + ' |')
     return '\n'.join(lines)
 
 
