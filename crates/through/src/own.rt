@@ -1,7 +1,4 @@
 // The map of a sheet and a trim list by way of records of its own: built, searched for a caption, and handed over as flat numbers.
-use crate::building::build;
-use crate::flattening::flatten;
-use crate::meeting::find_hit;
 use event::Hit;
 use segmap::Made;
 use segment::Segment;
@@ -11,7 +8,7 @@ ghost use lib.ListN.{length};
 ghost use Rattle.base.specs.Put.{put};
 ghost use Rattle.segment.specs.Segment.{flatOf};
 ghost use Rattle.segmap.specs.Map.{mapOf};
-ghost use Rattle.segments.specs.Through.{throughOf};
+ghost use Rattle.through.specs.Through.{throughOf};
 
 // What the map call answers, and the segment that a caption meets.
 pub struct Through {
@@ -19,7 +16,7 @@ pub struct Through {
     pub hit: Hit,
 }
 
-// The same where the flat numbers have room for every map.
+// The same as `through_records`, where the flat numbers have room for every map.
 fn through_own(
     sheet: &[u8],
     list: &[u8],
@@ -41,9 +38,9 @@ fn through_own(
         duration: 0,
     };
     let mut map = [none; 1024];
-    let made = build(sheet, list, direction, &mut map);
-    let hit = find_hit(&map[..made.count], start, end);
-    flatten(&map[..made.count], flat);
+    let made = segments::build(sheet, list, direction, &mut map);
+    let hit = segments::find_hit(&map[..made.count], start, end);
+    segments::flatten(&map[..made.count], flat);
     Through { made, hit }
 }
 

@@ -58,32 +58,32 @@ use Rattle.event.specs.declared.meeting.Hit.{Hit}
 use Rattle.event.specs.Hit.{findHit, hitOf}
 use Rattle.event.proofs.meeting.Hit as H₀
 use Rattle.event.proofs.meeting.Hit.Laws as H′
-use Rattle.segments.specs.declared.through.Through.{Through}
+use Rattle.through.specs.declared.own.Through.{Through}
 use Rattle.segments.specs.Records.{recorded, mapInto, noSegment, flatNumber}
-use Rattle.segments.specs.Through.{throughOf}
-use Rattle.segments.proofs.through.Through as R₀
-use Rattle.segments.proofs.through.Through.Laws as R′
-use Rattle.segments.proofs.ThroughLaws.{in-records, through-told, through-flat}
+use Rattle.through.specs.Through.{throughOf}
+use Rattle.through.proofs.own.Through as R₀
+use Rattle.through.proofs.own.Through.Laws as R′
+use Rattle.through.proofs.ThroughLaws.{in-records, through-told, through-flat}
 use Rattle.segments.proofs.Again.{LentAgain, lends-again, comes-back}
-use Rattle.segments.proofs.StructArray.{array-of, repeat-typed, LentMut, LentShr, FrontLent, lends-repeat, shares-front, front-back}
+use Rattle.through.proofs.StructArray.{array-of, repeat-typed, LentMut, LentShr, FrontLent, lends-repeat, shares-front, front-back}
 use Rattle.segments.proofs.Walk.{big, word, words, records}
-use Rattle.segments.proofs.building.build as bd
-use Rattle.segments.proofs.building.build.Symbol as bd-def
-use Rattle.segments.proofs.building.build.Symbol.{name as #build}
-use Rattle.segments.proofs.building.build.Met as bd-thm
-use Rattle.segments.proofs.meeting.find_hit as fh
-use Rattle.segments.proofs.meeting.find_hit.Symbol as fh-def
-use Rattle.segments.proofs.meeting.find_hit.Symbol.{name as #find-hit}
-use Rattle.segments.proofs.meeting.find_hit.Met as fh-thm
-use Rattle.segments.proofs.flattening.flatten as ft
-use Rattle.segments.proofs.flattening.flatten.Symbol as ft-def
-use Rattle.segments.proofs.flattening.flatten.Symbol.{name as #flatten}
-use Rattle.segments.proofs.flattening.flatten.Met as ft-thm
-use Rattle.segments.proofs.through.through_own.Key.{name as #key}
-use Rattle.segments.proofs.through.through_own as fn
-use Rattle.segments.proofs.through.through_own.Statement as stated
-use Rattle.segments.proofs.through.through_own.Code as code
-use Rattle.segments.proofs.through.through_own.Code.Mir as mir
+use Rattle.segments.proofs.build as bd
+use Rattle.segments.proofs.build.Symbol as bd-def
+use Rattle.segments.proofs.build.Symbol.{name as #build}
+use Rattle.segments.proofs.build.Met as bd-thm
+use Rattle.segments.proofs.find_hit as fh
+use Rattle.segments.proofs.find_hit.Symbol as fh-def
+use Rattle.segments.proofs.find_hit.Symbol.{name as #find-hit}
+use Rattle.segments.proofs.find_hit.Met as fh-thm
+use Rattle.segments.proofs.flatten as ft
+use Rattle.segments.proofs.flatten.Symbol as ft-def
+use Rattle.segments.proofs.flatten.Symbol.{name as #flatten}
+use Rattle.segments.proofs.flatten.Met as ft-thm
+use Rattle.through.proofs.own.through_own.Key.{name as #key}
+use Rattle.through.proofs.own.through_own as fn
+use Rattle.through.proofs.own.through_own.Statement as stated
+use Rattle.through.proofs.own.through_own.Code as code
+use Rattle.through.proofs.own.through_own.Code.Mir as mir
 
 abbrev stayed : Stays (fn.ended .signature .params) (fn.ended .kept)
 stayed = (stay-none-slice (0 ∷ []) tt (plain (λ _. u8)) yes, (stay-none-slice (1 ∷ []) tt (plain (λ _. u8)) yes, (stay-none (λ _. u32) yes, (stay-none (λ _. u64) yes, (stay-none (λ _. u64) yes, (stay-slice (2 ∷ []) tt (plain (λ _. u64)), tt))))))
@@ -398,7 +398,7 @@ through-own-spec 𝓤 H 𝓜 𝓖 𝓡 =
     (tables 𝓤 H 𝓜 𝓡 code.env .C) (tables 𝓤 H 𝓜 𝓡 code.env .Λ) #key code.function (code.unfolded 𝓤 H 𝓜 𝓡)
     (meets 𝓤 H (𝓖 .A) (givenOf 𝓤 H 𝓜 𝓖) (𝓜 .mem) (𝓡 .run) (tablesOf 𝓤 H 𝓜 (tables 𝓤 H 𝓜 𝓡 code.env))
     (record {
-      build = cited 𝓤 H (Build 𝓤 H (𝓖 .A) (𝓜 .mem) (𝓡 .run)) 𝓜 𝓡 code.env #build bd-def.routine code.calls-segments·building·build (bd-thm.met 𝓤 H 𝓜 𝓖 𝓡);
-      find-hit = cited 𝓤 H (FindHit 𝓤 H (𝓖 .A) (𝓜 .mem) (𝓡 .run)) 𝓜 𝓡 code.env #find-hit fh-def.routine code.calls-segments·meeting·find-hit (fh-thm.met 𝓤 H 𝓜 𝓖 𝓡);
-      flatten = cited 𝓤 H (Flatten 𝓤 H (𝓖 .A) (𝓜 .mem) (𝓡 .run)) 𝓜 𝓡 code.env #flatten ft-def.routine code.calls-segments·flattening·flatten (ft-thm.met 𝓤 H 𝓜 𝓖 𝓡);
+      build = cited 𝓤 H (Build 𝓤 H (𝓖 .A) (𝓜 .mem) (𝓡 .run)) 𝓜 𝓡 code.env #build bd-def.routine code.calls-segments·build (bd-thm.met 𝓤 H 𝓜 𝓖 𝓡);
+      find-hit = cited 𝓤 H (FindHit 𝓤 H (𝓖 .A) (𝓜 .mem) (𝓡 .run)) 𝓜 𝓡 code.env #find-hit fh-def.routine code.calls-segments·find-hit (fh-thm.met 𝓤 H 𝓜 𝓖 𝓡);
+      flatten = cited 𝓤 H (Flatten 𝓤 H (𝓖 .A) (𝓜 .mem) (𝓡 .run)) 𝓜 𝓡 code.env #flatten ft-def.routine code.calls-segments·flatten (ft-thm.met 𝓤 H 𝓜 𝓖 𝓡);
     }))

@@ -17,10 +17,10 @@ use Rattle.segmap.proofs.Built.{flat-length, map-count, told-number, told-count
 use Rattle.event.specs.declared.meeting.Hit.{Hit}
 use Rattle.event.specs.declared.meeting.Hit.the-variants.{Miss}
 use Rattle.event.specs.Hit.{findFrom, findHit, hitOf}
-use Rattle.segments.specs.declared.through.Through.{Through}
+use Rattle.through.specs.declared.own.Through.{Through}
 use Rattle.segments.specs.Records.{recorded, mapInto}
-use Rattle.segments.specs.Through.{throughOf}
+use Rattle.through.specs.Through.{throughOf}
 use Rattle.segments.proofs.BuildLaws.{map-lent, count-few}
 
 -- the map m was built in the 1,024 records l, as z; r is what the call told
 module _ (s list : List ℕ) (d : ℕ) (l z : List Segment) (n : length l ≡ 1024) (r : Made) (e : r ≡ madeOf (mapInto s list d l)) (w : z ≡ recorded (mapInto s list d l .segments) l) where

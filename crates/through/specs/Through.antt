@@ -2,7 +2,7 @@
 use Prim.Native.Nat.{ℕ}
 use Rattle.segmap.specs.Map.{Map, madeOf}
 use Rattle.event.specs.Hit.{findHit, hitOf}
-use Rattle.segments.specs.declared.through.Through.{Through}
+use Rattle.through.specs.declared.own.Through.{Through}
 
 -- a and b are the ticks of the caption's start and end; a refused map has no segments, and so no hit
 unfoldable pub throughOf : Map → (a b : ℕ) → Through
