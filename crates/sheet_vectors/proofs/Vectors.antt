@@ -70,3 +70,15 @@ refused-head = refl
 pub refused-record : map sheetFault (sheetWith 30000 10 (syncFrame 10) ∷ sheetWith 30000 9 smallRecords ∷ []) ≡ 14 ∷ 14 ∷ []
 unfolding smallSheet sheetFault checkFault blockHolds headFault blockFault recordFault recordWord decodeOf recordBlocks spareFault timescaleOf framesOf sumWords wordAt firstOf faultUnless _orElse_
 refused-record = refl
+
+-- the largest T and n are no fault of the head, the next ones are 13: T 1,000,000 is sound, n 1,048,576 asks for a longer sheet
+pub head-limits :
+    map sheetFault
+    (sheetWith 1000000 10 smallRecords
+    ∷ sheetWith 1000001 10 smallRecords
+    ∷ sheetWith 30000 1048576 smallRecords
+    ∷ sheetWith 30000 1048577 smallRecords
+    ∷ [])
+    ≡ 0 ∷ 13 ∷ 11 ∷ 13 ∷ []
+unfolding smallSheet sheetFault checkFault blockHolds headFault blockFault recordFault recordWord decodeOf recordBlocks spareFault timescaleOf framesOf sumWords wordAt firstOf faultUnless _orElse_
+head-limits = refl
