@@ -11,7 +11,7 @@ use Rattle.plan.proofs.crossing.overlap.Statement.{statement}
 use Rattle.plan.proofs.crossing.overlap.Tie as tie
 
 abbrev Inv-loop : tie.InvT-loop
-Inv-loop ranges count prev₀ i₀ prev i = (i ≤ count) × (2 * i ≤ length ranges) × (overlapsFault prev (leftOf ranges count i) ≡ overlapsFault 0 (take (2 * count) ranges))
+Inv-loop ranges count prev₀ i₀ prev i = (i ≤ count) × (2 * i ≤ length ranges) × (overlapsFault (prev .0) (leftOf ranges count i) ≡ overlapsFault 0 (take (2 * count) ranges))
 
 abbrev μ-loop : tie.MeasureT-loop
 μ-loop ranges count prev₀ i₀ prev i = count - i

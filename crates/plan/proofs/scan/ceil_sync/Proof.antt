@@ -7,10 +7,10 @@ use Rattle.plan.proofs.scan.ceil_sync.Statement.{statement}
 use Rattle.plan.proofs.scan.ceil_sync.Tie as tie
 
 abbrev Inv-loop : tie.InvT-loop
-Inv-loop s n i₀ i = ceilSync s n i ≡ ceilSync s n i₀
+Inv-loop s n i₀ i = ceilSync s n (i .0) ≡ ceilSync s n (i₀ .0)
 
 abbrev μ-loop : tie.MeasureT-loop
-μ-loop s n i₀ i = n - i
+μ-loop s n i₀ i = n - i .0
 
 loop-holds : tie.Need-loop-holds Inv-loop μ-loop
 loop-holds c = search needs
