@@ -1,19 +1,15 @@
 -- What the definitions say of the small sheet and of damaged ones, by computation.
-use Prim.Native.Nat.{ℕ, suc}
+use Prim.Native.Nat.{ℕ}
 use mathlib.Core.Bool.{true, false}
 use mathlib.Core.List.{List, [], _∷_, _++_, map}
 use mathlib.Core.Path.{_≡_, refl, sym, ap, _∙_}
-use native.Mathlib.Omega.{arith}
-use borrow.Author.Tests.{ne-eqb}
 use lib.ListN.{set, take}
-use Rattle.base.proofs.Laws.{no! }
 use Rattle.base.specs.Refusal.{_orElse_, faultUnless, firstOf}
 use Rattle.blocks.specs.Block.{wordAt, sumWords, blockHolds}
 use Rattle.frames.specs.Frames.{timescaleOf, framesOf, rateNumOf, rateDenOf, recordWord, decodeOf, syncOf, durationOf}
 use Rattle.sheet.specs.Sheet.{spareFault, headFault}
-use Rattle.sheet.specs.Sheet.{recordFault, checkFault, blockFault, recordBlocks, sheetFault, headOf, sheetAnswer, sheetOf, numberOf, valuesOf}
+use Rattle.sheet.specs.Sheet.{recordFault, checkFault, blockFault, recordBlocks, sheetFault, headOf, sheetAnswer, sheetOf, numberOf}
 use Rattle.sheet.proofs.SheetLaws.{number-is}
-use Rattle.sheet.proofs.AnswerLaws.{sheet-values}
 use Rattle.sheet.specs.declared.answer.Sheet.the-variants.{Sound}
 use Rattle.sheet_vectors.specs.Small.{checkedBlock, syncFrame, smallRecords, sheetWith, smallSheet}
 
@@ -74,22 +70,3 @@ refused-head = refl
 pub refused-record : map sheetFault (sheetWith 30000 10 (syncFrame 10) ∷ sheetWith 30000 9 smallRecords ∷ []) ≡ 14 ∷ 14 ∷ []
 unfolding smallSheet sheetFault checkFault blockHolds headFault blockFault recordFault recordWord decodeOf recordBlocks spareFault timescaleOf framesOf sumWords wordAt firstOf faultUnless _orElse_
 refused-record = refl
-
--- the largest T and n are no fault of the head, the next ones are 13: T 1,000,000 is sound, n 1,048,576 asks for a longer sheet
-pub head-limits :
-    map sheetFault
-    (sheetWith 1000000 10 smallRecords
-    ∷ sheetWith 1000001 10 smallRecords
-    ∷ sheetWith 30000 1048576 smallRecords
-    ∷ sheetWith 30000 1048577 smallRecords
-    ∷ [])
-    ≡ 0 ∷ 13 ∷ 11 ∷ 13 ∷ []
-unfolding smallSheet sheetFault checkFault blockHolds headFault blockFault recordFault recordWord decodeOf recordBlocks spareFault timescaleOf framesOf sumWords wordAt firstOf faultUnless _orElse_
-head-limits = refl
-
--- the values of an answer: the head's of the small sheet, none of a damaged one
-pub small-values : valuesOf (sheetOf smallSheet) ≡ 30000 ∷ 10 ∷ 30000 ∷ 1001 ∷ []
-small-values = ap valuesOf small-sound
-
-pub damaged-values : (s : List ℕ) (k : ℕ) → sheetFault s ≡ suc k → valuesOf (sheetOf s) ≡ []
-damaged-values s k e = sheet-values s ∙ sym (no! _ (ne-eqb (sheetFault s) 0 (λ z. omega arith)) refl)
