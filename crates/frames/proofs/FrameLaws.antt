@@ -1,7 +1,7 @@
 -- Laws of what a record of a sheet says.
 use Prim.Native.Nat.{ℕ, _+_}
 use mathlib.Core.List.{List}
-use mathlib.Core.Path.{_≡_, refl, _∙_}
+use mathlib.Core.Path.{_≡_, _∙_}
 use lib.Dec.{leb}
 use Rattle.blocks.specs.Block.{wordAt}
 use Rattle.frames.specs.Frames.{recordWord, decodeIn, decodeOf, syncOf, durationOf}

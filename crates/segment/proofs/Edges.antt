@@ -1,13 +1,11 @@
 -- The limits of a map from both sides, by document 01's numbers: 1,024 segments of six numbers, frame numbers of 32 bits, ends at 2^52.
-use mathlib.Core.Path.{_≡_, refl, sym, ap, subst, _∙_}
-use mathlib.Core.Bool.{Bool, true, false, cond}
-use mathlib.Core.List.{List, [], _∷_}
-use Prim.Native.Nat.{ℕ, _+_, _%_, _≤_, _<_}
+use mathlib.Core.Path.{_≡_, refl, sym}
+use mathlib.Core.Bool.{true, false, cond}
+use mathlib.Core.List.{List}
+use Prim.Native.Nat.{ℕ, _+_, _%_}
 use native.Mathlib.Omega.{arith}
 use borrow.Author.Tests.{lt-ltb, le-ltb, eq-eqb}
-use lib.Dec.{ltb, eqb}
 use lib.ListN.{length}
-use Rattle.base.specs.Limits.{mostFrame, mostTicks, mostSegments}
 use Rattle.base.proofs.Laws.{yes!, no! }
 use Rattle.segment.specs.Segment.{segmentsOf, endBad, segmentBad, anyBad, mapBad}
 

@@ -8,7 +8,6 @@ use borrow.Author.Tests.{lt-ltb}
 use lib.Dec.{ltb, leb}
 use lib.ListN.{length}
 use Rattle.base.specs.Refusal.{faultUnless}
-use Rattle.text.specs.declared.decimal.Number.{Number}
 use Rattle.text.specs.declared.decimal.Number.the-variants.{Value, Bad}
 use Rattle.text.specs.Number.{digits, valueFrom, natural, unsigned, number, numberFault, numberValues}
 
@@ -38,9 +37,9 @@ number-values most s = ap numberValues (number-told most s) ∙ go (isNatural mo
     go true = refl
     go false = refl
 
-pub number-fault : (k most : ℕ) (s : List ℕ) → numberFault k (number most s) ≡ faultUnless (isNatural most (unsigned s)) k
+pub number-refused : (k most : ℕ) (s : List ℕ) → numberFault k (number most s) ≡ faultUnless (isNatural most (unsigned s)) k
 unfolding faultUnless
-number-fault k most s = ap (numberFault k) (number-told most s) ∙ go (isNatural most (unsigned s))
+number-refused k most s = ap (numberFault k) (number-told most s) ∙ go (isNatural most (unsigned s))
   where
     go : (t : Bool) → numberFault k (cond t (Value (valueFrom 0 (unsigned s))) Bad) ≡ faultUnless t k
     go true = refl

@@ -1,13 +1,12 @@
 -- The limits of a list from both sides, by document 01's numbers: 65,536 bytes and 1,024 trims (7), 2,048 places (16).
-use mathlib.Core.Path.{_≡_, refl, sym, ap, subst, _∙_}
-use mathlib.Core.Bool.{Bool, true, false, not}
+use mathlib.Core.Path.{_≡_, refl, ap, _∙_}
+use mathlib.Core.Bool.{not}
 use mathlib.Core.List.{List, [], _∷_}
 use Prim.Native.Nat.{ℕ, zero, suc, _≤_, _<_}
 use native.Mathlib.Omega.{arith}
 use borrow.Author.Tests.{le-leb, lt-leb}
 use lib.Dec.{leb}
 use lib.ListN.{length, take}
-use Rattle.base.specs.Limits.{mostListBytes, mostTrims, mostPlaces}
 use Rattle.base.specs.Refusal.{_orElse_, faultUnless}
 use Rattle.base.proofs.RefusalLaws.{else-none, unless-held}
 use Rattle.base.proofs.RefusalNumbers.{else-numbers, unless-numbers}
@@ -15,7 +14,6 @@ use Rattle.utf8.specs.Utf8.{utf8}
 use Rattle.text.specs.Line.{blank}
 use Rattle.trim.specs.Token.{stepOf, tokenNumber, tokenEnd}
 use Rattle.trim.specs.TrimList.{tokensOf, tokensNumber, headNumber, listNumber, parseNumber}
-use Rattle.trim.proofs.TokensLaws.{number-many}
 
 -- ---- bytes
 Not7 : ℕ → Type 0
