@@ -139,7 +139,13 @@ def table():
                     cells[k].append(file)
         if any(cells):
             lines.append(f'| {crate} | ' + ' | '.join(', '.join(c) for c in cells) + ' |')
+    lines.append('| all: lines of definitions | ' + ' | '.join(f'{count(d, keys):,}' for keys in found) + ' |')
     return '\n'.join(lines)
+
+
+def count(d, keys):
+    """Lines of definitions, without imports, comments and blank lines."""
+    return sum(1 for k in keys for l in d.text[k].split('\n') if l.strip())
 
 
 def main():
@@ -156,7 +162,7 @@ def main():
         return
     d, found = sorts()
     for title, keys in zip(TITLES, found):
-        print(f'{title}: {len(keys)} definitions, {sum(1 for k in keys for l in d.text[k].split(chr(10)) if l.strip())} lines')
+        print(f'{title}: {len(keys)} definitions, {count(d, keys)} lines')
 
 
 if __name__ == '__main__':

@@ -28,9 +28,13 @@ rateDenOf s = wordAt s 4
 unfoldable pub recordWord : ℕ → ℕ
 recordWord i = 128 * (1 + i / 63) + 1 + 2 * (i % 63)
 
--- bits 0 to 30: the decode index of display frame i
+-- bits 0 to 30 of a record's first word: a decode index
+abbrev pub decodeIn : ℕ → ℕ
+decodeIn w = w % 2 ^ 31
+
+-- the decode index of display frame i
 unfoldable pub decodeOf : List ℕ → ℕ → ℕ
-decodeOf s i = wordAt s (recordWord i) % 2 ^ 31
+decodeOf s i = decodeIn (wordAt s (recordWord i))
 
 -- bit 31: display frame i is a sync frame
 unfoldable pub syncOf : List ℕ → ℕ → Bool

@@ -3,7 +3,7 @@ use order::DecodeIdx;
 use order::DisplayIdx;
 ghost use mathlib.Core.Path.{_≡_};
 ghost use Prim.Native.Nat.{_<_, _^_};
-ghost use Rattle.frames.specs.Frames.{timescaleOf, framesOf, rateNumOf, rateDenOf, recordWord, decodeOf, syncOf, durationOf};
+ghost use Rattle.frames.specs.Frames.{timescaleOf, framesOf, rateNumOf, rateDenOf, recordWord, decodeIn, decodeOf, syncOf, durationOf};
 
 // T, ticks a second.
 pub fn timescale(s: &[u8]) -> u32
@@ -41,12 +41,19 @@ fn record_word(i: u32) -> usize
     128 * (1 + k / 63) + 1 + 2 * (k % 63)
 }
 
+// The decode index in a record's first word.
+pub fn decode_in(first: u32) -> DecodeIdx
+    ensures { λ r. ⌜ r .0 ≡ decodeIn first ⌝ }
+{
+    DecodeIdx(first % 2147483648)
+}
+
 // The decode index of a display frame.
 pub fn decode_at(s: &[u8], i: DisplayIdx) -> DecodeIdx
     ensures { λ r. ⌜ r .0 ≡ decodeOf (now (s .entry)) (i .0) ⌝ }
 {
     let w = record_word(i.0);
-    DecodeIdx(blocks::word(s, w) % 2147483648)
+    decode_in(blocks::word(s, w))
 }
 
 // Whether a display frame is a sync frame.

@@ -1,6 +1,6 @@
 -- What snapping and segments come to on small sheets, by computation. Document 01's own map is in the table of its examples.
 use mathlib.Core.Path.{_≡_, refl}
-use mathlib.Core.List.{[], _∷_}
+use mathlib.Core.List.{[], _∷_, map}
 use Rattle.base.specs.Refusal.{_orElse_, faultUnless}
 use Rattle.blocks.specs.Block.{wordAt}
 use Rattle.frames.specs.Frames.{recordWord, decodeOf, syncOf, durationOf}
@@ -8,6 +8,8 @@ use Rattle.sheet_vectors.specs.Small.{smallSheet}
 use Rattle.plan.specs.Snap.{lastBelow, firstFrom, floorSync, ceilSync, snapStart, snapEnd, snapAll, overlapsFault}
 use Rattle.segment.specs.Segment.{flatOf}
 use Rattle.segmap.specs.Build.{ticksFrom, sourceStart, rangeTicks, rangeFault, rangesFault, segmentIn, segmentsIn}
+use Rattle.sheet.specs.Sheet.{sheetFault}
+use Rattle.segmap.specs.Map.{mapNumber}
 use Rattle.map_vectors.specs.Turned.{crossed, backward}
 
 -- the small sheet has ten frames, sync 0, 3 and 6: the ranges of `Trim(0,2) ++ Trim(6,8)` outward and inward
@@ -64,3 +66,12 @@ by-decode = refl
 backward-order : flatOf (segmentsIn backward 0 (0 ∷ 1 ∷ 1 ∷ 2 ∷ [])) ≡ 0 ∷ 1 ∷ 30 ∷ 1 ∷ 0 ∷ 30 ∷ 1 ∷ 2 ∷ 10 ∷ 1 ∷ 30 ∷ 20 ∷ []
 unfolding flatOf segmentsIn segmentIn sourceStart rangeTicks ticksFrom backward decodeOf durationOf recordWord wordAt
 backward-order = refl
+
+-- 16: one place fewer than 1,024 segments take, or a direction above 1, before the 11 of an empty sheet
+map-places : map (mapNumber [] [] 0) (6143 ∷ 6144 ∷ []) ≡ 16 ∷ 11 ∷ []
+unfolding mapNumber sheetFault faultUnless _orElse_
+map-places = refl
+
+map-directions : map (λ d. mapNumber [] [] d 6144) (0 ∷ 1 ∷ 2 ∷ []) ≡ 11 ∷ 11 ∷ 16 ∷ []
+unfolding mapNumber sheetFault faultUnless _orElse_
+map-directions = refl

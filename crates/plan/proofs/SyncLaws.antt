@@ -1,6 +1,6 @@
 -- Laws of the two searches for a sync frame, one step each.
 use Prim.Native.Nat.{ℕ, zero, suc, _+_, _-_, _<_, _≤_, min}
-use mathlib.Core.Bool.{true, false}
+use mathlib.Core.Bool.{Bool, true, false}
 use mathlib.Core.List.{List}
 use mathlib.Core.Path.{_≡_, refl, sym, ap, ap₂, _∙_}
 use native.Mathlib.Omega.{arith}
@@ -44,14 +44,14 @@ unfolding lastBelow
 below-zero s zero l = refl
 below-zero s (suc k) l = absurd (omega arith)
 
-pub ceil-here : (s : List ℕ) (n i : ℕ) → i < n → syncOf s i ≡ true → i ≡ ceilSync s n i
+ceil-here : (s : List ℕ) (n i : ℕ) → i < n → syncOf s i ≡ true → i ≡ ceilSync s n i
 unfolding ceilSync
 ceil-here s n i l e =
     let p : i ≡ min i n = omega arith in
     let q : suc (n - (i + 1)) ≡ n - i = omega arith in
     sym (first-suc-here s i (n - (i + 1)) e) ∙ ap₂ (firstFrom s) p q
 
-pub ceil-next : (s : List ℕ) (n i : ℕ) → i < n → syncOf s i ≡ false → ceilSync s n (i + 1) ≡ ceilSync s n i
+ceil-next : (s : List ℕ) (n i : ℕ) → i < n → syncOf s i ≡ false → ceilSync s n (i + 1) ≡ ceilSync s n i
 unfolding ceilSync
 ceil-next s n i l e =
     let m : min (i + 1) n ≡ suc i = omega arith in
@@ -59,9 +59,19 @@ ceil-next s n i l e =
     let q : suc (n - (i + 1)) ≡ n - i = omega arith in
     ap (λ (x : ℕ). firstFrom s x (n - (i + 1))) m ∙ sym (first-suc-next s i (n - (i + 1)) e) ∙ ap₂ (firstFrom s) p q
 
-pub ceil-done : (s : List ℕ) (n i : ℕ) → n ≤ i → n ≡ ceilSync s n i
+ceil-done : (s : List ℕ) (n i : ℕ) → n ≤ i → n ≡ ceilSync s n i
 unfolding ceilSync
 ceil-done s n i l =
     let p : n ≡ min i n = omega arith in
     let q : 0 ≡ n - i = omega arith in
     sym (first-zero s n) ∙ ap₂ (firstFrom s) p q
+
+-- the search up from i, which is the answer of the one from j: t is what was asked of frame i
+pub ceil-found : (s : List ℕ) (n i j : ℕ) (t : Bool) → ceilSync s n i ≡ ceilSync s n j → i < n → t ≡ syncOf s i → t ≡ true → i ≡ ceilSync s n j
+ceil-found s n i j t inv l e h = ceil-here s n i l (sym e ∙ h) ∙ inv
+
+pub ceil-again : (s : List ℕ) (n i j : ℕ) (t : Bool) → ceilSync s n i ≡ ceilSync s n j → i < n → t ≡ syncOf s i → t ≡ false → ceilSync s n (i + 1) ≡ ceilSync s n j
+ceil-again s n i j t inv l e h = ceil-next s n i l (sym e ∙ h) ∙ inv
+
+pub ceil-last : (s : List ℕ) (n i j : ℕ) → ceilSync s n i ≡ ceilSync s n j → n ≤ i → n ≡ ceilSync s n j
+ceil-last s n i j inv l = ceil-done s n i l ∙ inv

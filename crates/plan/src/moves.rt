@@ -9,7 +9,7 @@ ghost use Rattle.base.specs.Put.{put};
 ghost use Rattle.plan.specs.Snap.{snapStart, snapEnd, snapAll};
 
 // A range's start, moved: outward (0) down, inward up.
-pub fn snap_start(s: &[u8], n: u32, direction: u32, a: DisplayIdx) -> DisplayIdx
+fn snap_start(s: &[u8], n: u32, direction: u32, a: DisplayIdx) -> DisplayIdx
     ensures { λ r. ⌜ r .0 ≡ snapStart (now (s .entry)) n direction (a .0) ⌝ }
 {
     if direction == 0 {
@@ -19,7 +19,7 @@ pub fn snap_start(s: &[u8], n: u32, direction: u32, a: DisplayIdx) -> DisplayIdx
 }
 
 // A range's end, moved the other way.
-pub fn snap_end(s: &[u8], n: u32, direction: u32, e: DisplayIdx) -> DisplayIdx
+fn snap_end(s: &[u8], n: u32, direction: u32, e: DisplayIdx) -> DisplayIdx
     ensures { λ r. ⌜ r .0 ≡ snapEnd (now (s .entry)) n direction (e .0) ⌝ }
 {
     if direction == 0 {

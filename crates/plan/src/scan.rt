@@ -26,13 +26,13 @@ pub fn floor_sync(s: &[u8], n: u32, x: DisplayIdx) -> DisplayIdx
 pub fn ceil_sync(s: &[u8], n: u32, x: DisplayIdx) -> DisplayIdx
     ensures { λ r. ⌜ r .0 ≡ ceilSync (now (s .entry)) n (x .0) ⌝ }
 {
-    let mut i = x.0;
-    while i < n {
-        let found = frames::sync_at(s, DisplayIdx(i));
+    let mut i = x;
+    while i.0 < n {
+        let found = frames::sync_at(s, i);
         if found {
-            return DisplayIdx(i);
+            return i;
         }
-        i += 1;
+        i = DisplayIdx(i.0 + 1);
     }
     DisplayIdx(n)
 }

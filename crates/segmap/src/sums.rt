@@ -26,13 +26,11 @@ fn add_up(s: &[u8], from: Reached, to: DecodeIdx) -> Reached
     requires { ⌜ (from .ticks ≡ ticksFrom (now s) 0 (from .decode .0)) × (from .decode .0 ≤ to .0) × (to .0 ≤ mostFrames) ⌝ }
     ensures { λ r. ⌜ (r .decode .0 ≡ to .0) × (r .ticks ≡ ticksFrom (now (s .entry)) 0 (to .0)) ⌝ }
 {
-    let end = to.0;
-    let start = from.decode;
-    let mut at = start.0;
+    let mut at = from.decode;
     let mut ticks = from.ticks;
-    while at < end {
-        ticks += frames::duration_at(s, DecodeIdx(at));
-        at += 1;
+    while at.0 < to.0 {
+        ticks += frames::duration_at(s, at);
+        at = DecodeIdx(at.0 + 1);
     }
     Reached { decode: to, ticks }
 }

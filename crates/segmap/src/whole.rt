@@ -99,7 +99,7 @@ pub fn make(sheet: &[u8], list: &[u8], direction: u32, map: &mut [u64]) -> Made
     match a {
         Sheet::Refused(k) => refused(k),
         Sheet::Sound(h) => {
-            let mut ranges = [0; 2048];
+            let mut ranges = [0; base::MOST_PLACES];
             map_ranges(
                 sheet,
                 h.timescale,

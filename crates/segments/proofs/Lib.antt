@@ -3,6 +3,4 @@ pub mod BuildLaws
 pub mod Again
 pub mod Walk
 pub mod LocalArray
-pub mod StructArray
 pub mod SameMap
-pub mod ThroughLaws

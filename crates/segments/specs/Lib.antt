@@ -1,3 +1,2 @@
 -- Maps as lists of records.
 pub mod Records
-pub mod Through

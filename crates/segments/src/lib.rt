@@ -2,10 +2,7 @@
 mod building;
 mod flattening;
 mod meeting;
-mod through;
 
 pub use building::build;
 pub use flattening::flatten;
 pub use meeting::find_hit;
-pub use through::Through;
-pub use through::through_records;

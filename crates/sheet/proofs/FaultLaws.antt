@@ -76,14 +76,14 @@ module _ (s : List ℕ) (n i w f : ℕ) (ew : w ≡ recordWord i) (ef : f ≡ wo
   first-word : f ≡ wordAt s (recordWord i)
   first-word = ef ∙ ap (wordAt s) ew
 
-  pub record-high : i < n → n ≤ f % 2147483648 → 14 ≡ recordFault s n i
+  pub record-high : (d : ℕ) → d ≡ f % 2147483648 → i < n → n ≤ d → 14 ≡ recordFault s n i
   unfolding recordFault decodeOf
-  record-high l h =
+  record-high d ed l h =
       yes! _ (lt-ltb i n l) (sym (unless-failed 14 (le-ltb _ n (omega (arith, first-word)))))
 
-  pub record-good : i < n → f % 2147483648 < n → 0 ≡ recordFault s n i
+  pub record-good : (d : ℕ) → d ≡ f % 2147483648 → i < n → d < n → 0 ≡ recordFault s n i
   unfolding recordFault decodeOf
-  record-good l h =
+  record-good d ed l h =
       yes! _ (lt-ltb i n l) (sym (unless-held 14 (lt-ltb _ n (omega (arith, first-word)))))
 
   pub record-first : n ≤ i → (f ≡ 0 → ⊥) → 14 ≡ recordFault s n i

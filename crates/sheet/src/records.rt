@@ -12,8 +12,8 @@ fn record_fault(s: &[u8], n: usize, i: usize, w: usize) -> u32
 {
     let first = blocks::word(s, w);
     if i < n {
-        let decode = (first % 2147483648) as usize;
-        if n <= decode {
+        let decode = frames::decode_in(first);
+        if n <= decode.0 as usize {
             return 14;
         }
         return 0;

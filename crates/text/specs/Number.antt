@@ -33,3 +33,12 @@ unsigned (b ∷ r) = cond (eqb b 0x2B) r (b ∷ r)
 
 unfoldable pub number : ℕ → List ℕ → Number
 number most s = natural most (unsigned s)
+
+-- ---- an answer's number in document 01, k for one that is bad (3 in a trim list, 22 in a time), and its values
+abbrev pub numberFault : (k : ℕ) → Number → ℕ
+numberFault k (Value v) = 0
+numberFault k Bad = k
+
+abbrev pub numberValues : Number → List ℕ
+numberValues (Value v) = v ∷ []
+numberValues Bad = []

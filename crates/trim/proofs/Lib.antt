@@ -3,4 +3,6 @@ pub mod TokenLaws
 pub mod TokensLaws
 pub mod RangeLaws
 pub mod ReadLaws
+pub mod Bounds
+pub mod Edges
 pub mod Vectors

@@ -17,6 +17,7 @@ use Rattle.base.proofs.PutLaws.{take-put, put-take, sets-put}
 use Rattle.utf8.specs.Utf8.{utf8}
 use Rattle.text.specs.Line.{blank}
 use Rattle.pattern.specs.Find.{first}
+use Rattle.order.specs.declared.index.DisplayIdx.{DisplayIdx}
 use Rattle.trim.specs.declared.token.Token.{Token}
 use Rattle.trim.specs.declared.token.Token.the-variants.{Range, Fault}
 use Rattle.trim.specs.declared.list.Parsed.{Parsed}
@@ -76,7 +77,13 @@ module _ (s t p : List ℕ) (prev count k : ℕ) (token : Token) (inv : tokensNu
   fault-unread n r x y q g z = absurd (fault-some prev n p (sym q ∙ f) (sym (ap (λ (u : Parsed). u .number) g) ∙ z))
 
   -- a range
-  module _ (a b : ℕ) (q : token ≡ Range a b) where
+  module _ (x y : DisplayIdx) (q : token ≡ Range x y) where
+    abbrev a : ℕ
+    a = x .0
+
+    abbrev b : ℕ
+    b = y .0
+
     number-next : (ts : List (List ℕ)) → tokensOf t ≡ p ∷ ts → tokensNumber mostTrims 0 (tokensOf s) ≡ tokensNumber (mostTrims - (count + 1)) b ts
     number-next ts g = number-here ts g ∙ number-range (mostTrims - (count + 1)) prev a b p ts (sym q ∙ f)
 

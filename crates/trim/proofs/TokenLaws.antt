@@ -18,9 +18,10 @@ use Rattle.text.specs.declared.decimal.Number.{Number}
 use Rattle.text.specs.declared.decimal.Number.the-variants.{Value, Bad}
 use Rattle.pattern.proofs.PieceLaws.{pieces-head, pieces-one}
 use Rattle.text.proofs.LineLaws.{number-most}
+use Rattle.order.specs.declared.index.DisplayIdx.{DisplayIdx}
 use Rattle.trim.specs.declared.token.Token.{Token}
 use Rattle.trim.specs.declared.token.Token.the-variants.{Range, Fault}
-use Rattle.trim.specs.Token.{opening, rangeOf, boundsOf, pairOf, closedOf, tokenOf, behindEnd, stepOf}
+use Rattle.trim.specs.Token.{range, opening, rangeOf, boundsOf, pairOf, closedOf, tokenOf, behindEnd, stepOf}
 
 -- ---- the two numbers
 pub bounds-none : (x y : Number) → x ≡ Bad → Fault 3 ≡ boundsOf x y
@@ -91,18 +92,18 @@ pub step-fault : (prev : ℕ) (t u : List ℕ) (k : Token) (n : ℕ) → u ≡ t
 unfolding stepOf behindEnd
 step-fault prev t u k n e f h = ap (behindEnd prev) (sym h ∙ f ∙ ap tokenOf e)
 
-pub step-crossing : (prev : ℕ) (t u : List ℕ) (k : Token) (a e : ℕ) → u ≡ trim t → k ≡ tokenOf u → k ≡ Range a e → a < prev → Fault 6 ≡ stepOf prev t
+pub step-crossing : (prev : ℕ) (t u : List ℕ) (k : Token) (a e : DisplayIdx) → u ≡ trim t → k ≡ tokenOf u → k ≡ Range a e → a .0 < prev → Fault 6 ≡ stepOf prev t
 unfolding stepOf behindEnd
 step-crossing prev t u k a e d f h l = yes! _ (lt-ltb _ _ l) refl ∙ ap (behindEnd prev) (sym h ∙ f ∙ ap tokenOf d)
 
-pub step-range : (prev : ℕ) (t u : List ℕ) (k : Token) (a e : ℕ) → u ≡ trim t → k ≡ tokenOf u → k ≡ Range a e → prev ≤ a → Range a e ≡ stepOf prev t
+pub step-range : (prev : ℕ) (t u : List ℕ) (k : Token) (a e : DisplayIdx) → u ≡ trim t → k ≡ tokenOf u → k ≡ Range a e → prev ≤ a .0 → Range a e ≡ stepOf prev t
 unfolding stepOf behindEnd
 step-range prev t u k a e d f h l = no! _ (le-ltb _ _ l) refl ∙ ap (behindEnd prev) (sym h ∙ f ∙ ap tokenOf d)
 
 -- ---- what a token keeps to: a number from 2 to 6; a range whose start is below its end, and whose end is a frame number
 abbrev pub TokenKept : Token → Type 0
 TokenKept (Fault n) = (2 ≤ n) × (n ≤ 6)
-TokenKept (Range a e) = (a < e) × (e ≤ mostFrame)
+TokenKept (Range a e) = (a .0 < e .0) × (e .0 ≤ mostFrame)
 
 -- the two ways of a test
 kept-cond : (t : Bool) (x y : Token) → TokenKept x → TokenKept y → TokenKept (cond t x y)
@@ -113,7 +114,7 @@ range-kept : (a b : ℕ) → b ≤ mostFrame → TokenKept (rangeOf a b)
 unfolding rangeOf
 range-kept a b h = go (ltb b a) (eqb b mostFrame) refl refl
   where
-    go : (x y : Bool) → ltb b a ≡ x → eqb b mostFrame ≡ y → TokenKept (cond x (Fault 4) (cond y (Fault 5) (Range a (b + 1))))
+    go : (x y : Bool) → ltb b a ≡ x → eqb b mostFrame ≡ y → TokenKept (cond x (Fault 4) (cond y (Fault 5) (range a (b + 1))))
     go true y e f = (omega arith, omega arith)
     go false true e f = (omega arith, omega arith)
     go false false e f =
@@ -144,7 +145,7 @@ token-kept t = kept-cond (starts opening t) (closedOf (drop 5 t)) (Fault 2) (clo
 after-kept : (prev : ℕ) (x : Token) → TokenKept x → TokenKept (behindEnd prev x)
 unfolding behindEnd
 after-kept prev (Fault n) h = h
-after-kept prev (Range a e) h = kept-cond (ltb a prev) (Fault 6) (Range a e) (omega arith, omega arith) h
+after-kept prev (Range a e) h = kept-cond (ltb (a .0) prev) (Fault 6) (Range a e) (omega arith, omega arith) h
 
 pub step-kept : (prev : ℕ) (t : List ℕ) → TokenKept (stepOf prev t)
 unfolding stepOf
@@ -152,24 +153,24 @@ step-kept prev t = after-kept prev (tokenOf (trim t)) (token-kept (trim t))
 
 -- a range that is taken after prev begins there or above, and is the token's own
 module _ (prev : ℕ) where
-  fault-range : {A : Type 0} (n a e : ℕ) → Fault n ≡ Range a e → A
+  fault-range : {A : Type 0} (n a e : ℕ) → Fault n ≡ range a e → A
   fault-range n a e q = absurd (let z : _≡_ {A = ℕ} 0 1 = ap (λ (x : Token). elim x [ Range u v ↦ 1 | Fault m ↦ 0 ]) q in omega arith)
 
-  after-range : (x : Token) (a e : ℕ) → behindEnd prev x ≡ Range a e → (prev ≤ a) × (x ≡ Range a e)
+  after-range : (x : Token) (a e : ℕ) → behindEnd prev x ≡ range a e → (prev ≤ a) × (x ≡ range a e)
   unfolding behindEnd
   after-range (Fault n) a e q = fault-range n a e q
-  after-range (Range b f) a e q = go (ltb b prev) refl q
+  after-range (Range b f) a e q = go (ltb (b .0) prev) refl q
     where
-      go : (t : Bool) → ltb b prev ≡ t → cond t (Fault 6) (Range b f) ≡ Range a e → (prev ≤ a) × (Range b f ≡ Range a e)
+      go : (t : Bool) → ltb (b .0) prev ≡ t → cond t (Fault 6) (Range b f) ≡ range a e → (prev ≤ a) × (Range b f ≡ range a e)
       go true h r = fault-range 6 a e r
       go false h r =
-          let z : b ≡ a = ap (λ (x : Token). elim x [ Range u v ↦ u | Fault m ↦ 0 ]) r in
-          (omega (arith, ltb-false b prev h), r)
+          let z : b .0 ≡ a = ap (λ (x : Token). elim x [ Range u v ↦ u .0 | Fault m ↦ 0 ]) r in
+          (omega (arith, ltb-false (b .0) prev h), r)
 
-  pub step-above : (t : List ℕ) (a e : ℕ) → stepOf prev t ≡ Range a e → prev ≤ a
+  pub step-above : (t : List ℕ) (a e : ℕ) → stepOf prev t ≡ range a e → prev ≤ a
   unfolding stepOf
   step-above t a e q = after-range (tokenOf (trim t)) a e q .0
 
-  pub step-own : (t : List ℕ) (a e : ℕ) → stepOf prev t ≡ Range a e → tokenOf (trim t) ≡ Range a e
+  pub step-own : (t : List ℕ) (a e : ℕ) → stepOf prev t ≡ range a e → tokenOf (trim t) ≡ range a e
   unfolding stepOf
   step-own t a e q = after-range (tokenOf (trim t)) a e q .1

@@ -17,7 +17,7 @@ use Rattle.pattern.specs.Piece.{pieces}
 use Rattle.pattern.proofs.PieceLaws.{pieces-head, pieces-one}
 use Rattle.trim.specs.declared.token.Token.{Token}
 use Rattle.trim.specs.declared.token.Token.the-variants.{Range, Fault}
-use Rattle.trim.specs.Token.{mark, tokenOf, stepOf, tokenNumber, tokenRange, tokenEnd}
+use Rattle.trim.specs.Token.{mark, range, tokenOf, stepOf, tokenNumber, tokenRange, tokenEnd}
 use Rattle.trim.specs.TrimList.{tokensOf, tokensNumber, rangesIn}
 use Rattle.trim.proofs.TokenLaws.{TokenKept, step-kept, step-above, step-own}
 
@@ -50,9 +50,9 @@ pub number-fault : (left prev n : ℕ) (t : List ℕ) (ts : List (List ℕ)) →
 unfolding tokenNumber
 number-fault left prev n t ts e = number-by left prev t ts (Fault n) e ∙ else-found _ _ (fault-some prev n t e)
 
-pub number-range : (left prev a b : ℕ) (t : List ℕ) (ts : List (List ℕ)) → Range a b ≡ stepOf prev t → tokensNumber (suc left) prev (t ∷ ts) ≡ tokensNumber left b ts
+pub number-range : (left prev a b : ℕ) (t : List ℕ) (ts : List (List ℕ)) → range a b ≡ stepOf prev t → tokensNumber (suc left) prev (t ∷ ts) ≡ tokensNumber left b ts
 unfolding tokenNumber tokenEnd
-number-range left prev a b t ts e = number-by left prev t ts (Range a b) e ∙ else-none _ refl
+number-range left prev a b t ts e = number-by left prev t ts (range a b) e ∙ else-none _ refl
 
 pub number-many : (prev : ℕ) (ts : List (List ℕ)) → 0 < length ts → tokensNumber 0 prev ts ≡ 7
 unfolding tokensNumber
@@ -64,7 +64,7 @@ unfolding tokensNumber
 number-done left prev = refl
 
 -- ---- the ranges
-pub ranges-range : (prev a b : ℕ) (t : List ℕ) (ts : List (List ℕ)) → Range a b ≡ stepOf prev t → rangesIn (t ∷ ts) ≡ a ∷ b ∷ rangesIn ts
+pub ranges-range : (prev a b : ℕ) (t : List ℕ) (ts : List (List ℕ)) → range a b ≡ stepOf prev t → rangesIn (t ∷ ts) ≡ a ∷ b ∷ rangesIn ts
 unfolding rangesIn tokenRange
 ranges-range prev a b t ts e = ap (λ (x : Token). tokenRange x ++ rangesIn ts) (step-own prev t a b (sym e))
 
@@ -87,10 +87,10 @@ taken-next : (left prev : ℕ) (t : List ℕ) (ts : List (List ℕ)) (x : Token)
     → ((e : ℕ) → tokensNumber left e ts ≡ 0 → Taken left e ts) → Taken (suc left) prev (t ∷ ts)
 taken-next left prev t ts (Fault n) q z ih = absurd (fault-some prev n t q (sym (number-fault left prev n t ts q) ∙ z))
 taken-next left prev t ts (Range a e) q z ih =
-    let h : Taken left e ts = ih e (sym (number-range left prev a e t ts q) ∙ z) in
-    let k : (a < e) × (e ≤ mostFrame) = subst TokenKept (sym q) (step-kept prev t) in
-    let g : rangesIn (t ∷ ts) ≡ a ∷ e ∷ rangesIn ts = ranges-range prev a e t ts q in
-    (omega arith, ap length g ∙ omega arith, subst (Ascending prev) (sym g) (step-above prev t a e (sym q), k .0, k .1, h .2))
+    let h : Taken left (e .0) ts = ih (e .0) (sym (number-range left prev (a .0) (e .0) t ts q) ∙ z) in
+    let k : (a .0 < e .0) × (e .0 ≤ mostFrame) = subst TokenKept (sym q) (step-kept prev t) in
+    let g : rangesIn (t ∷ ts) ≡ a .0 ∷ e .0 ∷ rangesIn ts = ranges-range prev (a .0) (e .0) t ts q in
+    (omega arith, ap length g ∙ omega arith, subst (Ascending prev) (sym g) (step-above prev t (a .0) (e .0) (sym q), k .0, k .1, h .2))
 
 pub zero-taken : (left prev : ℕ) (ts : List (List ℕ)) → tokensNumber left prev ts ≡ 0 → Taken left prev ts
 unfolding rangesIn
@@ -108,4 +108,4 @@ number-table (suc left) prev (t ∷ ts) = go (stepOf prev t) refl (λ e. number-
     go (Fault n) q ih =
         let k : (2 ≤ n) × (n ≤ 6) = subst TokenKept (sym q) (step-kept prev t) in
         subst (λ (m : ℕ). m ≤ 7) (sym (number-fault left prev n t ts q)) (omega arith)
-    go (Range a e) q ih = subst (λ (m : ℕ). m ≤ 7) (sym (number-range left prev a e t ts q)) (ih e)
+    go (Range a e) q ih = subst (λ (m : ℕ). m ≤ 7) (sym (number-range left prev (a .0) (e .0) t ts q)) (ih (e .0))

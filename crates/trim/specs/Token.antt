@@ -11,6 +11,7 @@ use Rattle.pattern.specs.Piece.{comma, pieces}
 use Rattle.text.specs.Number.{number}
 use Rattle.text.specs.declared.decimal.Number.{Number}
 use Rattle.text.specs.declared.decimal.Number.the-variants.{Value, Bad}
+use Rattle.order.specs.declared.index.DisplayIdx.{DisplayIdx}
 use Rattle.trim.specs.declared.token.Token.{Token}
 use Rattle.trim.specs.declared.token.Token.the-variants.{Range, Fault}
 
@@ -21,9 +22,13 @@ mark = 0x2B ∷ 0x2B ∷ []
 abbrev pub opening : List ℕ
 opening = 0x54 ∷ 0x72 ∷ 0x69 ∷ 0x6D ∷ 0x28 ∷ []
 
+-- the range of the display frames from a on, e excluded
+abbrev pub range : ℕ → ℕ → Token
+range a e = Range (record { 0 = a }) (record { 0 = e })
+
 -- the frames a to b as a range, end excluded: 4 where a is above b, 5 where b is the largest frame number
 unfoldable pub rangeOf : ℕ → ℕ → Token
-rangeOf a b = cond (ltb b a) (Fault 4) (cond (eqb b mostFrame) (Fault 5) (Range a (b + 1)))
+rangeOf a b = cond (ltb b a) (Fault 4) (cond (eqb b mostFrame) (Fault 5) (range a (b + 1)))
 
 -- the range from a and b as they were read: 3 where a is no number, then where b is none
 unfoldable pub boundsOf : Number → Number → Token
@@ -49,7 +54,7 @@ tokenOf t = cond (starts opening t) (closedOf (drop 5 t)) (Fault 2)
 -- a token after a range that ends at prev: 6 where it begins below that
 unfoldable pub behindEnd : ℕ → Token → Token
 behindEnd prev (Fault n) = Fault n
-behindEnd prev (Range a e) = cond (ltb a prev) (Fault 6) (Range a e)
+behindEnd prev (Range a e) = cond (ltb (a .0) prev) (Fault 6) (Range a e)
 
 unfoldable pub stepOf : ℕ → List ℕ → Token
 stepOf prev t = behindEnd prev (tokenOf (trim t))
@@ -60,9 +65,9 @@ tokenNumber (Range a e) = 0
 tokenNumber (Fault n) = n
 
 unfoldable pub tokenRange : Token → List ℕ
-tokenRange (Range a e) = a ∷ e ∷ []
+tokenRange (Range a e) = a .0 ∷ e .0 ∷ []
 tokenRange (Fault n) = []
 
 unfoldable pub tokenEnd : Token → ℕ
-tokenEnd (Range a e) = e
+tokenEnd (Range a e) = e .0
 tokenEnd (Fault n) = 0

@@ -1,6 +1,7 @@
 // The whole list: its tokens from the left, and the ranges that they give.
 use crate::token::Token;
 use crate::token::step_of;
+use order::DisplayIdx;
 ghost use mathlib.Core.Path.{_≡_};
 ghost use Prim.Native.Nat.{_+_, _*_, _≤_, _<_};
 ghost use lib.ListN.{length, take, set};
@@ -69,12 +70,12 @@ fn head_number(list: &[u8]) -> u32
 }
 
 // Writes a range at its place.
-fn store(ranges: &mut [u32], count: usize, a: u32, e: u32)
+fn store(ranges: &mut [u32], count: usize, a: DisplayIdx, e: DisplayIdx)
     requires { ⌜ (count < mostTrims) × (mostPlaces ≤ length (now ranges)) ⌝ }
-    ensures { λ _. ⌜ now (ranges .exit) ≡ set (set (now (ranges .entry)) (count * 2) a) (count * 2 + 1) e ⌝ }
+    ensures { λ _. ⌜ now (ranges .exit) ≡ set (set (now (ranges .entry)) (count * 2) (a .0)) (count * 2 + 1) (e .0) ⌝ }
 {
-    ranges[count * 2] = a;
-    ranges[count * 2 + 1] = e;
+    ranges[count * 2] = a.0;
+    ranges[count * 2 + 1] = e.0;
 }
 
 // Reads the tokens, and writes their ranges from the start of `ranges` on.
@@ -84,7 +85,7 @@ fn read_tokens(list: &[u8], ranges: &mut [u32]) -> Parsed
     ensures { λ r. ⌜ (r .number ≡ 0 → now (ranges .exit) ≡ put (rangesOf (now (list .entry))) (now (ranges .entry))) ⌝ }
 {
     let mut t = list;
-    let mut prev: u32 = 0;
+    let mut prev = DisplayIdx(0);
     let mut count: usize = 0;
     while count < base::MOST_TRIMS {
         let k = next_mark(t);

@@ -1,4 +1,5 @@
 // One token of a trim list: `Trim(a,b)`.
+use order::DisplayIdx;
 use text::Number;
 ghost use mathlib.Core.Path.{_≡_};
 ghost use mathlib.Core.Bool.{cond, false};
@@ -10,7 +11,7 @@ ghost use Rattle.white.specs.White.{trim};
 
 // What a token says: a range, end excluded, or the number of its refusal.
 pub enum Token {
-    Range(u32, u32),
+    Range(DisplayIdx, DisplayIdx),
     Fault(u32),
 }
 
@@ -37,7 +38,7 @@ fn range_of(a: u32, b: u32) -> Token
         return Token::Fault(5);
     }
     let e = b + 1;
-    Token::Range(a, e)
+    Token::Range(DisplayIdx(a), DisplayIdx(e))
 }
 
 // The range from the two numbers as they were read.
@@ -114,14 +115,14 @@ fn token_of(t: &[u8]) -> Token
 }
 
 // The range that a token says after ranges that end at `prev`.
-pub fn step_of(prev: u32, t: &[u8]) -> Token
-    ensures { λ r. ⌜ r ≡ stepOf prev (now (t .entry)) ⌝ }
+pub fn step_of(prev: DisplayIdx, t: &[u8]) -> Token
+    ensures { λ r. ⌜ r ≡ stepOf (prev .0) (now (t .entry)) ⌝ }
 {
     let k = token_of(white::trimmed(t));
     match k {
         Token::Fault(n) => Token::Fault(n),
         Token::Range(a, e) => {
-            if a < prev {
+            if a.0 < prev.0 {
                 return Token::Fault(6);
             }
             Token::Range(a, e)

@@ -1,3 +1,4 @@
+pub mod Listed
 pub mod Encoding
 pub mod Trailing
 pub mod Decoding

@@ -1,9 +1,9 @@
--- How RFC 3629 (section 3) writes a code point in UTF-8, and the Unicode scalar values.
+-- How RFC 3629 (section 3) writes a code point in UTF-8, the Unicode scalar values, and a row of them stripped of White_Space.
 use Prim.Native.Nat.{ℕ, _+_, _/_, _%_, _<_, _≤_}
 use mathlib.Core.List.{List, [], _∷_, _++_}
 use lib.Dec.{ltb}
 use mathlib.Core.Bool.{cond}
-use Rattle.white.specs.White.{white}
+use Rattle.unicode.specs.WhiteSpace.{whiteSpaces, within}
 
 unfoldable pub encode : ℕ → List ℕ
 encode u =
@@ -29,11 +29,11 @@ encodeAll (u ∷ us) = encode u ++ encodeAll us
 -- a row of code points without the white space at its head, and without that at its end
 unfoldable pub stripHead : List ℕ → List ℕ
 stripHead [] = []
-stripHead (u ∷ us) = cond (white u) (stripHead us) (u ∷ us)
+stripHead (u ∷ us) = cond (within whiteSpaces u) (stripHead us) (u ∷ us)
 
 -- u before what is left of the rest: gone with it where nothing is left and u is white space
 unfoldable pub ifLeft : ℕ → List ℕ → List ℕ
-ifLeft u [] = cond (white u) [] (u ∷ [])
+ifLeft u [] = cond (within whiteSpaces u) [] (u ∷ [])
 ifLeft u (v ∷ vs) = u ∷ v ∷ vs
 
 unfoldable pub stripTail : List ℕ → List ℕ

@@ -1,1 +1,1 @@
-// No code: the theorems that the definitions of `text` are those of RFC 3629 and of Unicode White_Space.
+// No code: the theorems that the definitions of `utf8` and `white` are RFC 3629 and document 01's list of White_Space.

@@ -2,7 +2,4 @@
 mod white;
 
 pub use white::trim_head;
-pub use white::trim_tail;
 pub use white::trimmed;
-pub use white::white_head;
-pub use white::white_tail;

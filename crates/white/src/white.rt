@@ -76,7 +76,7 @@ fn white_wide(s: &[u8]) -> usize
 }
 
 // The width of the white-space character at the head of `s`; 0: `s` begins with none.
-pub fn white_head(s: &[u8]) -> usize
+fn white_head(s: &[u8]) -> usize
     ensures { λ r. ⌜ r ≡ whiteHead (now (s .entry)) ⌝ }
 {
     let a = base::byte(s, 0);
@@ -94,7 +94,7 @@ fn ends_white(s: &[u8], k: usize) -> bool
 }
 
 // The width of the white-space character that `s` ends with; 0: it ends with none.
-pub fn white_tail(s: &[u8]) -> usize
+fn white_tail(s: &[u8]) -> usize
     ensures { λ r. ⌜ r ≡ whiteTail (now (s .entry)) ⌝ }
 {
     let a = base::byte(s, base::less(s.len(), 1));
@@ -130,7 +130,7 @@ pub fn trim_head(s: &[u8]) -> &[u8]
 }
 
 // The slice without the white space at its end.
-pub fn trim_tail(s: &[u8]) -> &[u8]
+fn trim_tail(s: &[u8]) -> &[u8]
     ensures { λ r. ⌜ now r ≡ trimTail (now (s .entry)) ⌝ }
 {
     let mut n = s.len();

@@ -1,4 +1,5 @@
 use native.Mathlib.Nat.{le-of-lt}
+use native.Mathlib.Omega.{arith}
 use mathlib.Core.Path.{sym}
 use lib.Seq.{take-all, length-take-le}
 use borrow.Author.Needs.{needs}
@@ -6,7 +7,7 @@ use Rattle.base.proofs.part.front.Statement.{statement}
 use Rattle.base.proofs.part.front.Tie as tie
 
 slice-aggregate-result : tie.Need-slice-aggregate-result
-slice-aggregate-result c = sym (length-take-le _ _ (c .before .if1 .taken))
+slice-aggregate-result c = sym (length-take-le _ _ (omega arith))
 
 returns : tie.Need-returns
 returns c = search needs

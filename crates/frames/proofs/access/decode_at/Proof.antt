@@ -13,8 +13,11 @@ record-word-requires c κs = search needs
 word-requires : tie.Need-word-requires
 word-requires c κs = search needs
 
+decode-in-requires : tie.Need-decode-in-requires
+decode-in-requires c κs = search needs
+
 returns : tie.Need-returns
 returns c = search decode-is
 
 pub decode-at-spec : {M : Type 1} → statement M
-decode-at-spec = tie.close (tie.spec record-word-requires word-requires returns)
+decode-at-spec = tie.close (tie.spec record-word-requires word-requires decode-in-requires returns)

@@ -11,7 +11,7 @@ use Rattle.plan.proofs.crossing.overlap.Statement.{statement}
 use Rattle.plan.proofs.crossing.overlap.Tie as tie
 
 abbrev Inv-loop : tie.InvT-loop
-Inv-loop ranges count prev₀ i₀ prev i = (i ≤ count) × (2 * i ≤ length ranges) × (overlapsFault prev (leftOf ranges count i) ≡ overlapsFault 0 (take (2 * count) ranges))
+Inv-loop ranges count prev₀ i₀ prev i = (i ≤ count) × (2 * i ≤ length ranges) × (overlapsFault (prev .0) (leftOf ranges count i) ≡ overlapsFault 0 (take (2 * count) ranges))
 
 abbrev μ-loop : tie.MeasureT-loop
 μ-loop ranges count prev₀ i₀ prev i = count - i
@@ -28,23 +28,23 @@ sub-if1 c = search needs
 returns : tie.Need-returns Inv-loop μ-loop
 returns c = search crossing-short
 
-mul-start : tie.Need-mul-start Inv-loop μ-loop
-mul-start c = search needs
+mul-t8 : tie.Need-mul-t8 Inv-loop μ-loop
+mul-t8 c = search needs
 
-shared-slice-read-start : tie.Need-shared-slice-read-start Inv-loop μ-loop
-shared-slice-read-start c = search needs
+shared-slice-read-t11 : tie.Need-shared-slice-read-t11 Inv-loop μ-loop
+shared-slice-read-t11 c = search needs
 
 returns-2 : tie.Need-returns-2 Inv-loop μ-loop
 returns-2 c = search crossing-here
 
-add-prev : tie.Need-add-prev Inv-loop μ-loop
-add-prev c = search needs
+add-t9 : tie.Need-add-t9 Inv-loop μ-loop
+add-t9 c = search needs
 
-mul-prev : tie.Need-mul-prev Inv-loop μ-loop
-mul-prev c = search needs
+mul-t8-2 : tie.Need-mul-t8-2 Inv-loop μ-loop
+mul-t8-2 c = search needs
 
-shared-slice-read-prev : tie.Need-shared-slice-read-prev Inv-loop μ-loop
-shared-slice-read-prev c = search needs
+shared-slice-read-t11-2 : tie.Need-shared-slice-read-t11-2 Inv-loop μ-loop
+shared-slice-read-t11-2 c = search needs
 
 add-i : tie.Need-add-i Inv-loop μ-loop
 add-i c = search needs
@@ -68,12 +68,12 @@ overlap-spec =
     mul-at
     sub-if1
     returns
-    mul-start
-    shared-slice-read-start
+    mul-t8
+    shared-slice-read-t11
     returns-2
-    add-prev
-    mul-prev
-    shared-slice-read-prev
+    add-t9
+    mul-t8-2
+    shared-slice-read-t11-2
     add-i
     loop-less
     loop-again

@@ -11,10 +11,10 @@ use Rattle.segmap.proofs.sums.add_up.Statement.{statement}
 use Rattle.segmap.proofs.sums.add_up.Tie as tie
 
 abbrev Inv-loop : tie.InvT-loop
-Inv-loop s to end at₀ ticks₀ at ticks = (at ≤ end) × (ticks ≡ ticksFrom s 0 at)
+Inv-loop s to at₀ ticks₀ at ticks = (at .0 ≤ to .0) × (ticks ≡ ticksFrom s 0 (at .0))
 
 abbrev μ-loop : tie.MeasureT-loop
-μ-loop s to end at₀ ticks₀ at ticks = end - at
+μ-loop s to at₀ ticks₀ at ticks = to .0 - at .0
 
 loop-holds : tie.Need-loop-holds Inv-loop μ-loop
 loop-holds c = search needs
@@ -23,11 +23,11 @@ duration-at-requires : tie.Need-duration-at-requires Inv-loop μ-loop
 duration-at-requires c κs = search needs
 
 add-ticks : tie.Need-add-ticks Inv-loop μ-loop
-add-ticks c = let b : (j : ℕ) → getD (c .before .before .before .before .before .args .s .now) j 0 < 256 = λ j. c .before .before .before .before .shared-slice-known .given j .fits in
+add-ticks c = let b : (j : ℕ) → getD (c .before .before .before .before .before .before .before .args .s .now) j 0 < 256 = λ j. c .before .before .before .before .before .before .shared-slice-known .given j .fits in
     search (ticks-fit, b)
 
-add-at : tie.Need-add-at Inv-loop μ-loop
-add-at c = search needs
+add-t8 : tie.Need-add-t8 Inv-loop μ-loop
+add-t8 c = search needs
 
 loop-less : tie.Need-loop-less Inv-loop μ-loop
 loop-less c = search needs
@@ -47,7 +47,7 @@ add-up-spec =
     loop-holds
     duration-at-requires
     add-ticks
-    add-at
+    add-t8
     loop-less
     loop-again
     returns)

@@ -9,8 +9,11 @@ use Rattle.blocks.proofs.word.Reads as word-reads
 word-requires : tie.Need-word-requires
 word-requires c κs = search needs
 
-cast-decode : tie.Need-cast-decode
-cast-decode c = search needs
+decode-in-requires : tie.Need-decode-in-requires
+decode-in-requires c κs = search needs
+
+cast-if2 : tie.Need-cast-if2
+cast-if2 c = search needs
 
 returns : tie.Need-returns
 returns c = search record-high
@@ -38,7 +41,8 @@ record-fault-spec =
     tie.close
     (tie.spec
     word-requires
-    cast-decode
+    decode-in-requires
+    cast-if2
     returns
     returns-2
     returns-3

@@ -12,7 +12,7 @@ use Rattle.trim.proofs.list.read_tokens.Statement.{statement}
 use Rattle.trim.proofs.list.read_tokens.Tie as tie
 
 abbrev Inv-loop : tie.InvT-loop
-Inv-loop list ranges₀ t₀ prev₀ count₀ ranges t prev count = (count ≤ mostTrims) × (length ranges ≡ length ranges₀) × (length t ≤ length list) × (tokensNumber mostTrims 0 (tokensOf list) ≡ tokensNumber (mostTrims - count) prev (tokensOf t)) × (length (tokensOf list) ≡ count + length (tokensOf t)) × (sets ranges₀ 0 (rangesIn (tokensOf list)) ≡ sets ranges (count * 2) (rangesIn (tokensOf t)))
+Inv-loop list ranges₀ t₀ prev₀ count₀ ranges t prev count = (count ≤ mostTrims) × (length ranges ≡ length ranges₀) × (length t ≤ length list) × (tokensNumber mostTrims 0 (tokensOf list) ≡ tokensNumber (mostTrims - count) (prev .0) (tokensOf t)) × (length (tokensOf list) ≡ count + length (tokensOf t)) × (sets ranges₀ 0 (rangesIn (tokensOf list)) ≡ sets ranges (count * 2) (rangesIn (tokensOf t)))
 
 abbrev μ-loop : tie.MeasureT-loop
 μ-loop list ranges₀ t₀ prev₀ count₀ ranges t prev count = mostTrims - count

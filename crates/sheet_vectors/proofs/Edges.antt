@@ -1,0 +1,33 @@
+-- The largest T and n of a sheet and the next ones, by computation; and the values of the check's answer.
+use Prim.Native.Nat.{ℕ, suc}
+use mathlib.Core.List.{List, [], _∷_, map}
+use mathlib.Core.Path.{_≡_, refl, sym, ap, _∙_}
+use native.Mathlib.Omega.{arith}
+use borrow.Author.Tests.{ne-eqb}
+use Rattle.base.specs.Refusal.{_orElse_, faultUnless, firstOf}
+use Rattle.base.proofs.Laws.{no! }
+use Rattle.blocks.specs.Block.{wordAt, sumWords, blockHolds}
+use Rattle.frames.specs.Frames.{timescaleOf, framesOf, recordWord, decodeOf}
+use Rattle.sheet.specs.Sheet.{spareFault, headFault, recordFault, checkFault, blockFault, recordBlocks, sheetFault, sheetOf, valuesOf}
+use Rattle.sheet.proofs.AnswerLaws.{sheet-values}
+use Rattle.sheet_vectors.specs.Small.{smallRecords, sheetWith, smallSheet}
+use Rattle.sheet_vectors.proofs.Vectors.{small-sound}
+
+-- T 1,000,000 is sound and the next one 13; n 1,048,576 asks for a longer sheet (11) and the next one is 13
+pub head-limits :
+    map sheetFault
+    (sheetWith 1000000 10 smallRecords
+    ∷ sheetWith 1000001 10 smallRecords
+    ∷ sheetWith 30000 1048576 smallRecords
+    ∷ sheetWith 30000 1048577 smallRecords
+    ∷ [])
+    ≡ 0 ∷ 13 ∷ 11 ∷ 13 ∷ []
+unfolding sheetFault checkFault blockHolds headFault blockFault recordFault recordWord decodeOf recordBlocks spareFault timescaleOf framesOf sumWords wordAt firstOf faultUnless _orElse_
+head-limits = refl
+
+-- the values of an answer: the head's of the small sheet, none of a sheet with a fault
+pub small-values : valuesOf (sheetOf smallSheet) ≡ 30000 ∷ 10 ∷ 30000 ∷ 1001 ∷ []
+small-values = ap valuesOf small-sound
+
+pub damaged-values : (s : List ℕ) (k : ℕ) → sheetFault s ≡ suc k → valuesOf (sheetOf s) ≡ []
+damaged-values s k e = sheet-values s ∙ sym (no! _ (ne-eqb (sheetFault s) 0 (λ z. omega arith)) refl)

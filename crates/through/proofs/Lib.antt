@@ -1,0 +1,2 @@
+pub mod StructArray
+pub mod ThroughLaws

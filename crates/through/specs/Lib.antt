@@ -1,0 +1,2 @@
+-- What a map tells through its records.
+pub mod Through
