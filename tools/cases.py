@@ -239,6 +239,9 @@ def ass_text(r, t, edges, span, plain):
         lines += ['[Script Info]', 'Title: x', ''] if r.random() < 0.2 else []
         columns = r.choice([['Layer', 'Start', 'End', 'Style', 'Text'], ['Start', 'End', 'Text'], ['Text', 'End', 'Start'], ['Marked', 'Start', 'End', 'Style', 'Name', 'MarginL', 'MarginR', 'MarginV', 'Effect', 'Text']])
         lines += ['[Events]', 'Format: ' + ', '.join(columns)]
+    if r.random() < 0.02:  # hundreds of `Format:` lines
+        lines += ['Format:' + r.choice([',', ', ', ' ,']).join(r.choices(['Layer', 'Start', 'End', 'Style', 'Text', ''], k=r.randint(1, 12))) for _ in range(r.randint(50, 300))]
+        lines.append('Format: ' + ', '.join(columns))
     for _ in range(how_many(r)):
         p = r.random()
         if p < 0.04:

@@ -251,7 +251,8 @@ fn event_line(
     let t = text::text_of(text);
     if pattern::starts_with(t, b"Format:") {
         let told = stayed(text, out);
-        let next = columns_of(base::rest(t, 7));
+        let format = columns_of(base::rest(t, 7));
+        let next = format.columns;
         return LineTold {
             told,
             columns: next,

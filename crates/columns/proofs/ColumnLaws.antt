@@ -74,21 +74,25 @@ onward-more name c cs e e′ k m em ee = go (eqb e 0) refl m em ee
     go true q false em ee = rw (ee, ← em) (beyond-further k (placeIn name cs))
 
 -- what is left of the line, with what was found, is the whole answer
-pub record Left (s t : List ℕ) (k start stop : ℕ) : Type 0 where
+pub record Left (s t : List ℕ) (k trims start stop : ℕ) : Type 0 where
   pub room : k + length t ≤ length s
   pub count : k + length (namesIn t) ≡ length (namesIn s)
+  pub trimmed : trims + length (namesIn t) ≡ length (namesIn s)
   pub starts : onward start k (placeIn startName (namesIn t)) ≡ placeIn startName (namesIn s)
   pub stops : onward stop k (placeIn endName (namesIn t)) ≡ placeIn endName (namesIn s)
 
-pub left-all : (s : List ℕ) → Left s s 0 0 0
-left-all s = record { room = omega arith; count = omega arith; starts = all (placeIn startName (namesIn s)); stops = all (placeIn endName (namesIn s)) }
+pub left-all : (s : List ℕ) → Left s s 0 0 0 0
+left-all s = record { room = omega arith; count = omega arith; trimmed = omega arith; starts = all (placeIn startName (namesIn s)); stops = all (placeIn endName (namesIn s)) }
   where
     all : (p : ℕ) → onward 0 0 p ≡ p
     all zero = refl
     all (suc p) = omega arith
 
-module _ (s t p n : List ℕ) (i k start stop start′ stop′ : ℕ) (a b : Bool) (inv : Left s t k start stop) (ei : i ≡ first comma t) (ep : p ≡ take i t) (en : n ≡ trim p)
+module _ (s t p n : List ℕ) (i k trims start stop start′ stop′ : ℕ) (a b : Bool) (inv : Left s t k trims start stop) (ei : i ≡ first comma t) (ep : p ≡ take i t) (en : n ≡ trim p)
     (ea : a ≡ equals startName n) (eb : b ≡ equals endName n) (es : start′ ≡ cond (eqb start 0) (cond a (k + 1) 0) start) (ee : stop′ ≡ cond (eqb stop 0) (cond b (k + 1) 0) stop) where
+  pub left-trims : length t ≤ i → trims + 1 ≡ length (namesIn s)
+  left-trims h = omega (arith, inv .trimmed, ap length (names-last t p n i ei ep en h))
+
   pub left-done : length t ≤ i → _≡_ {A = Columns} (record { events = true; columns = k + 1; start = start′; «end» = stop′ }) (columnsIn s)
   unfolding columnsIn placeIn
   left-done h =
@@ -100,12 +104,13 @@ module _ (s t p n : List ℕ) (i k start stop start′ stop′ : ℕ) (a b : Boo
       sym (onward-same stop′ (k + 1)) ∙ onward-more endName n [] stop stop′ k b eb ee ∙ ap (λ (l : List (List ℕ)). onward stop k (placeIn endName l)) (sym q) ∙ inv .stops in
       λ j. record { events = true; columns = c j; start = x j; «end» = y j }
 
-  pub left-again : (u : List ℕ) → i < length t → u ≡ drop (i + 1) t → Left s u (k + 1) start′ stop′
+  pub left-again : (u : List ℕ) → i < length t → u ≡ drop (i + 1) t → Left s u (k + 1) (trims + 1) start′ stop′
   left-again u h eu =
       let q : namesIn t ≡ n ∷ namesIn u = names-more t p n i ei ep en h ∙ ap (λ (x : List ℕ). n ∷ namesIn x) (sym eu) in
       record {
         room = omega (arith, inv .room, ap length eu, length-drop (i + 1) t);
         count = omega (arith, inv .count, ap length q);
+        trimmed = omega (arith, inv .trimmed, ap length q);
         starts = onward-more startName n (namesIn u) start start′ k a ea es ∙ ap (λ (l : List (List ℕ)). onward start k (placeIn startName l)) (sym q) ∙ inv .starts;
         stops = onward-more endName n (namesIn u) stop stop′ k b eb ee ∙ ap (λ (l : List (List ℕ)). onward stop k (placeIn endName l)) (sym q) ∙ inv .stops;
       }

@@ -1,3 +1,4 @@
 pub mod ColumnLaws
 pub mod SectionLaws
 pub mod FieldLaws
+pub mod Vectors

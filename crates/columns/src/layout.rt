@@ -3,7 +3,8 @@ ghost use mathlib.Core.Path.{_≡_};
 ghost use mathlib.Core.Bool.{cond};
 ghost use lib.Dec.{eqb};
 ghost use Rattle.pattern.specs.Find.{equals};
-ghost use Rattle.columns.specs.Columns.{startName, endName, columnsIn};
+ghost use lib.ListN.{length};
+ghost use Rattle.columns.specs.Columns.{startName, endName, namesIn, columnsIn};
 
 // Whether the section is Events, how many columns the last `Format:` line had, and the places of Start and End among them, from 1; 0: absent.
 pub struct Columns {
@@ -11,6 +12,12 @@ pub struct Columns {
     pub columns: usize,
     pub start: usize,
     pub end: usize,
+}
+
+// What a `Format:` line sets, and how many trimmings of a column it took to find that.
+pub struct Format {
+    pub columns: Columns,
+    pub trimmed: usize,
 }
 
 fn is_start(name: &[u8]) -> bool
@@ -35,26 +42,32 @@ fn first_place(earlier: usize, place: usize, met: bool) -> usize
     if met { place } else { 0 }
 }
 
-// What a `Format:` line in Events sets: `s` stands after that word.
-pub fn columns_of(s: &[u8]) -> Columns
-    ensures { λ r. ⌜ r ≡ columnsIn (now (s .entry)) ⌝ }
+// What a `Format:` line in Events sets, in one pass: `s` stands after that word. Each column is trimmed once, and counted where it is.
+pub fn columns_of(s: &[u8]) -> Format
+    ensures { λ r. ⌜ (r .columns ≡ columnsIn (now (s .entry))) × (r .trimmed ≡ length (namesIn (now (s .entry)))) ⌝ }
 {
     let mut t = s;
     let mut columns: usize = 0;
+    let mut trimmed: usize = 0;
     let mut start: usize = 0;
     let mut end: usize = 0;
     loop {
         let i = pattern::find(t, b",");
         let name = white::trimmed(base::front(t, i));
+        trimmed += 1;
         columns += 1;
         start = first_place(start, columns, is_start(name));
         end = first_place(end, columns, is_end(name));
         if t.len() <= i {
-            return Columns {
+            let all = Columns {
                 events: true,
                 columns,
                 start,
                 end,
+            };
+            return Format {
+                columns: all,
+                trimmed,
             };
         }
         let u = base::rest(t, i + 1);

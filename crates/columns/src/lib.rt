@@ -7,6 +7,7 @@ pub use fields::enough;
 pub use fields::field;
 pub use fields::field_length;
 pub use layout::Columns;
+pub use layout::Format;
 pub use layout::columns_of;
 pub use section::in_section;
 pub use section::is_section;

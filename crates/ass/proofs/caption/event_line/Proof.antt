@@ -40,7 +40,7 @@ same-length : tie.Need-same-length
 same-length c = search needs
 
 returns : tie.Need-returns
-returns c = let a = c .before .before .before .before .before .before .before .before .before .before .before .before .before .before .args in word-1 (a .config) (segmentsOf (a .map .now)) (a .columns) (a .n) (a .text .now) _ (c .before .before .before .before .before .before .before .before .before .text-of .ensures) _ (c .before .before .before .before .before .before .before .starts-with .ensures) _ _ _ (a .warnings .now) _ _ _ (c .before .before .before .before .before .before .if1 .taken) refl (c .before .before .before .before .stayed .ensures) (c .before .rest .ensures) (c .columns-of .ensures)
+returns c = let a = c .before .before .before .before .before .before .before .before .before .before .before .before .before .before .before .args in word-1 (a .config) (segmentsOf (a .map .now)) (a .columns) (a .n) (a .text .now) _ (c .before .before .before .before .before .before .before .before .before .before .text-of .ensures) _ (c .before .before .before .before .before .before .before .before .starts-with .ensures) _ _ _ (a .warnings .now) _ _ _ (c .before .before .before .before .before .before .before .if1 .taken) refl (c .before .before .before .before .before .stayed .ensures) (c .before .before .rest .ensures) (c .before .columns-of .ensures .0)
 
 slice-aggregate-starts-with-2 : tie.Need-slice-aggregate-starts-with-2
 slice-aggregate-starts-with-2 c = search needs

@@ -1,6 +1,6 @@
 use Rattle.columns.proofs.FieldLaws.{rest-less}
 use lib.ListN.{length}
-use Rattle.columns.proofs.ColumnLaws.{Left, left-all, left-done, left-again}
+use Rattle.columns.proofs.ColumnLaws.{Left, left-all, left-done, left-trims, left-again}
 use native.Mathlib.Omega.{arith}
 use borrow.Author.Needs.{needs}
 use Rattle.columns.proofs.layout.columns_of.Statement.{statement}
@@ -16,10 +16,10 @@ use Rattle.pattern.proofs.find.Reads as find-reads
 use Rattle.white.proofs.trimmed.Reads as trimmed-reads
 
 abbrev Inv-loop : tie.InvT-loop
-Inv-loop s t₀ columns₀ start₀ end₀ t9 t columns start end = Left s t columns start end
+Inv-loop s t₀ columns₀ trimmed₀ start₀ end₀ t10 t columns trimmed start end = Left s t columns trimmed start end
 
 abbrev μ-loop : tie.MeasureT-loop
-μ-loop s t₀ columns₀ start₀ end₀ t9 t columns start end = length t
+μ-loop s t₀ columns₀ trimmed₀ start₀ end₀ t10 t columns trimmed start end = length t
 
 loop-holds : tie.Need-loop-holds Inv-loop μ-loop
 loop-holds c = left-all _
@@ -35,6 +35,9 @@ front-requires c κs = search needs
 
 trimmed-requires : tie.Need-trimmed-requires Inv-loop μ-loop
 trimmed-requires c κs = search needs
+
+add-trimmed : tie.Need-add-trimmed Inv-loop μ-loop
+add-trimmed c = search needs
 
 add-columns : tie.Need-add-columns Inv-loop μ-loop
 add-columns c = search needs
@@ -52,7 +55,7 @@ first-place-requires-2 : tie.Need-first-place-requires-2 Inv-loop μ-loop
 first-place-requires-2 c κs = search needs
 
 returns : tie.Need-returns Inv-loop μ-loop
-returns c = search left-done
+returns c = (search left-done, search left-trims)
 
 add-rest : tie.Need-add-rest Inv-loop μ-loop
 add-rest c = search needs
@@ -77,6 +80,7 @@ columns-of-spec =
     find-requires
     front-requires
     trimmed-requires
+    add-trimmed
     add-columns
     is-start-requires
     first-place-requires
