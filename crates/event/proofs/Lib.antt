@@ -4,4 +4,6 @@ pub mod FateLaws
 mod CaseLaws
 pub mod FineLaws
 pub mod WordLaws
+pub mod LostLaws
+mod LostRows
 pub mod TellLaws
