@@ -5,5 +5,6 @@ mod CaseLaws
 pub mod FineLaws
 pub mod WordLaws
 pub mod LostLaws
+pub mod WarnLaws
 mod LostRows
 pub mod TellLaws

@@ -1,5 +1,5 @@
 -- The segment that a caption meets: document 01's hit. a and b are the ticks of the caption's start and end.
-use mathlib.Core.Bool.{Bool, true, false, _&&_, cond}
+use mathlib.Core.Bool.{Bool, _&&_, cond}
 use mathlib.Core.List.{List, [], _∷_}
 use Prim.Native.Nat.{ℕ, suc, _+_}
 use lib.Dec.{ltb}

@@ -1,11 +1,10 @@
 -- When a caption whose end was cut has lost a part (warning 4): document 01's rule and request 2.7's, which is ours.
-use mathlib.Core.Path.{_≡_}
 use mathlib.Core.Bool.{Bool, true, false, _&&_, cond}
-use mathlib.Core.List.{List, [], _∷_, _++_}
-use Prim.Native.Nat.{ℕ, _≤_, _<_}
+use mathlib.Core.List.{List, [], _∷_}
+use Prim.Native.Nat.{ℕ}
 use lib.Dec.{ltb}
 use Rattle.segment.specs.declared.segment.Segment.{Segment}
-use Rattle.segment.specs.Segment.{sourceOf, sourceEnd}
+use Rattle.segment.specs.Segment.{sourceOf}
 use Rattle.event.specs.Hit.{meets}
 
 -- of the segments behind the one that is met, in the list's order, and the ticks of start and end as they were read
@@ -25,10 +24,3 @@ lostLater (x ∷ xs) a b = cond (meets x a b) true (lostLater xs a b)
 -- the rule that warning 4 is given by
 abbrev pub lostRule : Rule
 lostRule = lostLater
-
--- ---- maps over which request 2.7's rule only adds warnings (`only-adds`): of two segments of positive length, the earlier in the list ends at or
--- before the start of the later, in the source
-abbrev pub Apart : List Segment → Type 0
-Apart m =
-    (earlier between others : List Segment) (x y : Segment) → m ≡ earlier ++ x ∷ between ++ y ∷ others → 0 < x .duration → 0 < y .duration
-    → sourceEnd x ≤ sourceOf y

@@ -1,8 +1,9 @@
 -- What the parts of a text warn of through a map, by a rule for lost parts. No other definition takes a rule: fates, bytes and counts do not
 -- depend on it. The parts' warnings are those by request 2.7's rule (`warns-later`); by document 01's they are what a house without it gave.
+use mathlib.Core.Path.{_≡_}
 use mathlib.Core.Bool.{_&&_}
 use mathlib.Core.List.{List, [], _∷_, _++_}
-use Prim.Native.Nat.{ℕ}
+use Prim.Native.Nat.{ℕ, _≤_, _<_}
 use lib.Dec.{ltb}
 use Rattle.time.specs.Kind.{unitsOf}
 use Rattle.time.specs.Convert.{ticksOf}
@@ -32,3 +33,10 @@ module _ (lost : Rule) (c : Config) (m : List Segment) where
   unfoldable pub warnsBy : List Part → List Warning
   warnsBy [] = []
   warnsBy (p ∷ ps) = partWarns p ++ warnsBy ps
+
+-- ---- maps over which request 2.7's rule only adds warnings (`part-adds`): of two segments of positive length, the earlier in the list ends at or
+-- before the start of the later, in the source
+abbrev pub Apart : List Segment → Type 0
+Apart m =
+    (earlier between others : List Segment) (x y : Segment) → m ≡ earlier ++ x ∷ between ++ y ∷ others → 0 < x .duration → 0 < y .duration
+    → sourceEnd x ≤ sourceOf y

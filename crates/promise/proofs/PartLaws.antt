@@ -91,12 +91,12 @@ module _ (c : Config) (m : List Segment) (q : Cue) where
   b = ticksOf T U (q .stop)
 
   -- the part-lost rule by the segments behind
-  lost-among : (xs : List Segment) → lostRule xs a b ≡ lostAmong c m xs a b
+  lost-among : (xs : List Segment) → lostRule xs a b ≡ lostAmong xs a b
   unfolding lostLater meetsParts
   lost-among [] = refl
   lost-among (x ∷ xs) = go (ltb 0 (x .duration)) (ltb a (sourceEnd x)) (ltb (sourceOf x) b) (lost-among xs)
     where
-      go : (p q r : Bool) → lostRule xs a b ≡ lostAmong c m xs a b → cond (p && (q && r)) true (lostRule xs a b) ≡ ((p && (r && q)) || lostAmong c m xs a b)
+      go : (p q r : Bool) → lostRule xs a b ≡ lostAmong xs a b → cond (p && (q && r)) true (lostRule xs a b) ≡ ((p && (r && q)) || lostAmong xs a b)
       go true true true e = refl
       go true true false e = e
       go true false true e = e
@@ -115,7 +115,7 @@ module _ (c : Config) (m : List Segment) (q : Cue) where
         warnings =
             ap₂ (λ (s e : Bool). warnIf (s && q .tagged) 3 (q .line) ++ warnIf (e && lostRule xs a b) 4 (q .line)) (sym p) (sym r)
             ∙ ap (λ (l : Bool). warnIf (ltb a (sourceOf x) && q .tagged) 3 (q .line) ++ warnIf (ltb (sourceEnd x) b && l) 4 (q .line))
-            (lost-among xs ∙ ap (λ (ys : List Segment). lostAmong c m ys a b) (sym (h .behind)));
+            (lost-among xs ∙ ap (λ (ys : List Segment). lostAmong ys a b) (sym (h .behind)));
       }
 
   leaves-by : (x : Segment) (xs : List Segment) (s e : ℕ) (sc ec : Bool) → HitFirst m a b x xs → ltb a (sourceOf x) ≡ sc → ltb (sourceEnd x) b ≡ ec

@@ -23,15 +23,15 @@ use Rattle.promise.specs.Plain.{plainRead}
 use Rattle.promise.specs.Again.{AllAgain}
 
 -- ---- what is right for each part, in plain words
+-- some segment has duration > 0, source start < b and source end > a
+abbrev pub lostAmong : List Segment → (a b : ℕ) → Bool
+lostAmong [] a b = false
+lostAmong (x ∷ xs) a b = (ltb 0 (x .duration) && (ltb (sourceOf x) b && ltb a (sourceEnd x))) || lostAmong xs a b
+
 module _ (c : Config) (m : List Segment) where
   -- the ticks of a time that was read
   abbrev pub ticks : ℕ → ℕ
   ticks S = ticksOf (c .timescale) (unitsOf (c .kind)) S
-
-  -- one of some segments is of positive length, starts before tick b and ends after tick a
-  abbrev pub lostAmong : List Segment → (a b : ℕ) → Bool
-  lostAmong [] a b = false
-  lostAmong (x ∷ xs) a b = (ltb 0 (x .duration) && (ltb (sourceOf x) b && ltb a (sourceEnd x))) || lostAmong xs a b
 
   -- warnings of a cue that is kept: 3 where its start was cut and it has a relative tag, then 4 where its end was cut and a segment later
   -- in the list has a part of it, by its times as they were read
