@@ -137,8 +137,8 @@ fn copy(ranges: &mut [u32], held: &[u32], n: usize)
     }
 }
 
-// Reads a trim list. Answers 0 and how many ranges it wrote from the start of `ranges`, two numbers each, or the number of the refusal; then
-// nothing is written.
+// Reads a trim list. Answers 0 and how many ranges it wrote from the start of `ranges`, two numbers each (a blank list has none), or the number of
+// the refusal; then nothing is written.
 pub fn parse(list: &[u8], ranges: &mut [u32]) -> Parsed
     ensures { λ r. ⌜ r ≡ parseOf (now (list .entry)) (length (now (ranges .entry))) ⌝ }
     ensures { λ _. ⌜ now (ranges .exit) ≡ rangePlaces (now (list .entry)) (now (ranges .entry)) ⌝ }
