@@ -15,7 +15,7 @@ use Rattle.base.proofs.PutLaws.{placed-yes, placed-no}
 use Rattle.base.specs.Refusal.{_orElse_, faultUnless, firstOf}
 use Rattle.base.proofs.RefusalLaws.{unless-held, unless-failed, else-none, else-here, left-here, left-next}
 use Rattle.frames.specs.Frames.{decodeOf}
-use Rattle.once.specs.Once.{timesNamed, repeatFault, workBytes, onceNumber, workOnce, bitOf, marked}
+use Rattle.once.specs.Once.{timesNamed, repeatFault, workBytes, onceNumber, workOnce, bitOf, withBit}
 use Rattle.once.proofs.BitLaws.{marked-bit, marked-byte}
 
 -- the bits are the decode indices of the first i records
@@ -94,11 +94,11 @@ named-suc : (s : List ℕ) (i e : ℕ) → not (eqb (timesNamed s (suc i) e) 0) 
 unfolding timesNamed
 named-suc s i e = refl
 
-pub seen-more : (s bits₀ bits after : List ℕ) (n i d : ℕ) → d ≡ decodeOf s i → d < n → n ≤ 8 * length bits₀ → length bits ≡ length bits₀ → after ≡ marked bits d → Seen s i bits
+pub seen-more : (s bits₀ bits after : List ℕ) (n i d : ℕ) → d ≡ decodeOf s i → d < n → n ≤ 8 * length bits₀ → length bits ≡ length bits₀ → after ≡ withBit bits d → Seen s i bits
     → Seen s (i + 1) after
 seen-more s bits₀ bits after n i d ed low room same ea seen =
     let r : d / 8 < length bits = omega arith in
-    let m : (e : ℕ) → bitOf (marked bits d) e ≡ not (eqb (timesNamed s (i + 1) e) 0) =
+    let m : (e : ℕ) → bitOf (withBit bits d) e ≡ not (eqb (timesNamed s (i + 1) e) 0) =
     λ e. marked-bit bits d e (seen .bytes) r ∙ ap (λ (x : Bool). cond x true (bitOf bits e)) (eqb-turn e d)
     ∙ ap (λ (x : Bool). cond (eqb d e) true x) (seen .met e) ∙ sym (counted (timesNamed s i e) e d)
     ∙ ap (λ (x : ℕ). not (eqb (timesNamed s i e + cond (eqb x e) 1 0) 0)) ed ∙ sym (named e) in

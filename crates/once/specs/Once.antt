@@ -46,5 +46,5 @@ unfoldable pub bitOf : List ℕ → ℕ → Bool
 bitOf w d = eqb (getD w (d / 8) 0 / 2 ^ (d % 8) % 2) 1
 
 -- the bytes with it set
-unfoldable pub marked : List ℕ → ℕ → List ℕ
-marked w d = cond (bitOf w d) w (set w (d / 8) (getD w (d / 8) 0 + 2 ^ (d % 8)))
+unfoldable pub withBit : List ℕ → ℕ → List ℕ
+withBit w d = cond (bitOf w d) w (set w (d / 8) (getD w (d / 8) 0 + 2 ^ (d % 8)))

@@ -2,7 +2,7 @@
 ghost use mathlib.Core.Path.{_≡_};
 ghost use Prim.Native.Nat.{_*_, _<_};
 ghost use lib.ListN.{length, replicate};
-ghost use Rattle.once.specs.Once.{bitOf, marked};
+ghost use Rattle.once.specs.Once.{bitOf, withBit};
 
 // Every byte becomes zero.
 pub fn clear(bits: &mut [u8])
@@ -18,7 +18,7 @@ pub fn clear(bits: &mut [u8])
 // Sets bit d, and answers whether it was set before.
 pub fn mark(bits: &mut [u8], d: usize) -> bool
     requires { ⌜ d < 8 * length (now bits) ⌝ }
-    ensures { λ r. ⌜ (r ≡ bitOf (now (bits .entry)) d) × (now (bits .exit) ≡ marked (now (bits .entry)) d) ⌝ }
+    ensures { λ r. ⌜ (r ≡ bitOf (now (bits .entry)) d) × (now (bits .exit) ≡ withBit (now (bits .entry)) d) ⌝ }
 {
     let at = d / 8;
     let k = (d % 8) as u8;
