@@ -1,6 +1,6 @@
 -- Laws of the frame sheet that crates above cite.
-use Prim.Native.Nat.{ℕ, zero, suc, _+_, _/_, _^_, _≤_, _<_}
-use mathlib.Core.Bool.{Bool}
+use Prim.Native.Nat.{ℕ, zero, suc, _+_, _-_, _*_, _/_, _^_, _≤_, _<_}
+use mathlib.Core.Bool.{Bool, true, false}
 use mathlib.Core.List.{List, [], _∷_}
 use mathlib.Core.Logic.{_⊎_, inl, inr}
 use mathlib.Core.Path.{_≡_, refl, sym, ap, _∙_}
@@ -8,14 +8,14 @@ use native.Mathlib.Omega.{arith}
 use lib.Dec.{ltb}
 use lib.ListN.{getD}
 use borrow.Author.Tests.{lt-ltb, ltb-true, leb-true}
-use Rattle.base.specs.Limits.{mostSheetTimescale, mostFrames}
+use Rattle.base.specs.Limits.{mostTimescale, mostFrames}
 use Rattle.base.specs.Refusal.{_orElse_, faultUnless, firstOf}
 use Rattle.base.proofs.RefusalLaws.{held, else-zero, first-zero}
 use Rattle.blocks.proofs.WordLaws.{word-below}
 use Rattle.frames.specs.Frames.{timescaleOf, framesOf, rateNumOf, rateDenOf, decodeOf, durationOf}
 use Rattle.sheet.specs.Sheet.{sheetFault, sheetOf, numberOf, valuesOf}
-use Rattle.frames.specs.Frames.{recordWord}
-use Rattle.sheet.specs.Sheet.{spareFault, headFault, recordFault, checkFault, blockFault, recordBlocks, headOf, sheetAnswer}
+use Rattle.frames.specs.Frames.{longOf, perBlock, recordWord, durationIn}
+use Rattle.sheet.specs.Sheet.{spareFault, timescaleIn, headFault, spareRecord, recordFault, checkFault, blockFault, recordBlocks, headOf, sheetAnswer}
 use Rattle.sheet.specs.declared.answer.Head.{Head}
 use Rattle.sheet.specs.declared.answer.Sheet.{Sheet}
 use Rattle.sheet.specs.declared.answer.Sheet.the-variants.{Sound, Refused}
@@ -24,7 +24,7 @@ use Rattle.base.proofs.RefusalNumbers.{else-numbers, cond-numbers, unless-numbe
 -- ---- a sheet without a fault
 record SoundParts (s : List ℕ) : Type 0 where
   pub head : headFault s ≡ 0
-  pub blocks : firstOf (blockFault s (framesOf s)) 1 (recordBlocks (framesOf s)) ≡ 0
+  pub blocks : firstOf (blockFault s (framesOf s)) 1 (recordBlocks (longOf s) (framesOf s)) ≡ 0
 
 sound-parts : (s : List ℕ) → sheetFault s ≡ 0 → SoundParts s
 unfolding sheetFault
@@ -37,20 +37,24 @@ sound-parts s e =
 -- what its head has
 pub record SoundHead (s : List ℕ) : Type 0 where
   pub timescale-low : 0 < timescaleOf s
-  pub timescale-high : timescaleOf s ≤ mostSheetTimescale
+  pub timescale-high : timescaleOf s ≤ mostTimescale
   pub frames-low : 0 < framesOf s
   pub frames-high : framesOf s ≤ mostFrames
+
+within-most : {k : ℕ} (t : Bool) → k ≤ timescaleIn t → k ≤ mostTimescale
+within-most false h = omega arith
+within-most true h = h
 
 head-parts : (s : List ℕ) → headFault s ≡ 0 → SoundHead s
 unfolding headFault
 head-parts s e =
-    let t = else-zero _ _ e in
+    let t = else-zero _ _ (else-zero _ _ e .1) in
     let u = else-zero _ _ (t .1) in
     let v = else-zero _ _ (u .1) in
     let w = else-zero _ _ (v .1) in
     record {
       timescale-low = ltb-true _ _ (held _ 13 (omega arith) (t .0));
-      timescale-high = leb-true _ _ (held _ 13 (omega arith) (u .0));
+      timescale-high = within-most (longOf s) (leb-true _ _ (held _ 13 (omega arith) (u .0)));
       frames-low = ltb-true _ _ (held _ 13 (omega arith) (v .0));
       frames-high = leb-true _ _ (held _ 13 (omega arith) (w .0));
     }
@@ -62,12 +66,29 @@ record-inside : (s : List ℕ) (n i : ℕ) → i < n → recordFault s n i ≡ f
 unfolding recordFault
 record-inside s n i l = rw (lt-ltb i n l)
 
+-- the block of record i is one of those that hold n records, and the record one of its own
+record Inside (t : Bool) (n i b : ℕ) : Type 0 where
+  low : 1 ≤ b
+  high : b < 1 + recordBlocks t n
+  from : perBlock t * (b - 1) ≤ i
+  below : i < perBlock t * (b - 1) + perBlock t
+
+abbrev blockOf : (long : Bool) → ℕ → ℕ
+blockOf false i = 1 + i / 63
+blockOf true i = 1 + i / 42
+
+inside : (t : Bool) (n i : ℕ) → i < n → Inside t n i (blockOf t i)
+unfolding recordBlocks
+inside false n i l = record { low = omega arith; high = omega arith; from = omega arith; below = omega arith }
+inside true n i l = record { low = omega arith; high = omega arith; from = omega arith; below = omega arith }
+
 -- the decode index of a frame is below the frame count
 pub sound-decode : (s : List ℕ) (i : ℕ) → sheetFault s ≡ 0 → i < framesOf s → decodeOf s i < framesOf s
-unfolding recordBlocks blockFault
+unfolding blockFault
 sound-decode s i e l =
-    let b : blockFault s (framesOf s) (1 + i / 63) ≡ 0 = first-zero _ _ _ (sound-parts s e .blocks) (1 + i / 63) (omega arith) (omega arith) in
-    let r : recordFault s (framesOf s) i ≡ 0 = first-zero _ _ _ (else-zero _ _ b .1) i (omega arith) (omega arith) in
+    let p = inside (longOf s) (framesOf s) i l in
+    let b : blockFault s (framesOf s) (blockOf (longOf s) i) ≡ 0 = first-zero _ _ _ (sound-parts s e .blocks) (blockOf (longOf s) i) (p .low) (p .high) in
+    let r : recordFault s (framesOf s) i ≡ 0 = first-zero _ _ _ (else-zero _ _ b .1) i (p .from) (p .below) in
     ltb-true _ _ (held _ 14 (omega arith) (sym (record-inside s (framesOf s) i l) ∙ r))
 
 -- ---- sizes of what any bytes say
@@ -80,9 +101,13 @@ module _ (s : List ℕ) (bytes : (j : ℕ) → getD s j 0 < 256) where
   unfolding framesOf
   frames-word = word-below s 2 bytes
 
-  pub duration-word : (i : ℕ) → durationOf s i < 2 ^ 32
+  duration-in : (t : Bool) (w : ℕ) → durationIn t s w < 2 ^ 64
+  duration-in false w = omega (arith, word-below s (w + 1) bytes)
+  duration-in true w = omega (arith, word-below s (w + 1) bytes, word-below s (w + 2) bytes)
+
+  pub duration-word : (i : ℕ) → durationOf s i < 2 ^ 64
   unfolding durationOf
-  duration-word i = word-below s (recordWord i + 1) bytes
+  duration-word i = duration-in (longOf s) (recordWord (longOf s) i)
 
 pub decode-word : (s : List ℕ) (i : ℕ) → decodeOf s i < 2 ^ 31
 unfolding decodeOf
@@ -115,15 +140,20 @@ head-number s =
     (or-else (test _ 13 (omega arith) (omega arith))
     (or-else (test _ 13 (omega arith) (omega arith))
     (or-else (test _ 13 (omega arith) (omega arith))
-    (first-numbers SheetNumber none _ (λ i. spare-number s 13 i (within 13 (omega arith) (omega arith))) 5 122))))
+    (or-else (test _ 13 (omega arith) (omega arith))
+    (first-numbers SheetNumber none _ (λ i. spare-number s 13 i (within 13 (omega arith) (omega arith))) 6 121)))))
+
+record-spare : (t : Bool) (s : List ℕ) (w : ℕ) → SheetNumber 14 → SheetNumber (spareRecord t s w)
+record-spare false s w p = or-else (spare-number s 14 _ p) (spare-number s 14 _ p)
+record-spare true s w p = or-else (spare-number s 14 _ p) (or-else (spare-number s 14 _ p) (spare-number s 14 _ p))
 
 record-number : (s : List ℕ) (n i : ℕ) → SheetNumber (recordFault s n i)
 unfolding recordFault
 record-number s n i =
     let p : SheetNumber 14 = within 14 (omega arith) (omega arith) in
-    cond-numbers SheetNumber (ltb i n) (faultUnless (ltb (decodeOf s i) n) 14) (spareFault s 14 (recordWord i) orElse spareFault s 14 (recordWord i + 1))
+    cond-numbers SheetNumber (ltb i n) (faultUnless (ltb (decodeOf s i) n) 14) (spareRecord (longOf s) s (recordWord (longOf s) i))
     (unless-numbers SheetNumber none _ 14 p)
-    (or-else (spare-number s 14 _ p) (spare-number s 14 _ p))
+    (record-spare (longOf s) s _ p)
 
 check-number : (s : List ℕ) (b : ℕ) → SheetNumber (checkFault s b)
 unfolding checkFault
@@ -131,7 +161,7 @@ check-number s b = test _ 12 (omega arith) (omega arith)
 
 block-number : (s : List ℕ) (n b : ℕ) → SheetNumber (blockFault s n b)
 unfolding blockFault
-block-number s n b = or-else (check-number s b) (first-numbers SheetNumber none _ (record-number s n) _ 63)
+block-number s n b = or-else (check-number s b) (first-numbers SheetNumber none _ (record-number s n) _ _)
 
 pub sheet-numbers : (s : List ℕ) → SheetNumber (sheetFault s)
 unfolding sheetFault

@@ -1,4 +1,4 @@
-use Rattle.frames.specs.Frames.{recordWord}
+use Rattle.frames.proofs.FrameLaws.{word-long, word-short}
 use borrow.Author.Needs.{needs}
 use Rattle.frames.proofs.access.record_word.Statement.{statement}
 use Rattle.frames.proofs.access.record_word.Tie as tie
@@ -21,9 +21,39 @@ add-result-3 : tie.Need-add-result-3
 add-result-3 c = search needs
 
 returns : tie.Need-returns
-unfolding recordWord
-returns c = search needs
+returns c = (search word-long, search needs)
+
+add-result-4 : tie.Need-add-result-4
+add-result-4 c = search needs
+
+mul-result-3 : tie.Need-mul-result-3
+mul-result-3 c = search needs
+
+add-result-5 : tie.Need-add-result-5
+add-result-5 c = search needs
+
+mul-result-4 : tie.Need-mul-result-4
+mul-result-4 c = search needs
+
+add-result-6 : tie.Need-add-result-6
+add-result-6 c = search needs
+
+returns-2 : tie.Need-returns-2
+returns-2 c = (search word-short, search needs)
 
 pub record-word-spec : {M : Type 1} → statement M
 record-word-spec =
-    tie.close (tie.spec add-result mul-result add-result-2 mul-result-2 add-result-3 returns)
+    tie.close
+    (tie.spec
+    add-result
+    mul-result
+    add-result-2
+    mul-result-2
+    add-result-3
+    returns
+    add-result-4
+    mul-result-3
+    add-result-5
+    mul-result-4
+    add-result-6
+    returns-2)
