@@ -14,7 +14,7 @@ use Rattle.base.specs.Refusal.{_orElse_, faultUnless}
 use Rattle.base.proofs.Laws.{yes!, no! }
 use Rattle.base.proofs.PutLaws.{put-nil, take-put}
 use Rattle.base.proofs.RefusalLaws.{else-zero, held}
-use Rattle.frames.specs.Frames.{framesOf, timescaleOf, decodeOf}
+use Rattle.frames.specs.Frames.{framesOf, timescaleOf, longOf, decodeOf, ticksFrom}
 use Rattle.sheet.specs.Sheet.{sheetFault}
 use Rattle.base.proofs.RefusalNumbers.{else-numbers, unless-numbers}
 use Rattle.sheet.proofs.SheetLaws.{sheet-numbers, sound-head}
@@ -25,16 +25,17 @@ use Rattle.plan.proofs.SnapMeaning.{Bounded, snap-bounded, overlap-numbers, ove
 use Rattle.segment.specs.declared.segment.Segment.{Segment}
 use Rattle.segmap.specs.declared.whole.Made.{Made}
 use Rattle.segment.specs.Segment.{segment, flatOf, endBad, segmentBad, anyBad, mapBad}
-use Rattle.segmap.specs.Build.{ticksFrom, sourceStart, rangeTicks, rangeFault, rangesFault, segmentIn, segmentsIn}
+use Rattle.segmap.specs.Build.{sourceStart, rangeTicks, keptTicks, rangeFault, rangesFault, keptNumber, segmentIn, segmentsIn}
 use Rattle.segmap.specs.Map.{rangesFor, snappedOf, mapNumber, Map, mapAnswer, mapOf, madeOf}
 use Rattle.segment.proofs.SegmentLaws.{flat-back}
-use Rattle.segmap.proofs.TicksLaws.{ticks-none, ticks-split, ticks-more, ticks-most, ticks-within}
+use Rattle.frames.proofs.TicksLaws.{ticks-none, ticks-split, ticks-more, ticks-most, ticks-within}
+use Rattle.segmap.proofs.KeptLaws.{segments-count, flat-length}
 use Rattle.segmap.proofs.BuildLaws.{fault-free, faults-cut}
-use Rattle.segmap.proofs.MapLaws.{segments-count, snapped-length}
+use Rattle.segmap.proofs.MapLaws.{snapped-length}
 
--- ---- the numbers of document 01's table: 0 to 14, 16 and 20
+-- ---- the numbers of document 01's table: 0 to 14, 16, 20 and 26
 abbrev pub MapNumber : ℕ → Type 0
-MapNumber k = (k ≤ 14) ⊎ ((k ≡ 16) ⊎ (k ≡ 20))
+MapNumber k = (k ≤ 14) ⊎ ((k ≡ 16) ⊎ ((k ≡ 20) ⊎ (k ≡ 26)))
 
 range-number : (s : List ℕ) (n a e : ℕ) → rangeFault s n a e ≤ 10
 unfolding rangeFault
@@ -55,23 +56,23 @@ or-else {a} {b} p q = else-numbers MapNumber a b p q
 argument : (t : Bool) → MapNumber (faultUnless t 16)
 argument t = unless-numbers MapNumber (inl (omega arith)) t 16 (inr (inl refl))
 
+kept-number : (s : List ℕ) (n : ℕ) (l : List ℕ) → MapNumber (keptNumber s n l)
+unfolding keptNumber
+kept-number s n l =
+    or-else (⊎-elim (λ e. inl (omega (arith, e))) (λ e. inl (omega (arith, e))) (overlap-numbers 0 l))
+    (or-else (inl (omega (arith, ranges-number s n l)))
+    (unless-numbers MapNumber (inl (omega arith)) (leb (keptTicks s l) mostTicks) 26 (inr (inr (inr refl)))))
+
 pub map-numbers : (sheet list : List ℕ) (d lent : ℕ) → MapNumber (mapNumber sheet list d lent)
 unfolding mapNumber
 map-numbers sheet list d lent =
     or-else (argument (leb (6 * mostSegments) lent))
     (or-else (argument (leb d 1))
     (or-else (⊎-elim (λ e. inl (omega (arith, e))) (λ h. inl (omega (arith, h .1))) (sheet-numbers sheet))
-    (or-else (⊎-elim (λ h. inl (omega (arith, h))) (λ e. inr (inr e)) (list-number-table list))
-    (or-else (⊎-elim (λ e. inl (omega (arith, e))) (λ e. inl (omega (arith, e))) (overlap-numbers 0 (snappedOf sheet list d)))
-    (inl (omega (arith, ranges-number sheet (framesOf sheet) (snappedOf sheet list d))))))))
+    (or-else (⊎-elim (λ h. inl (omega (arith, h))) (λ e. inr (inr (inl e))) (list-number-table list))
+    (kept-number sheet (framesOf sheet) (snappedOf sheet list d)))))
 
 -- ---- segments of ranges that have passed 8, 9 and 10
--- their durations together
-unfoldable pub keptTicks : List ℕ → List ℕ → ℕ
-keptTicks s [] = 0
-keptTicks s (a ∷ []) = 0
-keptTicks s (a ∷ e ∷ r) = rangeTicks s a e + keptTicks s r
-
 -- source start and duration end where the sum of the samples up to there ends
 pub source-end : (s : List ℕ) (a e : ℕ) → sourceStart s a + rangeTicks s a e ≡ ticksFrom s 0 (decodeOf s a + (e - a))
 unfolding sourceStart rangeTicks
@@ -106,11 +107,11 @@ none-bad s n o (a ∷ e ∷ r) f b z t k =
     (segment-good a e (sourceStart s a) (e - a) o (rangeTicks s a e) (omega (arith, b .0)) (omega (arith, b .1 .0)) (omega (arith, b .1 .0)) p (omega arith))
     (none-bad s n (o + rangeTicks s a e) r f (b .1 .1) (h .1) t (omega arith))
 
--- ---- 32-bit durations give both sums
-module _ (s : List ℕ) (bytes : (j : ℕ) → getD s j 0 < 256) (n : ℕ) where
+-- ---- in the first layout, with durations of 32 bits, neither sum is above the limit: 26 does not occur
+module _ (s : List ℕ) (bytes : (j : ℕ) → getD s j 0 < 256) (short : longOf s ≡ false) (n : ℕ) where
   range-most : (a e : ℕ) → rangeTicks s a e ≤ 4294967295 * (e - a)
   unfolding rangeTicks
-  range-most a e = ticks-most s bytes (decodeOf s a) (e - a)
+  range-most a e = ticks-most s bytes short (decodeOf s a) (e - a)
 
   -- ranges that come one after the other from p on take no more than the frames from there
   kept-most : (p : ℕ) (l : List ℕ) → p ≤ n → Bounded n l → overlapsFault p l ≡ 0 → rangesFault s n l ≡ 0 → keptTicks s l ≤ 4294967295 * (n - p)
@@ -124,17 +125,12 @@ module _ (s : List ℕ) (bytes : (j : ℕ) → getD s j 0 < 256) (n : ℕ) where
       omega (arith, g .0, u .0, b .1 .0, range-most a e, kept-most e r (b .1 .0) (b .1 .1) (u .1) (w .1))
 
   pub samples-within : n ≤ mostFrames → ticksFrom s 0 n ≤ mostTicks
-  samples-within h = ticks-within s bytes 0 n h
+  samples-within h = ticks-within s bytes short 0 n h
 
   pub kept-within : (l : List ℕ) → n ≤ mostFrames → Bounded n l → overlapsFault 0 l ≡ 0 → rangesFault s n l ≡ 0 → keptTicks s l ≤ mostTicks
   kept-within l h b v z = omega (arith, kept-most 0 l (omega arith) b v z)
 
 -- ---- the flat numbers of segments
-pub flat-length : (xs : List Segment) → length (flatOf xs) ≡ 6 * length xs
-unfolding flatOf
-flat-length [] = refl
-flat-length (x ∷ xs) = omega (arith, flat-length xs)
-
 pub flat-good : (xs : List Segment) → length xs ≤ mostSegments → anyBad xs ≡ false → mapBad (flatOf xs) ≡ false
 unfolding mapBad
 flat-good xs h g =
@@ -241,6 +237,14 @@ pub record MadeParts (sheet list : List ℕ) (d lent : ℕ) : Type 0 where
   pub list-sound : listNumber list ≡ 0
   pub apart : overlapsFault 0 (snappedOf sheet list d) ≡ 0
   pub ranges : rangesFault sheet (framesOf sheet) (snappedOf sheet list d) ≡ 0
+  pub kept : keptTicks sheet (snappedOf sheet list d) ≤ mostTicks
+
+kept-parts : (s : List ℕ) (n : ℕ) (l : List ℕ) → keptNumber s n l ≡ 0 → (overlapsFault 0 l ≡ 0) × (rangesFault s n l ≡ 0) × (keptTicks s l ≤ mostTicks)
+unfolding keptNumber
+kept-parts s n l z =
+    let a = else-zero _ _ z in
+    let b = else-zero _ _ (a .1) in
+    (a .0, b .0, leb-true _ _ (held _ 26 (omega arith) (b .1)))
 
 module _ (sheet list : List ℕ) (d lent : ℕ) (made : mapNumber sheet list d lent ≡ 0) where
   -- it has passed every test
@@ -251,7 +255,7 @@ module _ (sheet list : List ℕ) (d lent : ℕ) (made : mapNumber sheet list d l
       let b = else-zero _ _ (a .1) in
       let c = else-zero _ _ (b .1) in
       let e = else-zero _ _ (c .1) in
-      let f = else-zero _ _ (e .1) in
+      let f = kept-parts sheet (framesOf sheet) (snappedOf sheet list d) (e .1) in
       record {
         room = leb-true _ _ (held _ 16 (omega arith) (a .0));
         direction = leb-true _ _ (held _ 16 (omega arith) (b .0));
@@ -259,6 +263,7 @@ module _ (sheet list : List ℕ) (d lent : ℕ) (made : mapNumber sheet list d l
         list-sound = e .0;
         apart = f .0;
         ranges = f .1;
+        kept = f .2;
       }
 
   answer-made : mapOf sheet list d lent ≡ mapAnswer 0 (timescaleOf sheet) (segmentsIn sheet 0 (snappedOf sheet list d))

@@ -19,17 +19,14 @@ use Rattle.sheet.proofs.SheetLaws.{sound-head, sound-answer, refused-answer}
 use Rattle.trim.specs.TrimList.{listNumber, rangesOf, rangeCount, parseOf, rangePlaces}
 use Rattle.trim.specs.declared.list.Parsed.{Parsed}
 use Rattle.trim.proofs.RangeLaws.{parse-number, parse-lent, range-count-most, ranges-length, answered-count, places-front}
-use Rattle.plan.specs.Snap.{snapAll, overlapsFault}
+use Rattle.plan.specs.Snap.{snapAll}
 use Rattle.plan.proofs.SnapLaws.{snap-length}
 use Rattle.segment.specs.declared.segment.Segment.{Segment}
 use Rattle.segmap.specs.declared.whole.Made.{Made}
 use Rattle.segment.specs.Segment.{flatOf}
-use Rattle.segmap.specs.Build.{rangeTicks, rangesFault, segmentsIn}
+use Rattle.segmap.specs.Build.{keptNumber, segmentsIn}
+use Rattle.segmap.proofs.KeptLaws.{segments-count}
 use Rattle.segmap.specs.Map.{rangesFor, snappedOf, mapNumber, mapAnswer, mapOf, made, madeOf}
-
--- ---- snapped ranges tested: f is the overlap's number and g that of the ranges
-pub ranges-kept : (a b f g : ℕ) → f ≡ a → f ≡ 0 → g ≡ b → g ≡ 0 → 0 ≡ a orElse b
-ranges-kept a b f g e z q y = else-next a b f 0 e z (sym y ∙ q)
 
 -- ---- an answer by its number
 answer-refused : (k t : ℕ) (xs : List Segment) → (k ≡ 0 → ⊥) → madeOf (mapAnswer k t xs) ≡ made k 0 0
@@ -83,7 +80,7 @@ module _ (s list : List ℕ) (d lent : ℕ) where
   direction-map m h k = refused-map 16 (number-direction h k) (omega arith) m
 
   module _ (room : 6 * mostSegments ≤ lent) (dir : d ≤ 1) where
-    past-arguments : mapNumber s list d lent ≡ sheetFault s orElse (listNumber list orElse (overlapsFault 0 (snappedOf s list d) orElse rangesFault s (framesOf s) (snappedOf s list d)))
+    past-arguments : mapNumber s list d lent ≡ sheetFault s orElse (listNumber list orElse (keptNumber s (framesOf s) (snappedOf s list d)))
     unfolding mapNumber faultUnless _orElse_
     past-arguments = rw (le-leb (6 * mostSegments) lent room, le-leb d 1 dir)
 
@@ -144,13 +141,6 @@ module _ (list l : List ℕ) (p : Parsed) (e : p ≡ parseOf list (length l)) (p
         ∙ ap (snapAll s n d) f
         ∙ ap (λ (k : ℕ). snapAll s k d (rangesOf list)) en
 
--- as many segments as ranges
-pub segments-count : (s : List ℕ) (o k : ℕ) (l : List ℕ) → length l ≡ 2 * k → length (segmentsIn s o l) ≡ k
-unfolding segmentsIn
-segments-count s o k [] h = omega arith
-segments-count s o k (a ∷ []) h = absurd (omega arith)
-segments-count s o k (a ∷ e ∷ r) h = omega (arith, segments-count s (o + rangeTicks s a e) (k - 1) r (omega arith))
-
 pub snapped-length : (s list : List ℕ) (d : ℕ) → listNumber list ≡ 0 → length (snappedOf s list d) ≡ 2 * rangeCount list
 unfolding snappedOf rangesFor
 snapped-length s list d z = snap-length s (framesOf s) d (rangesOf list) ∙ ranges-length list z
@@ -158,7 +148,7 @@ snapped-length s list d z = snap-length s (framesOf s) d (rangesOf list) ∙ ran
 -- ---- a sound sheet, and the list's answer p
 module _ (s list : List ℕ) (d n lent : ℕ) (l m w : List ℕ) (p : Parsed) (sound : sheetFault s ≡ 0) (en : n ≡ framesOf s) (dir : d ≤ 1) (room : 6 * mostSegments ≤ lent)
     (e : p ≡ parseOf list (length l)) (places : mostPlaces ≤ length l) where
-  past-sheet : (v : ℕ) → v ≡ listNumber list orElse (overlapsFault 0 (snappedOf s list d) orElse rangesFault s (framesOf s) (snappedOf s list d)) → v ≡ mapNumber s list d lent
+  past-sheet : (v : ℕ) → v ≡ listNumber list orElse (keptNumber s (framesOf s) (snappedOf s list d)) → v ≡ mapNumber s list d lent
   past-sheet v q = else-next _ _ (sheetFault s) v refl sound q ∙ sym (past-arguments s list d lent room dir)
 
   -- the list is refused
@@ -174,7 +164,7 @@ module _ (s list : List ℕ) (d n lent : ℕ) (l m w : List ℕ) (p : Parsed) (s
 
   -- the list is read; g is the number of its snapped ranges
   module _ (z : p .number ≡ 0) (em : m ≡ rangePlaces list l) (ew : w ≡ put (snapAll s n d (take (2 * p .count) m)) m) (g : ℕ)
-      (eg : g ≡ overlapsFault 0 (take (2 * p .count) w) orElse rangesFault s n (take (2 * p .count) w)) where
+      (eg : g ≡ keptNumber s n (take (2 * p .count) w)) where
     snapped : take (2 * p .count) w ≡ snappedOf s list d
     snapped = snapped-is list l p e places z s n d m w en em ew
 
@@ -183,8 +173,8 @@ module _ (s list : List ℕ) (d n lent : ℕ) (l m w : List ℕ) (p : Parsed) (s
         past-sheet g
         (else-next _ _ (p .number) g (list-number list l p e places) z
         (eg
-        ∙ ap (λ (x : List ℕ). overlapsFault 0 x orElse rangesFault s n x) snapped
-        ∙ ap (λ (k : ℕ). overlapsFault 0 (snappedOf s list d) orElse rangesFault s k (snappedOf s list d)) en))
+        ∙ ap (λ (x : List ℕ). keptNumber s n x) snapped
+        ∙ ap (λ (k : ℕ). keptNumber s k (snappedOf s list d)) en))
 
     pub ranges-made : (r : Made) → (g ≡ 0 → ⊥) → r ≡ made g 0 0 → r ≡ madeOf (mapOf s list d lent)
     ranges-made r h q = refused-made s list d lent g number-ranges h r q

@@ -8,10 +8,10 @@ use Rattle.base.specs.Refusal.{_orElse_, faultUnless}
 use Rattle.frames.specs.Frames.{framesOf, timescaleOf}
 use Rattle.sheet.specs.Sheet.{sheetFault}
 use Rattle.trim.specs.TrimList.{listNumber, rangesOf}
-use Rattle.plan.specs.Snap.{snapAll, overlapsFault}
+use Rattle.plan.specs.Snap.{snapAll}
 use Rattle.segment.specs.declared.segment.Segment.{Segment}
 use Rattle.segmap.specs.declared.whole.Made.{Made}
-use Rattle.segmap.specs.Build.{rangesFault, segmentsIn}
+use Rattle.segmap.specs.Build.{keptNumber, segmentsIn}
 
 -- the ranges that a list keeps of n frames
 unfoldable pub rangesFor : ℕ → List ℕ → List ℕ
@@ -22,15 +22,14 @@ unfoldable pub snappedOf : (sheet list : List ℕ) (direction : ℕ) → List �
 snappedOf sheet list d = snapAll sheet (framesOf sheet) d (rangesFor (framesOf sheet) list)
 
 -- the number of the call, where `lent` places are lent for the map: 16 for a short map or another direction than 0 or 1, before all else; then
--- the sheet's, then the list's, then 8 for all pairs, then 9 and 10 range by range
+-- the sheet's, then the list's, then those of the snapped ranges
 unfoldable pub mapNumber : (sheet list : List ℕ) (direction lent : ℕ) → ℕ
 mapNumber sheet list d lent =
     faultUnless (leb (6 * mostSegments) lent) 16 orElse
     faultUnless (leb d 1) 16 orElse
     sheetFault sheet orElse
     listNumber list orElse
-    overlapsFault 0 (snappedOf sheet list d) orElse
-    rangesFault sheet (framesOf sheet) (snappedOf sheet list d)
+    keptNumber sheet (framesOf sheet) (snappedOf sheet list d)
 
 -- ---- the answer
 pub record Map : Type 0 where

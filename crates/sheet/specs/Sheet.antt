@@ -5,10 +5,10 @@ use mathlib.Core.Bool.{Bool, true, false, cond}
 use mathlib.Core.List.{List, [], _∷_}
 use lib.ListN.{length}
 use lib.Dec.{ltb, leb, eqb}
-use Rattle.base.specs.Limits.{mostSheetTimescale, mostTimescale, mostFrames}
+use Rattle.base.specs.Limits.{mostSheetTimescale, mostTimescale, mostFrames, mostTicks}
 use Rattle.base.specs.Refusal.{_orElse_, faultUnless, firstOf}
 use Rattle.blocks.specs.Block.{wordAt, blockHolds}
-use Rattle.frames.specs.Frames.{timescaleOf, framesOf, rateNumOf, rateDenOf, longOf, perBlock, recordWord, decodeOf}
+use Rattle.frames.specs.Frames.{timescaleOf, framesOf, rateNumOf, rateDenOf, longOf, perBlock, recordWord, decodeOf, ticksFrom}
 use Rattle.sheet.specs.declared.answer.Head.{Head}
 use Rattle.sheet.specs.declared.answer.Sheet.{Sheet}
 use Rattle.sheet.specs.declared.answer.Sheet.the-variants.{Sound, Refused}
@@ -74,6 +74,10 @@ sheetFault s =
     headFault s orElse
     faultUnless (eqb (length s) (512 * (1 + recordBlocks (longOf s) (framesOf s)))) 11 orElse
     firstOf (blockFault s (framesOf s)) 1 (recordBlocks (longOf s) (framesOf s))
+
+-- the durations of n samples together are at most 2^53 (26)
+unfoldable pub totalFault : List ℕ → ℕ → ℕ
+totalFault s n = faultUnless (leb (ticksFrom s 0 n) mostTicks) 26
 
 -- block 0's values
 unfoldable pub headOf : List ℕ → Head
