@@ -1,5 +1,5 @@
 //! Answers the oracle's stream of cases (ops 1, 2 and 4) through the C functions: a line for each case.
-//! `list N`, `sheet N` (11 to 14, else 0) or `converted V` / `refused N`.
+//! `list N`, `sheet N` (11 to 14 or 25, else 0) or `converted V` / `refused N`.
 use std::io::{BufWriter, Read, Write};
 
 fn word(s: &[u8], k: usize) -> u32 {
@@ -15,13 +15,14 @@ fn main() {
     std::io::stdin().read_to_end(&mut input).unwrap();
     let mut out = BufWriter::new(std::io::stdout());
     let mut s = &input[..];
+    let mut work = vec![0; retimer::MOST_WORK];
     while s.len() >= 32 {
         let (op, a, b, c) = (word(s, 0), word(s, 1), word(s, 2), word(s, 3));
         let (x, y, z) = (word(s, 5) as usize, word(s, 6) as usize, word(s, 7) as usize);
         let part = &s[32..32 + x];
         match op {
             1 => writeln!(out, "list {}", number(retimer::check_list(part))),
-            2 => writeln!(out, "sheet {}", number(retimer::check_sheet(part))),
+            2 => writeln!(out, "sheet {}", number(retimer::check_sheet(part, &mut work))),
             4 => {
                 let value = u64::from_le_bytes(part.try_into().unwrap());
                 // a unit that is neither 100 nor 1000 is a kind that there is not

@@ -1,9 +1,9 @@
 //! Safe functions over the retimer's static library. Each has the contract of the proved function that it calls: it
-//! returns on every input and writes nothing.
+//! returns on every input, and writes nothing but the work bytes of the sheet's check.
 
 #[link(name = "cutter", kind = "static")]
 extern "C" {
-    fn retimer_sheet_check(sheet: *const u8, length: usize) -> u32;
+    fn retimer_sheet_check(sheet: *const u8, length: usize, work: *mut u8, work_length: usize) -> u32;
     fn retimer_list_check(list: *const u8, length: usize) -> u32;
     fn retimer_units_to_ticks(value: u64, timescale: u32, kind: u32) -> u64;
     fn retimer_ticks_to_units_floor(value: u64, timescale: u32, kind: u32) -> u64;
@@ -49,12 +49,16 @@ fn by_number(number: u32) -> Result<(), Refused> {
     }
 }
 
-/// Whether `sheet` is a sound frame sheet: 11 length, 12 block, 13 head, 14 record.
-pub fn check_sheet(sheet: &[u8]) -> Result<(), Refused> {
-    by_number(unsafe { retimer_sheet_check(sheet.as_ptr(), sheet.len()) })
+/// Work bytes that are enough for every sheet.
+pub const MOST_WORK: usize = 131_072;
+
+/// Whether `sheet` is a sound frame sheet: 11 length, 12 block, 13 head, 14 record, 16 too few work bytes, 25 a sample
+/// named twice. A sheet of n frames needs n / 8 work bytes, rounded up; with `Ok` and 25 they end zero, and any others stay.
+pub fn check_sheet(sheet: &[u8], work: &mut [u8]) -> Result<(), Refused> {
+    by_number(unsafe { retimer_sheet_check(sheet.as_ptr(), sheet.len(), work.as_mut_ptr(), work.len()) })
 }
 
-/// Whether `list` is a good trim list: 1 to 7, or 20 for bytes that are not UTF-8.
+/// Whether `list` is a good trim list, or a blank one, which keeps the whole play: else 2 to 7, or 20 for bytes that are not UTF-8.
 pub fn check_list(list: &[u8]) -> Result<(), Refused> {
     by_number(unsafe { retimer_list_check(list.as_ptr(), list.len()) })
 }

@@ -8,7 +8,7 @@ use Rattle.sheet_vectors.specs.Small.{smallSheet}
 use Rattle.plan.specs.Snap.{lastBelow, firstFrom, floorSync, ceilSync, snapStart, snapEnd, snapAll, overlapsFault}
 use Rattle.segment.specs.Segment.{flatOf}
 use Rattle.segmap.specs.Build.{ticksFrom, sourceStart, rangeTicks, rangeFault, rangesFault, segmentIn, segmentsIn}
-use Rattle.sheet.specs.Sheet.{sheetFault}
+use Rattle.sheet.specs.Sheet.{sheetFault, sheetNumber}
 use Rattle.segmap.specs.Map.{mapNumber}
 use Rattle.map_vectors.specs.Turned.{crossed, backward}
 
@@ -68,10 +68,10 @@ unfolding flatOf segmentsIn segmentIn sourceStart rangeTicks ticksFrom backward 
 backward-order = refl
 
 -- 16: one place fewer than 1,024 segments take, or a direction above 1, before the 11 of an empty sheet
-map-places : map (mapNumber [] [] 0) (6143 ∷ 6144 ∷ []) ≡ 16 ∷ 11 ∷ []
-unfolding mapNumber sheetFault faultUnless _orElse_
+map-places : map (λ lent. mapNumber [] [] 0 lent 0) (6143 ∷ 6144 ∷ []) ≡ 16 ∷ 11 ∷ []
+unfolding mapNumber sheetNumber sheetFault faultUnless _orElse_
 map-places = refl
 
-map-directions : map (λ d. mapNumber [] [] d 6144) (0 ∷ 1 ∷ 2 ∷ []) ≡ 11 ∷ 11 ∷ 16 ∷ []
-unfolding mapNumber sheetFault faultUnless _orElse_
+map-directions : map (λ d. mapNumber [] [] d 6144 0) (0 ∷ 1 ∷ 2 ∷ []) ≡ 11 ∷ 11 ∷ 16 ∷ []
+unfolding mapNumber sheetNumber sheetFault faultUnless _orElse_
 map-directions = refl

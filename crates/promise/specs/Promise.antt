@@ -16,8 +16,7 @@
 -- Beside its words: a caption that is written, read again, gives the times written (Demand: `again`), and open answers 0 (`opens`).
 use mathlib.Core.Path.{_≡_}
 use mathlib.Core.List.{List}
-use Prim.Native.Nat.{ℕ, _<_}
-use lib.ListN.{getD}
+use Prim.Native.Nat.{ℕ}
 use Rattle.time.specs.Kind.{kindBad}
 use mathlib.Core.Bool.{false}
 use Rattle.segment.specs.declared.segment.Segment.{Segment}
@@ -51,12 +50,12 @@ PromiseRecords =
 
 -- a sheet and a trim list that are accepted, the map built from them in either direction, and a fresh session of either kind opened with it and the
 -- sheet's T: open answers 0, and the promise is kept
-pub record Holds (sheet list : List ℕ) (direction lent kind : ℕ) (o : Opened) : Type 0 where
+pub record Holds (sheet list : List ℕ) (direction lent work kind : ℕ) (o : Opened) : Type 0 where
   pub opens : o .number ≡ 0
-  pub kept : Kept kind (mapOf sheet list direction lent .timescale) (flatOf (mapOf sheet list direction lent .segments)) o
+  pub kept : Kept kind (mapOf sheet list direction lent work .timescale) (flatOf (mapOf sheet list direction lent work .segments)) o
 
 abbrev pub Promise : Type 0
 Promise =
-    (sheet list : List ℕ) (direction lent kind : ℕ) → ((j : ℕ) → getD sheet j 0 < 256) → mapOf sheet list direction lent .number ≡ 0 → kindBad kind ≡ false
-    → (o : Opened) → OpenAnswered kind (mapOf sheet list direction lent .timescale) (flatOf (mapOf sheet list direction lent .segments)) o
-    → Holds sheet list direction lent kind o
+    (sheet list : List ℕ) (direction lent work kind : ℕ) → mapOf sheet list direction lent work .number ≡ 0 → kindBad kind ≡ false
+    → (o : Opened) → OpenAnswered kind (mapOf sheet list direction lent work .timescale) (flatOf (mapOf sheet list direction lent work .segments)) o
+    → Holds sheet list direction lent work kind o

@@ -3,3 +3,4 @@ pub mod BuildLaws
 pub mod KeptLaws
 pub mod MapLaws
 pub mod Built
+pub mod Blank

@@ -2,6 +2,7 @@
 use crate::building::build;
 use crate::faults::ranges_fault;
 use sheet::Sheet;
+use trim::Parsed;
 ghost use mathlib.Core.Path.{_≡_};
 ghost use Prim.Native.Nat.{_*_, _≤_};
 ghost use lib.ListN.{length, take};
@@ -11,7 +12,7 @@ ghost use Rattle.frames.specs.Frames.{framesOf, timescaleOf, ticksFrom};
 ghost use Rattle.sheet.specs.Sheet.{sheetFault};
 ghost use Rattle.segment.specs.Segment.{flatOf};
 ghost use Rattle.segmap.specs.Build.{keptNumber, segmentsIn};
-ghost use Rattle.segmap.specs.Map.{made, madeOf, mapOf};
+ghost use Rattle.segmap.specs.Map.{rangesFor, keptOf, made, madeOf, cutOf, mapOf, mapWork};
 
 // What a call gives: 0 with the sheet's timescale and how many segments were written, or the number of the refusal and zeros.
 pub struct Made {
@@ -67,6 +68,29 @@ fn keep(s: &[u8], n: u32, ranges: &[u32], count: usize, map: &mut [u64]) -> u32
     0
 }
 
+// Reads the list into `ranges`: a blank one has the range of all n frames.
+fn ranges_of(list: &[u8], n: u32, ranges: &mut [u32]) -> Parsed
+    requires { ⌜ mostPlaces ≤ length (now ranges) ⌝ }
+    ensures { λ r. ⌜ r ≡ keptOf (now (list .entry)) ⌝ }
+    ensures { λ r. ⌜ (r .number ≡ 0 → take (2 * r .count) (now (ranges .exit)) ≡ rangesFor n (now (list .entry))) ⌝ }
+{
+    let p = trim::parse(list, ranges);
+    let f = p.number;
+    if f != 0 {
+        return p;
+    }
+    let count = p.count;
+    if count != 0 {
+        return p;
+    }
+    ranges[0] = 0;
+    ranges[1] = n;
+    Parsed {
+        number: 0,
+        count: 1,
+    }
+}
+
 // Reads the list into `ranges`, snaps them and writes their segments, of a sheet without a fault.
 fn map_ranges(
     s: &[u8],
@@ -77,12 +101,12 @@ fn map_ranges(
     ranges: &mut [u32],
     map: &mut [u64],
 ) -> Made
-    requires { ⌜ (sheetFault (now s) ≡ 0) × (n ≡ framesOf (now s)) × (timescale ≡ timescaleOf (now s)) ⌝ }
+    requires { ⌜ (sheetFault (now s) ≡ 0) × (n ≡ framesOf (now s)) × (timescale ≡ timescaleOf (now s)) × (ticksFrom (now s) 0 n ≤ mostTicks) ⌝ }
     requires { ⌜ (direction ≤ 1) × (mostPlaces ≤ length (now ranges)) × (6 * mostSegments ≤ length (now map)) ⌝ }
-    ensures { λ r. ⌜ r ≡ madeOf (mapOf (now (s .entry)) (now (list .entry)) direction (length (now (map .entry)))) ⌝ }
-    ensures { λ _. ⌜ now (map .exit) ≡ put (flatOf (mapOf (now (s .entry)) (now (list .entry)) direction (length (now (map .entry))) .segments)) (now (map .entry)) ⌝ }
+    ensures { λ r. ⌜ r ≡ madeOf (cutOf (now (s .entry)) (now (list .entry)) direction) ⌝ }
+    ensures { λ _. ⌜ now (map .exit) ≡ put (flatOf (cutOf (now (s .entry)) (now (list .entry)) direction .segments)) (now (map .entry)) ⌝ }
 {
-    let parsed = trim::parse(list, ranges);
+    let parsed = ranges_of(list, n, ranges);
     let f = parsed.number;
     if f != 0 {
         return refused(f);
@@ -100,10 +124,12 @@ fn map_ranges(
     }
 }
 
-// Makes the map of a sheet and a trim list, and writes it from the start of `map`, six numbers to a segment. A refusal writes nothing.
-pub fn make(sheet: &[u8], list: &[u8], direction: u32, map: &mut [u64]) -> Made
-    ensures { λ r. ⌜ r ≡ madeOf (mapOf (now (sheet .entry)) (now (list .entry)) direction (length (now (map .entry)))) ⌝ }
-    ensures { λ _. ⌜ now (map .exit) ≡ put (flatOf (mapOf (now (sheet .entry)) (now (list .entry)) direction (length (now (map .entry))) .segments)) (now (map .entry)) ⌝ }
+// Makes the map of a sheet and a trim list, and writes it from the start of `map`, six numbers to a segment. A refusal writes nothing there.
+// The work bytes are for the sheet's check.
+pub fn make(sheet: &[u8], list: &[u8], direction: u32, work: &mut [u8], map: &mut [u64]) -> Made
+    ensures { λ r. ⌜ r ≡ madeOf (mapOf (now (sheet .entry)) (now (list .entry)) direction (length (now (map .entry))) (length (now (work .entry)))) ⌝ }
+    ensures { λ _. ⌜ now (work .exit) ≡ mapWork (now (sheet .entry)) direction (length (now (map .entry))) (now (work .entry)) ⌝ }
+    ensures { λ _. ⌜ now (map .exit) ≡ put (flatOf (mapOf (now (sheet .entry)) (now (list .entry)) direction (length (now (map .entry))) (length (now (work .entry))) .segments)) (now (map .entry)) ⌝ }
 {
     if map.len() < 6 * base::MOST_SEGMENTS {
         return refused(16);
@@ -111,7 +137,7 @@ pub fn make(sheet: &[u8], list: &[u8], direction: u32, map: &mut [u64]) -> Made
     if 1 < direction {
         return refused(16);
     }
-    let a = sheet::check(sheet);
+    let a = sheet::check(sheet, work);
     match a {
         Sheet::Refused(k) => refused(k),
         Sheet::Sound(h) => {

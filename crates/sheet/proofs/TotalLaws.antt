@@ -5,9 +5,9 @@ use mathlib.Core.List.{List}
 use mathlib.Core.Path.{_≡_, sym, ap, _∙_}
 use native.Mathlib.Omega.{arith}
 use lib.ListN.{getD}
-use borrow.Author.Tests.{le-leb, lt-leb}
+use borrow.Author.Tests.{le-leb, lt-leb, leb-true}
 use Rattle.base.specs.Limits.{mostFrames, mostTicks}
-use Rattle.base.proofs.RefusalLaws.{unless-held, unless-failed}
+use Rattle.base.proofs.RefusalLaws.{held, unless-held, unless-failed}
 use Rattle.frames.specs.Frames.{longOf, durationOf, ticksFrom}
 use Rattle.frames.proofs.TicksLaws.{ticks-none, ticks-next, ticks-more, ticks-within}
 use Rattle.sheet.specs.Sheet.{totalFault}
@@ -15,6 +15,10 @@ use Rattle.sheet.specs.Sheet.{totalFault}
 pub total-held : (s : List ℕ) (n : ℕ) → ticksFrom s 0 n ≤ mostTicks → 0 ≡ totalFault s n
 unfolding totalFault
 total-held s n h = sym (unless-held 26 (le-leb (ticksFrom s 0 n) mostTicks h))
+
+pub total-within : (s : List ℕ) (n : ℕ) → totalFault s n ≡ 0 → ticksFrom s 0 n ≤ mostTicks
+unfolding totalFault
+total-within s n e = leb-true _ _ (held _ 26 (omega arith) e)
 
 pub total-failed : (s : List ℕ) (n : ℕ) → mostTicks < ticksFrom s 0 n → 26 ≡ totalFault s n
 unfolding totalFault

@@ -1,5 +1,5 @@
--- The faults of a frame sheet (document 01, "The frame sheet"), and the answer of its check. s is the sheet's bytes.
--- Crates above name the sheet by sheetFault, and by timescaleOf, framesOf, rateNumOf, rateDenOf, decodeOf, syncOf and durationOf of frames.
+-- The faults of a frame sheet (document 01, "The frame sheet"; requests 2.6 and 2.9), and the answer of its check. s is the sheet's bytes.
+-- Crates above name the sheet by sheetNumber, and by timescaleOf, framesOf, rateNumOf, rateDenOf, decodeOf, syncOf and durationOf of frames.
 use Prim.Native.Nat.{ℕ, zero, suc, _+_, _-_, _*_, _/_, _%_}
 use mathlib.Core.Bool.{Bool, true, false, cond}
 use mathlib.Core.List.{List, [], _∷_}
@@ -9,6 +9,7 @@ use Rattle.base.specs.Limits.{mostSheetTimescale, mostTimescale, mostFrames, mo
 use Rattle.base.specs.Refusal.{_orElse_, faultUnless, firstOf}
 use Rattle.blocks.specs.Block.{wordAt, blockHolds}
 use Rattle.frames.specs.Frames.{timescaleOf, framesOf, rateNumOf, rateDenOf, longOf, perBlock, recordWord, decodeOf, ticksFrom}
+use Rattle.once.specs.Once.{onceNumber, workOnce}
 use Rattle.sheet.specs.declared.answer.Head.{Head}
 use Rattle.sheet.specs.declared.answer.Sheet.{Sheet}
 use Rattle.sheet.specs.declared.answer.Sheet.the-variants.{Sound, Refused}
@@ -65,7 +66,7 @@ recordBlocks true n = (n + 41) / 42
 
 -- ---- the sheet
 
--- the first fault, in document 01's order; 0 is none
+-- the first fault in its bytes (11 to 14), in document 01's order; 0 is none
 unfoldable pub sheetFault : List ℕ → ℕ
 sheetFault s =
     faultUnless (ltb 0 (length s)) 11 orElse
@@ -79,6 +80,17 @@ sheetFault s =
 unfoldable pub totalFault : List ℕ → ℕ → ℕ
 totalFault s n = faultUnless (leb (ticksFrom s 0 n) mostTicks) 26
 
+-- the number, where `lent` work bytes are lent: after 14 comes 16 where these are too few, then 25, then 26
+unfoldable pub sheetNumber : List ℕ → (lent : ℕ) → ℕ
+sheetNumber s lent =
+    sheetFault s orElse
+    onceNumber s (framesOf s) lent orElse
+    totalFault s (framesOf s)
+
+-- the work bytes afterwards: past 14 and 16 those needed are zero, whatever the number, and any others stay
+unfoldable pub workAfter : List ℕ → List ℕ → List ℕ
+workAfter s work = cond (eqb (sheetFault s) 0) (workOnce (framesOf s) work) work
+
 -- block 0's values
 unfoldable pub headOf : List ℕ → Head
 headOf s = record { timescale = timescaleOf s; frames = framesOf s; «rate_num» = rateNumOf s; «rate_den» = rateDenOf s }
@@ -88,8 +100,8 @@ unfoldable pub sheetAnswer : ℕ → Head → Sheet
 sheetAnswer zero h = Sound h
 sheetAnswer (suc k) h = Refused (suc k)
 
-unfoldable pub sheetOf : List ℕ → Sheet
-sheetOf s = sheetAnswer (sheetFault s) (headOf s)
+unfoldable pub sheetOf : List ℕ → (lent : ℕ) → Sheet
+sheetOf s lent = sheetAnswer (sheetNumber s lent) (headOf s)
 
 -- an answer's number in document 01's table, and its values
 abbrev pub numberOf : Sheet → ℕ
