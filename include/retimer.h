@@ -12,8 +12,11 @@ extern "C" {
 
 /* Bytes are given as a pointer that is not NULL and a length in bytes, which may be 0. */
 
+/* Work bytes that are enough for the check of every sheet. */
+#define RETIMER_MOST_WORK 131072
+
 /* 0 for a sound frame sheet, else 11, 12, 13 or 14; 16 where too few work bytes are lent; 25 where two frames name the same sample.
- * The work bytes, of any value, are n / 8, rounded up, for n frames, or more: 131072 are always enough. They must not overlap the sheet.
+ * The work bytes, of any value, are n / 8, rounded up, for n frames, or more. They must not overlap the sheet.
  * With 0 and 25 those needed end zero; else all stay as they were, and bytes past those needed always do. */
 uint32_t retimer_sheet_check(const uint8_t *sheet, size_t length, uint8_t *work, size_t work_length);
 

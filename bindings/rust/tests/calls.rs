@@ -1,4 +1,4 @@
-use retimer::{check_list, check_sheet, raw, ticks_to_units_ceil, ticks_to_units_floor, units_to_ticks, Kind, Refused, MOST_WORK};
+use retimer::{check_list, check_sheet, raw, ticks_to_units_ceil, ticks_to_units_floor, units_to_ticks, Kind, Refused};
 
 /// A sheet of `n` frames, decode order = display order, each of 1001 ticks, sync at every third.
 fn sheet(n: u32) -> Vec<u8> {
@@ -31,38 +31,35 @@ fn changed(n: u32, at: usize, value: u32) -> Vec<u8> {
     words.iter().flat_map(|w| w.to_le_bytes()).collect()
 }
 
-/// The answer with the most work bytes; what is past those that `n` frames need stays.
-fn checked(sheet: &[u8]) -> Result<(), Refused> {
-    check_sheet(sheet, &mut vec![170; MOST_WORK])
-}
-
 #[test]
 fn sheets() {
     for n in [1, 10, 63, 64, 126, 127, 1000] {
-        assert_eq!(checked(&sheet(n)), Ok(()), "{n} frames");
+        assert_eq!(check_sheet(&sheet(n)), Ok(()), "{n} frames");
     }
-    assert_eq!(checked(&[]), Err(Refused(11)));
-    assert_eq!(checked(&sheet(10)[..1023]), Err(Refused(11)));
-    assert_eq!(checked(&sheet(64)[..1024]), Err(Refused(11)));
+    assert_eq!(check_sheet(&[]), Err(Refused(11)));
+    assert_eq!(check_sheet(&sheet(10)[..1023]), Err(Refused(11)));
+    assert_eq!(check_sheet(&sheet(64)[..1024]), Err(Refused(11)));
     let mut bad = sheet(10);
     bad[100] ^= 1;
-    assert_eq!(checked(&bad), Err(Refused(12)));
-    assert_eq!(checked(&changed(10, 1, 0)), Err(Refused(13)));
-    assert_eq!(checked(&changed(10, 1, 1_000_001)), Err(Refused(13)));
-    assert_eq!(checked(&changed(10, 126, 1)), Err(Refused(13)));
-    assert_eq!(checked(&changed(10, 129, 10)), Err(Refused(14)));
-    assert_eq!(checked(&changed(10, 128 + 1 + 2 * 10 + 1, 5)), Err(Refused(14)));
+    assert_eq!(check_sheet(&bad), Err(Refused(12)));
+    assert_eq!(check_sheet(&changed(10, 1, 0)), Err(Refused(13)));
+    assert_eq!(check_sheet(&changed(10, 1, 1_000_001)), Err(Refused(13)));
+    assert_eq!(check_sheet(&changed(10, 126, 1)), Err(Refused(13)));
+    assert_eq!(check_sheet(&changed(10, 129, 10)), Err(Refused(14)));
+    assert_eq!(check_sheet(&changed(10, 128 + 1 + 2 * 10 + 1, 5)), Err(Refused(14)));
 }
 
 #[test]
 fn samples_named_once() {
     let twice = changed(9, 129 + 2 * 8, 0);
     let above = changed(9, 129 + 2 * 8, 9);
+    assert_eq!(check_sheet(&twice), Err(Refused(25)));
+    assert_eq!(check_sheet(&above), Err(Refused(14)));
     for (s, number, n) in [(sheet(8), 0, 8), (sheet(9), 0, 9), (sheet(1000), 0, 1000), (twice, 25, 9), (above, 14, 9)] {
         let need = (n + 7) / 8;
         for lent in [0, need - 1, need, need + 3] {
             let mut work = vec![170u8; lent];
-            let got = check_sheet(&s, &mut work).err().map_or(0, |r| r.0);
+            let got = raw::sheet_check(&s, &mut work);
             assert_eq!(got, if number == 14 { 14 } else if lent < need { 16 } else { number }, "{n} frames, {lent} bytes");
             let zeros = if number == 14 || lent < need { 0 } else { need };
             assert!(work.iter().enumerate().all(|(k, b)| *b == if k < zeros { 0 } else { 170 }), "{n} frames, {lent} bytes");

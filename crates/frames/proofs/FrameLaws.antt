@@ -3,6 +3,7 @@ use Prim.Native.Nat.{ℕ, _+_, _*_, _/_, _%_}
 use mathlib.Core.List.{List}
 use mathlib.Core.Path.{_≡_, _∙_}
 use mathlib.Core.Bool.{Bool, true, false}
+use native.Mathlib.Omega.{arith}
 use lib.Dec.{leb, eqb}
 use Rattle.blocks.specs.Block.{wordAt}
 use Rattle.frames.specs.Frames.{longOf, recordWord, decodeIn, decodeOf, syncOf, durationOf}
@@ -21,13 +22,13 @@ unfolding syncOf
 sync-is s i w x t et ew ex = rw (ex, ew, et)
 
 -- where a record starts
-pub word-long : (i : ℕ) (t : Bool) → t ≡ true → 128 * (1 + i / 42) + 1 + 3 * (i % 42) ≡ recordWord t i
+pub word-long : (i : ℕ) (t : Bool) → t ≡ true → 129 + 2 * (i / 42) + 3 * i ≡ recordWord t i
 unfolding recordWord
-word-long i t e = rw e
+word-long i t e = rw e (omega arith)
 
-pub word-short : (i : ℕ) (t : Bool) → t ≡ false → 128 * (1 + i / 63) + 1 + 2 * (i % 63) ≡ recordWord t i
+pub word-short : (i : ℕ) (t : Bool) → t ≡ false → 129 + 2 * (i / 63 + i) ≡ recordWord t i
 unfolding recordWord
-word-short i t e = rw e
+word-short i t e = rw e (omega arith)
 
 pub duration-short : (s : List ℕ) (i w x : ℕ) (t : Bool) → t ≡ longOf s → t ≡ false → w ≡ recordWord t i → x ≡ wordAt s (w + 1) → x ≡ durationOf s i
 unfolding durationOf

@@ -40,15 +40,15 @@ pub fn long(s: &[u8]) -> bool
     blocks::word(s, 5) == 1
 }
 
-// Where record i starts, in words.
+// Where record i starts, in words: 128 to each block from block 1 on, of which its records, 63 of two words or 42 of three, take 126.
 fn record_word(long: bool, i: u32) -> usize
     ensures { λ r. ⌜ (r ≡ recordWord long i) × (r < 2 ^ 39) ⌝ }
 {
     let k = i as usize;
     if long {
-        return 128 * (1 + k / 42) + 1 + 3 * (k % 42);
+        return 129 + 2 * (k / 42) + 3 * k;
     }
-    128 * (1 + k / 63) + 1 + 2 * (k % 63)
+    129 + 2 * (k / 63 + k)
 }
 
 // The decode index in a record's first word.

@@ -288,6 +288,7 @@ pub record Answered (s : List ℕ) (lent : ℕ) (h : Head) : Type 0 where
   pub frames-is : h .frames ≡ framesOf s
   pub num-is : h .«rate_num» ≡ rateNumOf s
   pub den-is : h .«rate_den» ≡ rateDenOf s
+  pub once : EachOnce s (framesOf s)
 
 sound-by : (k : ℕ) (g h : Head) → sheetAnswer k g ≡ Sound h → (k ≡ 0) × (h ≡ g)
 unfolding sheetAnswer
@@ -306,6 +307,7 @@ sound-answer s lent h a e f =
       frames-is = ap (λ (x : Head). x .frames) (p .1);
       num-is = ap (λ (x : Head). x .«rate_num») (p .1);
       den-is = ap (λ (x : Head). x .«rate_den») (p .1);
+      once = checked s lent (p .0) .once;
     }
 
 -- and from `Refused j`

@@ -5,38 +5,29 @@ use Rattle.frames.proofs.access.record_word.Tie as tie
 use Rattle.frames.proofs.access.record_word.Reads as reads
 use Rattle.frames.proofs.access.record_word.Lts as lts
 
-add-result : tie.Need-add-result
-add-result c = search needs
-
 mul-result : tie.Need-mul-result
 mul-result c = search needs
 
-add-result-2 : tie.Need-add-result-2
-add-result-2 c = search needs
+add-result : tie.Need-add-result
+add-result c = search needs
 
 mul-result-2 : tie.Need-mul-result-2
 mul-result-2 c = search needs
 
-add-result-3 : tie.Need-add-result-3
-add-result-3 c = search needs
+add-result-2 : tie.Need-add-result-2
+add-result-2 c = search needs
 
 returns : tie.Need-returns
 returns c = (search word-long, search needs)
 
-add-result-4 : tie.Need-add-result-4
-add-result-4 c = search needs
+add-result-3 : tie.Need-add-result-3
+add-result-3 c = search needs
 
 mul-result-3 : tie.Need-mul-result-3
 mul-result-3 c = search needs
 
-add-result-5 : tie.Need-add-result-5
-add-result-5 c = search needs
-
-mul-result-4 : tie.Need-mul-result-4
-mul-result-4 c = search needs
-
-add-result-6 : tie.Need-add-result-6
-add-result-6 c = search needs
+add-result-4 : tie.Need-add-result-4
+add-result-4 c = search needs
 
 returns-2 : tie.Need-returns-2
 returns-2 c = (search word-short, search needs)
@@ -45,15 +36,12 @@ pub record-word-spec : {M : Type 1} → statement M
 record-word-spec =
     tie.close
     (tie.spec
-    add-result
     mul-result
-    add-result-2
+    add-result
     mul-result-2
-    add-result-3
+    add-result-2
     returns
-    add-result-4
+    add-result-3
     mul-result-3
-    add-result-5
-    mul-result-4
-    add-result-6
+    add-result-4
     returns-2)
