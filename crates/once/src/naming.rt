@@ -6,6 +6,7 @@ ghost use mathlib.Core.Path.{_≡_};
 ghost use Prim.Native.Nat.{_*_, _^_, _≤_, _<_};
 ghost use lib.ListN.{length, replicate};
 ghost use Rattle.base.specs.Refusal.{firstOf};
+ghost use Rattle.frames.specs.Frames.{longOf, decodeOf};
 ghost use Rattle.once.specs.Once.{repeatFault, workBytes, onceNumber, workOnce};
 
 // How many work bytes n frames need.
@@ -15,14 +16,23 @@ fn work_bytes(n: u32) -> usize
     (n as usize + 7) / 8
 }
 
+// The decode index of display frame i, where the layout is known.
+fn decode_told(s: &[u8], two: bool, i: u32) -> u32
+    requires { ⌜ two ≡ longOf (now s) ⌝ }
+    ensures { λ r. ⌜ r ≡ decodeOf (now (s .entry)) i ⌝ }
+{
+    frames::decode_by(s, two, DisplayIdx(i)).0
+}
+
 // The first of n records whose decode index is not below n, or was met before (25); 0 for none. The bits are clear at first.
 fn pass(s: &[u8], n: u32, bits: &mut [u8]) -> u32
     requires { ⌜ (n ≤ 8 * length (now bits)) × (now bits ≡ replicate (length (now bits)) 0) ⌝ }
     ensures { λ r. ⌜ r ≡ firstOf (repeatFault (now (s .entry)) n) 0 n ⌝ }
 {
+    let two = frames::long(s);
     let mut i: u32 = 0;
     while i < n {
-        let d = frames::decode_at(s, DisplayIdx(i)).0;
+        let d = decode_told(s, two, i);
         if n <= d {
             return 25;
         }
