@@ -1,7 +1,7 @@
 -- Laws of what a record of a sheet says.
 use Prim.Native.Nat.{ℕ, _+_, _*_, _/_, _%_}
 use mathlib.Core.List.{List}
-use mathlib.Core.Path.{_≡_, _∙_}
+use mathlib.Core.Path.{_≡_, sym, _∙_}
 use mathlib.Core.Bool.{Bool, true, false}
 use native.Mathlib.Omega.{arith}
 use lib.Dec.{leb, eqb}
@@ -11,6 +11,10 @@ use Rattle.frames.specs.Frames.{longOf, recordWord, decodeIn, decodeBy, 
 pub long-is : (s : List ℕ) (x : ℕ) → x ≡ wordAt s 5 → eqb x 1 ≡ longOf s
 unfolding longOf
 long-is s x e = rw e
+
+-- the layout told as a constant
+pub told-as : (t u v : Bool) → t ≡ u → t ≡ v → v ≡ u
+told-as t u v e f = sym f ∙ e
 
 -- x is the word at w, t the layout, d the decode index in the word
 pub decode-by-is : (s : List ℕ) (i w x d : ℕ) (t : Bool) → w ≡ recordWord t i → x ≡ wordAt s w → d ≡ decodeIn x → d ≡ decodeBy t s i

@@ -25,11 +25,10 @@ fn decode_told(s: &[u8], two: bool, i: u32) -> u32
 }
 
 // The first of n records whose decode index is not below n, or was met before (25); 0 for none. The bits are clear at first.
-fn pass(s: &[u8], n: u32, bits: &mut [u8]) -> u32
-    requires { ⌜ (n ≤ 8 * length (now bits)) × (now bits ≡ replicate (length (now bits)) 0) ⌝ }
+fn pass(s: &[u8], two: bool, n: u32, bits: &mut [u8]) -> u32
+    requires { ⌜ (two ≡ longOf (now s)) × (n ≤ 8 * length (now bits)) × (now bits ≡ replicate (length (now bits)) 0) ⌝ }
     ensures { λ r. ⌜ r ≡ firstOf (repeatFault (now (s .entry)) n) 0 n ⌝ }
 {
-    let two = frames::long(s);
     let mut i: u32 = 0;
     while i < n {
         let d = decode_told(s, two, i);
@@ -44,13 +43,24 @@ fn pass(s: &[u8], n: u32, bits: &mut [u8]) -> u32
     0
 }
 
+// The same by the sheet's layout, told as a constant.
+fn pass_by_layout(s: &[u8], n: u32, bits: &mut [u8]) -> u32
+    requires { ⌜ (n ≤ 8 * length (now bits)) × (now bits ≡ replicate (length (now bits)) 0) ⌝ }
+    ensures { λ r. ⌜ r ≡ firstOf (repeatFault (now (s .entry)) n) 0 n ⌝ }
+{
+    if frames::long(s) {
+        return pass(s, true, n, bits);
+    }
+    pass(s, false, n, bits)
+}
+
 // The pass over bytes of any value, which end zero.
 fn clean_pass(s: &[u8], n: u32, bits: &mut [u8]) -> u32
     requires { ⌜ n ≤ 8 * length (now bits) ⌝ }
     ensures { λ r. ⌜ (r ≡ firstOf (repeatFault (now (s .entry)) n) 0 n) × (now (bits .exit) ≡ replicate (length (now (bits .entry))) 0) ⌝ }
 {
     clear(bits);
-    let f = pass(s, n, bits);
+    let f = pass_by_layout(s, n, bits);
     clear(bits);
     f
 }

@@ -11,18 +11,14 @@ use Rattle.once.proofs.naming.pass.Statement.{statement}
 use Rattle.once.proofs.naming.pass.Tie as tie
 use Rattle.once.proofs.naming.pass.Reads as reads
 use Rattle.once.proofs.naming.pass.Lts as lts
-use Rattle.frames.proofs.long.Reads as long-reads
 use Rattle.once.proofs.naming.decode_told.Reads as decode-told-reads
 use Rattle.once.proofs.marks.mark.Reads as mark-reads
 
 abbrev Inv-loop : tie.InvT-loop
-Inv-loop s n bits₀ two i₀ bits i = (i ≤ n) × (length bits ≡ length bits₀) × Seen s i bits × (firstOf (repeatFault s n) i (n - i) ≡ firstOf (repeatFault s n) 0 n)
+Inv-loop s two n bits₀ i₀ bits i = (i ≤ n) × (length bits ≡ length bits₀) × Seen s i bits × (firstOf (repeatFault s n) i (n - i) ≡ firstOf (repeatFault s n) 0 n)
 
 abbrev μ-loop : tie.MeasureT-loop
-μ-loop s n bits₀ two i₀ bits i = n - i
-
-long-requires : tie.Need-long-requires Inv-loop μ-loop
-long-requires c κs = search needs
+μ-loop s two n bits₀ i₀ bits i = n - i
 
 loop-holds : tie.Need-loop-holds Inv-loop μ-loop
 loop-holds c = (search needs, search needs, search seen-none, left-start _ _ _ _ (omega arith))
@@ -69,7 +65,6 @@ pass-spec =
     (tie.spec
     Inv-loop
     μ-loop
-    long-requires
     loop-holds
     decode-told-requires
     same-length
