@@ -191,9 +191,10 @@ def units(r, u, t, edges, span):
     return max(0, min(v, MOST[u]))
 
 
-def time_text(r, u, v, plain=0.85):
+def time_text(r, u, v, plain=0.85, points=0):
+    """A time as text; points: how often an SRT time has a point."""
     h, m, s, f = v // (3600 * u), v // (60 * u) % 60, v // u % 60, v % u
-    mark, digits = ('.', 2) if u == 100 else (',', 3)
+    mark, digits = ('.', 2) if u == 100 else ('.' if points and r.random() < points else ',', 3)
     if r.random() < plain:
         return '%0*d:%02d:%02d%s%0*d' % (1 if u == 100 else 2, h, m, s, mark, digits, f)
     how = r.randrange(8)
@@ -274,6 +275,7 @@ def ass_text(r, t, edges, span, plain):
 
 def srt_text(r, t, edges, span, plain):
     ends = r.choice([['\n'], ['\n'], ['\r\n'], ['\n', '\r\n'], ['\n', '\r\n', '\r\r\n']])
+    points = r.choice([0, 0.3, 1])
     out = ''
     blank = r.choice([[''], [''], ['', '', ' ', '\t', '\u3000', '\r', '\u00a0 ', '\u2003']])
     if r.random() < 0.1:
@@ -284,7 +286,7 @@ def srt_text(r, t, edges, span, plain):
         arrow = r.choice([' --> '] * 5 + ['-->', ' -->', '--> ', '\t-->\u3000']) if r.random() < 0.99 + 0.01 * plain else r.choice([' ->', ' ---> ', '-- >', ' --> --> '])
         after = r.choice([''] * 12 + [' X1:1 X2:2', ' ', '日', '6', '\u3000', ' 日本', '\u0301', ' --> 1'])
         if r.random() < 0.97:
-            lines.append(time_text(r, 1000, a, plain) + arrow + time_text(r, 1000, b, plain) + after)
+            lines.append(time_text(r, 1000, a, plain, points) + arrow + time_text(r, 1000, b, plain, points) + after)
         for _ in range(r.choice([0, 1, 1, 2, 3])):
             w = words(r)
             if w.strip() or r.random() < 0.1:
@@ -441,9 +443,9 @@ def through_made(r):
 SPACE = ''.join(chr(c) for c in (*range(9, 14), 32, 0x85, 0xa0, 0x1680, *range(0x2000, 0x200b), 0x2028, 0x2029, 0x202f, 0x205f, 0x3000))
 
 
-def time_bad(text, u):
+def bad_with(text, u, last):
     parts, rest = [], text.strip(SPACE)
-    for mark in (':', ':', '.' if u == 100 else ','):
+    for mark in (':', ':', last):
         if mark not in rest:
             return True
         part, rest = rest.split(mark, 1)
@@ -453,6 +455,11 @@ def time_bad(text, u):
         if not digits or any(c not in '0123456789' for c in digits) or int(digits) > most:
             return True
     return False
+
+
+def time_bad(text, u):
+    """A time reads with a point in ASS, in SRT with a comma or with a point."""
+    return all(bad_with(text, u, mark) for mark in ('.' if u == 100 else ',.'))
 
 
 def bare(line):
@@ -474,8 +481,8 @@ def ass_bad(line, state):
     return False
 
 
-def block_bad(block):
-    """22 of an SRT block."""
+def block_times(block):
+    """The texts of an SRT block's times: none, or two."""
     for line in map(bare, block):
         if '-->' in line:
             left, right = line.split('-->', 1)
@@ -484,7 +491,28 @@ def block_bad(block):
                 end = right.encode()[:12].decode() if len(right.encode()) >= 12 else right
             except UnicodeDecodeError:
                 end = right
-            return time_bad(left, 1000) or time_bad(end, 1000)
+            return [left, end]
+    return []
+
+
+def block_bad(block):
+    """22 of an SRT block."""
+    return any(time_bad(t, 1000) for t in block_times(block))
+
+
+def pointed(case):
+    """Whether a case is an SRT text with a time that reads with a point."""
+    op, _, kind, _, _, x, y, _ = struct.unpack('<8I', case[:32])
+    if op not in (3, 5) or kind != 1:
+        return False
+    block = []
+    for line in case[32 + x + y:].decode(errors='replace').removeprefix('\ufeff').split('\n') + ['']:
+        if line.strip(SPACE):
+            block.append(line)
+        else:
+            if any(not bad_with(t, 1000, '.') for t in block_times(block)):
+                return True
+            block = []
     return False
 
 

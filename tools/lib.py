@@ -8,7 +8,7 @@ root = os.path.dirname(os.path.dirname(os.path.abspath(__file__)))
 name = os.path.basename(sys.argv[0])
 
 # requests of document 02 that have landed, as the oracle's program takes them
-LANDED = ['2.7']
+LANDED = ['2.7', '2.2']
 
 
 # ---- arguments
@@ -159,5 +159,5 @@ def ass_time(units):
     return '%d:%02d:%02d.%02d' % (units // 360000, units // 6000 % 60, units // 100 % 60, units % 100)
 
 
-def srt_time(units):
-    return '%02d:%02d:%02d,%03d' % (units // 3600000, units // 60000 % 60, units // 1000 % 60, units % 1000)
+def srt_time(units, mark=','):
+    return '%02d:%02d:%02d%s%03d' % (units // 3600000, units // 60000 % 60, units // 1000 % 60, mark, units % 1000)

@@ -13,7 +13,7 @@ use Rattle.text.specs.Line.{textOf, terminatorOf}
 use Rattle.stamp.specs.declared.read.Time.{Time}
 use Rattle.stamp.specs.declared.read.Time.the-variants.{At, Bad}
 use Rattle.time.specs.Kind.{unitsOf, markOf}
-use Rattle.stamp.specs.Read.{timeIn}
+use Rattle.stamp.specs.Read.{markIn, timeIn}
 use Rattle.stamp.proofs.Reading.{time-below, time-mark}
 use Rattle.segment.specs.Segment.{segmentsOf, mapBad}
 use Rattle.event.specs.declared.setting.Config.{Config}
@@ -42,7 +42,7 @@ Timed n (says c (passes r k l)) = Unit {0}
 Timed n (says c (cue q)) = Timely n q
 
 caption-timed : (c : Columns) (n : ℕ) (l v r : List ℕ) → Timed n (captionSays c (suc n) l v r)
-unfolding captionSays
+unfolding markIn captionSays
 caption-timed c n l v r = go (eqb (c .start) 0) (eqb (c .«end») 0) (ltb (length (fields (c .columns) r)) (c .columns)) _ _ refl refl
   where
     go : (x y z : Bool) (X Y : Time) → timeIn 0 (fieldAt (c .start) (fields (c .columns) r)) ≡ X → timeIn 0 (fieldAt (c .«end») (fields (c .columns) r)) ≡ Y

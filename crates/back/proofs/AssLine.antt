@@ -15,13 +15,13 @@ use Rattle.text.proofs.LineEnds.{lastOf, last-append, last-some, Ended, ended-s
 use Rattle.stamp.specs.declared.read.Time.{Time}
 use Rattle.stamp.specs.declared.read.Time.the-variants.{At, Bad}
 use Rattle.time.specs.Kind.{kindBad, unitsOf, markOf, fractionDigits, hourDigits}
-use Rattle.stamp.specs.Read.{timeIn}
+use Rattle.stamp.specs.Read.{markIn, timeIn}
 use Rattle.stamp.specs.Write.{pad, widest, textWith, timeText}
 use Rattle.pattern.proofs.Free.{Free, none-free}
 use Rattle.stamp.proofs.Reading.{time-long, time-mark}
 use Rattle.stamp.proofs.ReadFree.{read-free}
 use Rattle.stamp.proofs.Written.{text-some}
-use Rattle.stamp.proofs.RoundTrip.{time-back, text-free}
+use Rattle.stamp.proofs.RoundTrip.{ass-back, text-free}
 use Rattle.event.specs.Says.{Piece, bytes, start, stop, unplaced, short, Cue, withTimes, stays, passes, cue}
 use Rattle.event.specs.Emit.{render}
 use Rattle.columns.specs.declared.layout.Columns.{Columns}
@@ -62,7 +62,7 @@ text-last units = rw (text-some 0 46 units ass-known) (with-last (unitsOf 0) (ho
 
 text-back : (units : ℕ) → units < 36000000 * unitsOf 0 → timeIn 0 (timeText 0 46 units) ≡ At units 46
 unfolding markOf
-text-back units h = time-back 0 units ass-known h
+text-back units h = ass-back units h
 
 -- ---- tags: each begins with `\`
 untagged : (s : List ℕ) → Free 92 s → tagged s ≡ false
@@ -76,7 +76,7 @@ slash-other = refl
 read-untagged : (S a : ℕ) (f : List ℕ) → timeIn 0 f ≡ At S a → tagged f ≡ false
 unfolding markOf
 read-untagged S a f e =
-    untagged f (read-free 92 (omega arith) slash-other (λ b l h q. omega arith) (λ q. omega arith) (λ q. omega arith) 0 S a f (λ q. omega arith) e)
+    untagged f (read-free 92 (omega arith) slash-other (λ b l h q. omega arith) (λ q. omega arith) (λ q. omega arith) 0 S a f (λ q. omega arith) (λ q. omega arith) e)
 
 -- ---- a line that begins with a letter names no section
 taken-other : (k b : ℕ) (r : List ℕ) → (b ≡ 91 → ⊥) → bracketed (take k (b ∷ r)) ≡ false
@@ -267,7 +267,7 @@ Back c n (says d (cue q)) =
     → lineSays c n (render (q .frame) (timeText 0 (q .startMark) s) (timeText 0 (q .stopMark) e)) ≡ says d (cue (withTimes q s e))
 
 caption-back : (c : Columns) (n : ℕ) (l w r : List ℕ) → Word w → c .events ≡ true → textOf l ≡ w ++ r → Back c n (captionSays c (suc n) l w r)
-unfolding captionSays markOf
+unfolding captionSays markIn markOf
 caption-back c n l w r word ev et =
     go (eqb (c .start) 0) refl (eqb (c .«end») 0) refl (ltb (length (fields (c .columns) r)) (c .columns)) refl
     (timeIn 0 (fieldAt (c .start) (fields (c .columns) r))) refl (timeIn 0 (fieldAt (c .«end») (fields (c .columns) r))) refl

@@ -18,10 +18,10 @@ use Rattle.text.proofs.LineLaws.{text-terminator, line-then, line-last}
 use Rattle.text.proofs.LineEnds.{lastOf, last-append, last-drop, Ended, ended-swap, text-again, terminator-again, line-ended}
 use Rattle.stamp.specs.declared.read.Time.{Time}
 use Rattle.stamp.specs.declared.read.Time.the-variants.{At, Bad}
-use Rattle.time.specs.Kind.{unitsOf, markOf}
+use Rattle.time.specs.Kind.{unitsOf}
 use Rattle.stamp.specs.Read.{timeIn}
 use Rattle.stamp.specs.Write.{timeText}
-use Rattle.stamp.proofs.Reading.{time-mark}
+use Rattle.stamp.proofs.Reading.{time-marks}
 use Rattle.event.specs.Says.{Cue, stays, passes, cue}
 use Rattle.event.specs.Emit.{render}
 use Rattle.timing.specs.Style.{srtEnd, srt}
@@ -29,7 +29,7 @@ use Rattle.timing.specs.Arrow
 use Rattle.timing.specs.Arrow.{arrow, afterArrow, later, timingOf, Timing}
 use Rattle.block.specs.Block.{writtenArrow, blockFrame, blockCue, bothSay, endText, trailing, timingLineSays, timingSays, blockSays, BlockSays, faulty, says}
 use Rattle.block.proofs.WriteLaws.{frame-pieces}
-use Rattle.back.proofs.SrtLine.{Plain, plain-text, lf-plain, text-12, lineText, arrow-back, line-back}
+use Rattle.back.proofs.SrtLine.{Plain, TimeMark, plain-text, lf-plain, text-12, lineText, arrow-back, line-back}
 use Rattle.text.proofs.LfLaws.{lf-append, ends-append, lf-drop, lf-get, text-lf}
 
 -- ---- what is trailing is the end of the line's text
@@ -82,9 +82,9 @@ whole r = go (ltb (length r) 12) (tail (getD r 12 0)) refl
     go false false e = ap tail (getD-drop 12 r 0 0) ∙ e
 
 -- ---- a written timing line in place of the line l
-module _ (s e : ℕ) (l : List ℕ) (p : hasLf (textOf l) ≡ false) (he : e < 360000 * 1000) where
+module _ (i j : ℕ) (hi : TimeMark i) (hj : TimeMark j) (s e : ℕ) (l : List ℕ) (p : hasLf (textOf l) ≡ false) (he : e < 360000 * 1000) where
   abbrev newText : List ℕ
-  newText = lineText s e (trailing srt (textOf l))
+  newText = lineText i j s e (trailing srt (textOf l))
 
   abbrev newLine : List ℕ
   newLine = newText ++ terminatorOf l
@@ -93,27 +93,27 @@ module _ (s e : ℕ) (l : List ℕ) (p : hasLf (textOf l) ≡ false) (he : e < 3
   unfolding hasLf
   new-lf =
       let d = trailing-drops (textOf l) in
-      lf-append (timeText 1 44 s) _ (lf-plain (timeText 1 44 s) (plain-text s)) ∙
-      lf-append (timeText 1 44 e) (trailing srt (textOf l)) (lf-plain (timeText 1 44 e) (plain-text e)) ∙ ap hasLf (d .is) ∙ lf-drop (d .count) (textOf l) p
+      lf-append (timeText 1 i s) _ (lf-plain (timeText 1 i s) (plain-text i hi s)) ∙
+      lf-append (timeText 1 j e) (trailing srt (textOf l)) (lf-plain (timeText 1 j e) (plain-text j hj e)) ∙ ap hasLf (d .is) ∙ lf-drop (d .count) (textOf l) p
 
   new-last : lastOf newText ≡ 13 → lastOf (textOf l) ≡ 13
   new-last q = go (trailing srt (textOf l)) refl
     where
-      E12 : length (timeText 1 44 e) ≡ 12
-      E12 = text-12 e he
+      E12 : length (timeText 1 j e) ≡ 12
+      E12 = text-12 j e he
 
-      behind : (t : List ℕ) → lastOf (lineText s e t) ≡ lastOf (timeText 1 44 e ++ t)
+      behind : (t : List ℕ) → lastOf (lineText i j s e t) ≡ lastOf (timeText 1 j e ++ t)
       behind t =
-          let n : length (timeText 1 44 e ++ t) ≡ 12 + length t = length-append (timeText 1 44 e) t ∙ omega (arith, E12) in
-          last-append (timeText 1 44 s) (writtenArrow ++ (timeText 1 44 e ++ t)) (omega arith) ∙ last-append writtenArrow (timeText 1 44 e ++ t) (omega arith)
+          let n : length (timeText 1 j e ++ t) ≡ 12 + length t = length-append (timeText 1 j e) t ∙ omega (arith, E12) in
+          last-append (timeText 1 i s) (writtenArrow ++ (timeText 1 j e ++ t)) (omega arith) ∙ last-append writtenArrow (timeText 1 j e ++ t) (omega arith)
 
       go : (t : List ℕ) → trailing srt (textOf l) ≡ t → lastOf (textOf l) ≡ 13
       go [] z =
-          let g : lastOf (timeText 1 44 e) ≡ 13 = ap lastOf (sym (append-nil (timeText 1 44 e))) ∙ sym (behind []) ∙ ap (λ (x : List ℕ). lastOf (lineText s e x)) (sym z) ∙ q in
-          absurd (omega (arith, plain-get (timeText 1 44 e) (length (timeText 1 44 e) - 1) (plain-text e) (omega (arith, E12))))
+          let g : lastOf (timeText 1 j e) ≡ 13 = ap lastOf (sym (append-nil (timeText 1 j e))) ∙ sym (behind []) ∙ ap (λ (x : List ℕ). lastOf (lineText i j s e x)) (sym z) ∙ q in
+          absurd (omega (arith, plain-get (timeText 1 j e) (length (timeText 1 j e) - 1) (plain-text j hj e) (omega (arith, E12))))
       go (b ∷ t) z =
           sym (last-trailing (textOf l) (rw z (omega arith))) ∙ ap lastOf z ∙
-          sym (last-append (timeText 1 44 e) (b ∷ t) (omega arith)) ∙ sym (behind (b ∷ t)) ∙ ap (λ (x : List ℕ). lastOf (lineText s e x)) (sym z) ∙ q
+          sym (last-append (timeText 1 j e) (b ∷ t) (omega arith)) ∙ sym (behind (b ∷ t)) ∙ ap (λ (x : List ℕ). lastOf (lineText i j s e x)) (sym z) ∙ q
 
   new-ended : Ended newText (terminatorOf l)
   new-ended = ended-swap (textOf l) newText (terminatorOf l) (λ q. absurd (lf-get newText (length newText - 1) new-lf q)) new-last (line-ended l)
@@ -134,16 +134,16 @@ module _ (s e : ℕ) (l : List ℕ) (p : hasLf (textOf l) ≡ false) (he : e < 3
 
   new-long : 0 < length newLine
   new-long =
-      let n : length newText ≡ length (timeText 1 44 s) + (5 + length (timeText 1 44 e ++ trailing srt (textOf l))) =
-      length-append (timeText 1 44 s) (writtenArrow ++ (timeText 1 44 e ++ trailing srt (textOf l))) ∙ omega arith in
+      let n : length newText ≡ length (timeText 1 i s) + (5 + length (timeText 1 j e ++ trailing srt (textOf l))) =
+      length-append (timeText 1 i s) (writtenArrow ++ (timeText 1 j e ++ trailing srt (textOf l))) ∙ omega arith in
       omega (arith, length-append newText (terminatorOf l))
 
   new-arrow : contains arrow (textOf newLine) ≡ true
-  new-arrow = ap (contains arrow) new-text ∙ arrow-back s e (trailing srt (textOf l))
+  new-arrow = ap (contains arrow) new-text ∙ arrow-back i j hi hj s e (trailing srt (textOf l))
 
   new-says : (n : ℕ) (b a : List ℕ) → s < 36000000 * 1000
-      → timingLineSays srt n b newLine a ≡ says (cue (blockCue n s 44 e 44 (blockFrame b (trailing srt (textOf l)) (terminatorOf l) a)))
-  new-says n b a hs = line-back s e (trailing srt (textOf l)) he (whole (afterArrow (textOf l))) n b (terminatorOf l) a newLine hs new-text new-terminator
+      → timingLineSays srt n b newLine a ≡ says (cue (blockCue n s i e j (blockFrame b (trailing srt (textOf l)) (terminatorOf l) a)))
+  new-says n b a hs = line-back i j hi hj s e (trailing srt (textOf l)) he (whole (afterArrow (textOf l))) n b (terminatorOf l) a newLine hs new-text new-terminator
 
 -- ---- lines as they are cut: each but the last ends in LF, and the last is not empty
 abbrev Cut : List (List ℕ) → Type 0
@@ -238,22 +238,22 @@ Back first (says (cue q)) =
     → blockSays srt first (linesOf (render (q .frame) (timeText 1 (q .startMark) s) (timeText 1 (q .stopMark) e))) ≡ says (cue (blockCue (q .line) s (q .startMark) e (q .stopMark) (q .frame)))
 
 module _ (first : ℕ) (b : List (List ℕ)) (l : List ℕ) (a : List (List ℕ)) (cut : Cut (b ++ l ∷ a)) (found : (m : List ℕ) → contains arrow (textOf m) ≡ true → timingOf (b ++ m ∷ a) ≡ Arrow.timed b m a) where
-  written-back : (s e : ℕ) → s < 36000000 * 1000 → e < 360000 * 1000
-      → blockSays srt first (linesOf (render (blockFrame (concat b) (trailing srt (textOf l)) (terminatorOf l) (concat a)) (timeText 1 44 s) (timeText 1 44 e)))
-      ≡ says (cue (blockCue (first + lineCount b) s 44 e 44 (blockFrame (concat b) (trailing srt (textOf l)) (terminatorOf l) (concat a))))
+  written-back : (i j : ℕ) → TimeMark i → TimeMark j → (s e : ℕ) → s < 36000000 * 1000 → e < 360000 * 1000
+      → blockSays srt first (linesOf (render (blockFrame (concat b) (trailing srt (textOf l)) (terminatorOf l) (concat a)) (timeText 1 i s) (timeText 1 j e)))
+      ≡ says (cue (blockCue (first + lineCount b) s i e j (blockFrame (concat b) (trailing srt (textOf l)) (terminatorOf l) (concat a))))
   unfolding blockSays
-  written-back s e hs he =
+  written-back i j hi hj s e hs he =
       let p = text-lf l (cut-line b l a cut) in
-      let m : List ℕ = newLine s e l p he in
-      let w : render (blockFrame (concat b) (trailing srt (textOf l)) (terminatorOf l) (concat a)) (timeText 1 44 s) (timeText 1 44 e) ≡ concat (b ++ m ∷ a) =
-      frame-pieces (concat b) (trailing srt (textOf l)) (terminatorOf l) (concat a) (timeText 1 44 s) (timeText 1 44 e) ∙
-      pieces-at (concat b) (timeText 1 44 s) writtenArrow (timeText 1 44 e) (trailing srt (textOf l)) (terminatorOf l) (concat a) ∙ sym (concat-at b m a) in
-      let c : Cut (b ++ m ∷ a) = cut-swap l m (new-ends s e l p he) (new-open s e l p he) (new-long s e l p he) b a cut in
+      let m : List ℕ = newLine i j hi hj s e l p he in
+      let w : render (blockFrame (concat b) (trailing srt (textOf l)) (terminatorOf l) (concat a)) (timeText 1 i s) (timeText 1 j e) ≡ concat (b ++ m ∷ a) =
+      frame-pieces (concat b) (trailing srt (textOf l)) (terminatorOf l) (concat a) (timeText 1 i s) (timeText 1 j e) ∙
+      pieces-at (concat b) (timeText 1 i s) writtenArrow (timeText 1 j e) (trailing srt (textOf l)) (terminatorOf l) (concat a) ∙ sym (concat-at b m a) in
+      let c : Cut (b ++ m ∷ a) = cut-swap l m (new-ends i j hi hj s e l p he) (new-open i j hi hj s e l p he) (new-long i j hi hj s e l p he) b a cut in
       ap (λ (y : List ℕ). blockSays srt first (linesOf y)) w ∙ ap (blockSays srt first) (cut-back (b ++ m ∷ a) c) ∙
-      ap (timingSays srt first (b ++ m ∷ a)) (found m (new-arrow s e l p he)) ∙ new-says s e l p he (first + lineCount b) (concat b) (concat a) hs
+      ap (timingSays srt first (b ++ m ∷ a)) (found m (new-arrow i j hi hj s e l p he)) ∙ new-says i j hi hj s e l p he (first + lineCount b) (concat b) (concat a) hs
 
   line-again : Back first (timingLineSays srt (first + lineCount b) (concat b) l (concat a))
-  unfolding timingLineSays markOf
+  unfolding timingLineSays
   line-again = go (timeIn 1 (upTo arrow (textOf l))) (timeIn 1 (endText srt (textOf l))) refl refl
     where
       go : (X Y : Time) → timeIn 1 (upTo arrow (textOf l)) ≡ X → timeIn 1 (endText srt (textOf l)) ≡ Y
@@ -261,11 +261,7 @@ module _ (first : ℕ) (b : List (List ℕ)) (l : List ℕ) (a : List (List ℕ)
       go Bad Y p q = tt
       go (At S i) Bad p q = tt
       go (At S i) (At E j) p q =
-          let ei : 44 ≡ i = sym (time-mark 1 S i (upTo arrow (textOf l)) p) in
-          let ej : 44 ≡ j = sym (time-mark 1 E j (endText srt (textOf l)) q) in
-          subst (λ (i : ℕ). Back first (says (cue (blockCue (first + lineCount b) S i E j (blockFrame (concat b) (trailing srt (textOf l)) (terminatorOf l) (concat a)))))) ei
-          (subst (λ (j : ℕ). Back first (says (cue (blockCue (first + lineCount b) S 44 E j (blockFrame (concat b) (trailing srt (textOf l)) (terminatorOf l) (concat a)))))) ej
-          written-back)
+          written-back i j (time-marks 1 S i (upTo arrow (textOf l)) p) (time-marks 1 E j (endText srt (textOf l)) q)
 
 timing-back : (first : ℕ) (ls : List (List ℕ)) (t : Timing) → Cut ls → Swaps ls t → Back first (timingSays srt first ls t)
 timing-back first ls Arrow.untimed c h = tt

@@ -1,6 +1,7 @@
 -- A timing line that was written, read again: the times, and what is trailing. The start may have 9,999 hours, the end 99, since it is read from 12 bytes.
 use mathlib.Core.Path.{_≡_, refl, sym, ap, subst, _∙_}
 use mathlib.Core.Bool.{true, false}
+use mathlib.Core.Logic.{_⊎_, inl, inr}
 use mathlib.Core.List.{List, [], _∷_, _++_, append-assoc, append-nil}
 use Prim.Native.Nat.{ℕ, zero, suc, _+_, _*_, _-_, _/_, _%_, _≤_, _<_}
 use native.Mathlib.Omega.{arith}
@@ -20,13 +21,13 @@ use Rattle.time.specs.Kind.{kindBad, unitsOf, markOf, fractionDigits, hourDigit
 use Rattle.stamp.specs.Read.{timeIn}
 use Rattle.stamp.specs.Write.{pad, widest, textWith, timeText}
 use Rattle.stamp.proofs.Written.{text-some, srt-12, text-10}
-use Rattle.stamp.proofs.RoundTrip.{time-back}
+use Rattle.stamp.proofs.RoundTrip.{comma-back, point-back}
 use Rattle.event.specs.Says.{cue}
 use Rattle.timing.specs.Style.{srtEnd, srt}
 use Rattle.timing.specs.Arrow.{arrow, afterArrow}
 use Rattle.block.specs.Block.{writtenArrow, blockFrame, blockCue, bothSay, endText, trailing, timingLineSays, says}
 
--- ---- the bytes of a written time: digits, `:` and `,`
+-- ---- the bytes of a written time: digits, `:`, and `,` or `.`
 abbrev pub Plain : List ℕ → Type 0
 Plain [] = Unit {0}
 Plain (b ∷ s) = ((44 ≤ b) × ((b ≤ 58) × (b ≡ 45 → ⊥))) × Plain s
@@ -43,36 +44,44 @@ plain-pad (suc k) n = plain-append (pad k (n / 10)) ((48 + n % 10) ∷ []) (plai
 plain-part : (c k n : ℕ) → 44 ≤ c → c ≤ 58 → (c ≡ 45 → ⊥) → Plain (c ∷ pad k n)
 plain-part c k n a b d = ((a, (b, d)), plain-pad k n)
 
-plain-with : (U frac least units : ℕ) → Plain (textWith U frac least 44 units)
+-- a comma or a point
+abbrev pub TimeMark : ℕ → Type 0
+TimeMark k = (k ≡ 44) ⊎ (k ≡ 46)
+
+plain-mark : (k frac n : ℕ) → TimeMark k → Plain (k ∷ pad frac n)
+plain-mark k frac n (inl e) = plain-part k frac n (omega (arith, e)) (omega (arith, e)) (λ q. omega (arith, e, q))
+plain-mark k frac n (inr e) = plain-part k frac n (omega (arith, e)) (omega (arith, e)) (λ q. omega (arith, e, q))
+
+plain-with : (U frac least k units : ℕ) → TimeMark k → Plain (textWith U frac least k units)
 unfolding textWith
-plain-with U frac least units =
+plain-with U frac least k units hk =
     let h = units / U / 60 / 60 in
     let q1 : List ℕ = pad (widest least h) h in
     let q2 : List ℕ = 58 ∷ pad 2 (units / U / 60 % 60) in
     let q3 : List ℕ = 58 ∷ pad 2 (units / U % 60) in
-    let q4 : List ℕ = 44 ∷ pad frac (units % U) in
+    let q4 : List ℕ = k ∷ pad frac (units % U) in
     let p2 : Plain q2 = plain-part 58 2 _ (omega arith) (omega arith) (λ e. omega arith) in
     let p3 : Plain q3 = plain-part 58 2 _ (omega arith) (omega arith) (λ e. omega arith) in
-    let p4 : Plain q4 = plain-part 44 frac _ (omega arith) (omega arith) (λ e. omega arith) in
-    plain-append (q1 ++ q2 ++ q3) q4 (plain-append (q1 ++ q2) q3 (plain-append q1 q2 (plain-pad (widest least h) h) p2) p3) p4
+    plain-append (q1 ++ q2 ++ q3) q4 (plain-append (q1 ++ q2) q3 (plain-append q1 q2 (plain-pad (widest least h) h) p2) p3) (plain-mark k frac (units % U) hk)
 
 srt-known : kindBad 1 ≡ false
 unfolding kindBad
 srt-known = refl
 
-pub plain-text : (units : ℕ) → Plain (timeText 1 44 units)
-plain-text units = subst Plain (sym (text-some 1 44 units srt-known)) (plain-with (unitsOf 1) (fractionDigits 1) (hourDigits 1) units)
+pub plain-text : (k : ℕ) → TimeMark k → (units : ℕ) → Plain (timeText 1 k units)
+plain-text k hk units = subst Plain (sym (text-some 1 k units srt-known)) (plain-with (unitsOf 1) (fractionDigits 1) (hourDigits 1) k units hk)
 
-text-long : (units : ℕ) → 0 < length (timeText 1 44 units)
-text-long units = omega (arith, text-10 1 44 units srt-known)
+text-long : (k units : ℕ) → 0 < length (timeText 1 k units)
+text-long k units = omega (arith, text-10 1 k units srt-known)
 
 -- below 100 hours a time has 12 bytes
-pub text-12 : (units : ℕ) → units < 360000 * 1000 → length (timeText 1 44 units) ≡ 12
-text-12 units h = srt-12 44 units (omega arith)
+pub text-12 : (k units : ℕ) → units < 360000 * 1000 → length (timeText 1 k units) ≡ 12
+text-12 k units h = srt-12 k units (omega arith)
 
-text-back : (units : ℕ) → units < 36000000 * 1000 → timeIn 1 (timeText 1 44 units) ≡ At units 44
-unfolding markOf unitsOf
-text-back units h = time-back 1 units srt-known h
+text-back : (k : ℕ) → TimeMark k → (units : ℕ) → units < 36000000 * 1000 → timeIn 1 (timeText 1 k units) ≡ At units k
+unfolding unitsOf
+text-back k (inl e) units h = subst (λ (m : ℕ). timeIn 1 (timeText 1 m units) ≡ At units m) (sym e) (comma-back units h)
+text-back k (inr e) units h = subst (λ (m : ℕ). timeIn 1 (timeText 1 m units) ≡ At units m) (sym e) (point-back units h)
 
 -- ---- the arrow behind them
 first-plain : (xs r : List ℕ) → Plain xs → first arrow (xs ++ r) ≡ length xs + first arrow r
@@ -120,74 +129,74 @@ unfolding timeIn
 same-trim a b e = rw e
 
 -- ---- the text of a written timing line: start, arrow, end, trailing text
-abbrev pub lineText : (s e : ℕ) → (trailing : List ℕ) → List ℕ
-lineText s e t = timeText 1 44 s ++ (writtenArrow ++ (timeText 1 44 e ++ t))
+abbrev pub lineText : (i j s e : ℕ) → (trailing : List ℕ) → List ℕ
+lineText i j s e t = timeText 1 i s ++ (writtenArrow ++ (timeText 1 j e ++ t))
 
-module _ (s e : ℕ) (t : List ℕ) where
-  written-first : first arrow (lineText s e t) ≡ length (timeText 1 44 s) + 1
-  written-first = first-plain (timeText 1 44 s) _ (plain-text s) ∙ ap (λ (n : ℕ). length (timeText 1 44 s) + n) (first-arrow (timeText 1 44 e ++ t))
+module _ (i j : ℕ) (hi : TimeMark i) (hj : TimeMark j) (s e : ℕ) (t : List ℕ) where
+  written-first : first arrow (lineText i j s e t) ≡ length (timeText 1 i s) + 1
+  written-first = first-plain (timeText 1 i s) _ (plain-text i hi s) ∙ ap (λ (n : ℕ). length (timeText 1 i s) + n) (first-arrow (timeText 1 j e ++ t))
 
-  pub arrow-back : contains arrow (lineText s e t) ≡ true
+  pub arrow-back : contains arrow (lineText i j s e t) ≡ true
   unfolding contains
   arrow-back =
-      let n : length (lineText s e t) ≡ length (timeText 1 44 s) + (5 + length (timeText 1 44 e ++ t)) = length-append (timeText 1 44 s) (writtenArrow ++ (timeText 1 44 e ++ t)) ∙ omega arith in
-      lt-ltb (first arrow (lineText s e t)) (length (lineText s e t)) (omega (arith, written-first))
+      let n : length (lineText i j s e t) ≡ length (timeText 1 i s) + (5 + length (timeText 1 j e ++ t)) = length-append (timeText 1 i s) (writtenArrow ++ (timeText 1 j e ++ t)) ∙ omega arith in
+      lt-ltb (first arrow (lineText i j s e t)) (length (lineText i j s e t)) (omega (arith, written-first))
 
-  up-back : upTo arrow (lineText s e t) ≡ timeText 1 44 s ++ 32 ∷ []
+  up-back : upTo arrow (lineText i j s e t) ≡ timeText 1 i s ++ 32 ∷ []
   unfolding upTo
   up-back =
-      let r : List ℕ = 45 ∷ 45 ∷ 62 ∷ 32 ∷ (timeText 1 44 e ++ t) in
-      let x : lineText s e t ≡ (timeText 1 44 s ++ 32 ∷ []) ++ r = sym (append-assoc (timeText 1 44 s) (32 ∷ []) r) in
-      let n : length (timeText 1 44 s ++ 32 ∷ []) ≡ length (timeText 1 44 s) + 1 = length-append (timeText 1 44 s) (32 ∷ []) in
-      rw written-first (ap (take (length (timeText 1 44 s) + 1)) x ∙ take-at (timeText 1 44 s ++ 32 ∷ []) r _ n)
+      let r : List ℕ = 45 ∷ 45 ∷ 62 ∷ 32 ∷ (timeText 1 j e ++ t) in
+      let x : lineText i j s e t ≡ (timeText 1 i s ++ 32 ∷ []) ++ r = sym (append-assoc (timeText 1 i s) (32 ∷ []) r) in
+      let n : length (timeText 1 i s ++ 32 ∷ []) ≡ length (timeText 1 i s) + 1 = length-append (timeText 1 i s) (32 ∷ []) in
+      rw written-first (ap (take (length (timeText 1 i s) + 1)) x ∙ take-at (timeText 1 i s ++ 32 ∷ []) r _ n)
 
-  past-back : past arrow (lineText s e t) ≡ 32 ∷ (timeText 1 44 e ++ t)
+  past-back : past arrow (lineText i j s e t) ≡ 32 ∷ (timeText 1 j e ++ t)
   unfolding past
   past-back =
       let w : List ℕ = 32 ∷ 45 ∷ 45 ∷ 62 ∷ [] in
-      let r : List ℕ = 32 ∷ (timeText 1 44 e ++ t) in
-      let x : lineText s e t ≡ (timeText 1 44 s ++ w) ++ r = sym (append-assoc (timeText 1 44 s) w r) in
-      let n : length (timeText 1 44 s ++ w) ≡ length (timeText 1 44 s) + 1 + 3 = length-append (timeText 1 44 s) w ∙ omega arith in
-      rw written-first (ap (drop (length (timeText 1 44 s) + 1 + 3)) x ∙ drop-at (timeText 1 44 s ++ w) r _ n)
+      let r : List ℕ = 32 ∷ (timeText 1 j e ++ t) in
+      let x : lineText i j s e t ≡ (timeText 1 i s ++ w) ++ r = sym (append-assoc (timeText 1 i s) w r) in
+      let n : length (timeText 1 i s ++ w) ≡ length (timeText 1 i s) + 1 + 3 = length-append (timeText 1 i s) w ∙ omega arith in
+      rw written-first (ap (drop (length (timeText 1 i s) + 1 + 3)) x ∙ drop-at (timeText 1 i s ++ w) r _ n)
 
-  after-back : afterArrow (lineText s e t) ≡ timeText 1 44 e ++ t
+  after-back : afterArrow (lineText i j s e t) ≡ timeText 1 j e ++ t
   unfolding afterArrow
-  after-back = ap trimHead past-back ∙ head-space (timeText 1 44 e ++ t) ∙ head-plain (timeText 1 44 e) t (plain-text e) (text-long e)
+  after-back = ap trimHead past-back ∙ head-space (timeText 1 j e ++ t) ∙ head-plain (timeText 1 j e) t (plain-text j hj e) (text-long j e)
 
   -- the start
-  pub start-back : s < 36000000 * 1000 → timeIn 1 (upTo arrow (lineText s e t)) ≡ At s 44
+  pub start-back : s < 36000000 * 1000 → timeIn 1 (upTo arrow (lineText i j s e t)) ≡ At s i
   start-back h =
-      ap (timeIn 1) up-back ∙ same-trim (timeText 1 44 s ++ 32 ∷ []) (timeText 1 44 s) (trim-space (timeText 1 44 s) (plain-text s) (text-long s)) ∙ text-back s h
+      ap (timeIn 1) up-back ∙ same-trim (timeText 1 i s ++ 32 ∷ []) (timeText 1 i s) (trim-space (timeText 1 i s) (plain-text i hi s) (text-long i s)) ∙ text-back i hi s h
 
   module _ (h : e < 360000 * 1000) (whole : tail (getD t 0 0) ≡ false) where
-    twelve : srtEnd (timeText 1 44 e ++ t) ≡ 12
+    twelve : srtEnd (timeText 1 j e ++ t) ≡ 12
     unfolding srtEnd
     twelve =
-        let n : length (timeText 1 44 e) ≡ 12 = text-12 e h in
-        let m : length (timeText 1 44 e ++ t) ≡ 12 + length t = length-append (timeText 1 44 e) t ∙ omega arith in
-        let g : getD (timeText 1 44 e ++ t) 12 0 ≡ getD t 0 0 = ap (λ (k : ℕ). getD (timeText 1 44 e ++ t) k 0) (sym (omega arith)) ∙ getD-append-add (timeText 1 44 e) t 0 0 in
-        rw (le-ltb (length (timeText 1 44 e ++ t)) 12 (omega arith), g, whole)
+        let n : length (timeText 1 j e) ≡ 12 = text-12 j e h in
+        let m : length (timeText 1 j e ++ t) ≡ 12 + length t = length-append (timeText 1 j e) t ∙ omega arith in
+        let g : getD (timeText 1 j e ++ t) 12 0 ≡ getD t 0 0 = ap (λ (k : ℕ). getD (timeText 1 j e ++ t) k 0) (sym (omega arith)) ∙ getD-append-add (timeText 1 j e) t 0 0 in
+        rw (le-ltb (length (timeText 1 j e ++ t)) 12 (omega arith), g, whole)
 
-    end-back : endText srt (lineText s e t) ≡ timeText 1 44 e
-    end-back = rw (after-back, twelve) (take-at (timeText 1 44 e) t 12 (text-12 e h))
+    end-back : endText srt (lineText i j s e t) ≡ timeText 1 j e
+    end-back = rw (after-back, twelve) (take-at (timeText 1 j e) t 12 (text-12 j e h))
 
     -- the end, and what is trailing
-    pub stop-back : timeIn 1 (endText srt (lineText s e t)) ≡ At e 44
-    stop-back = ap (timeIn 1) end-back ∙ text-back e (omega arith)
+    pub stop-back : timeIn 1 (endText srt (lineText i j s e t)) ≡ At e j
+    stop-back = ap (timeIn 1) end-back ∙ text-back j hj e (omega arith)
 
-    pub trailing-back : trailing srt (lineText s e t) ≡ t
-    trailing-back = rw (after-back, twelve) (drop-at (timeText 1 44 e) t 12 (text-12 e h))
+    pub trailing-back : trailing srt (lineText i j s e t) ≡ t
+    trailing-back = rw (after-back, twelve) (drop-at (timeText 1 j e) t 12 (text-12 j e h))
 
     -- a line with that text says the times, and its frame is as it was
-    pub line-back : (n : ℕ) (b x a l : List ℕ) → s < 36000000 * 1000 → textOf l ≡ lineText s e t → terminatorOf l ≡ x
-        → timingLineSays srt n b l a ≡ says (cue (blockCue n s 44 e 44 (blockFrame b t x a)))
+    pub line-back : (n : ℕ) (b x a l : List ℕ) → s < 36000000 * 1000 → textOf l ≡ lineText i j s e t → terminatorOf l ≡ x
+        → timingLineSays srt n b l a ≡ says (cue (blockCue n s i e j (blockFrame b t x a)))
     unfolding timingLineSays
     line-back n b x a l hs et ex =
         ap (λ (y : List ℕ). bothSay n (blockFrame b (trailing srt y) (terminatorOf l) a) (timeIn 1 (upTo arrow y)) (timeIn 1 (endText srt y))) et ∙
-        ap (λ (y : List ℕ). bothSay n (blockFrame b (trailing srt (lineText s e t)) y a) (timeIn 1 (upTo arrow (lineText s e t))) (timeIn 1 (endText srt (lineText s e t)))) ex ∙
-        ap (λ (y : List ℕ). bothSay n (blockFrame b y x a) (timeIn 1 (upTo arrow (lineText s e t))) (timeIn 1 (endText srt (lineText s e t)))) trailing-back ∙
-        ap (λ (y : Time). bothSay n (blockFrame b t x a) y (timeIn 1 (endText srt (lineText s e t)))) (start-back hs) ∙
-        ap (λ (y : Time). bothSay n (blockFrame b t x a) (At s 44) y) stop-back
+        ap (λ (y : List ℕ). bothSay n (blockFrame b (trailing srt (lineText i j s e t)) y a) (timeIn 1 (upTo arrow (lineText i j s e t))) (timeIn 1 (endText srt (lineText i j s e t)))) ex ∙
+        ap (λ (y : List ℕ). bothSay n (blockFrame b y x a) (timeIn 1 (upTo arrow (lineText i j s e t))) (timeIn 1 (endText srt (lineText i j s e t)))) trailing-back ∙
+        ap (λ (y : Time). bothSay n (blockFrame b t x a) y (timeIn 1 (endText srt (lineText i j s e t)))) (start-back hs) ∙
+        ap (λ (y : Time). bothSay n (blockFrame b t x a) (At s i) y) stop-back
 
 -- no LF stands in a plain text
 pub lf-plain : (xs : List ℕ) → Plain xs → hasLf xs ≡ false

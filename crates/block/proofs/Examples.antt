@@ -12,7 +12,7 @@ use Rattle.text.specs.Number.{digit, digits, valueFrom, natural, unsigned, numb
 use Rattle.text.specs.Line.{linesOf, textOf, terminatorLength, terminatorOf}
 use Rattle.time.specs.Kind.{kindBad, unitsOf, markOf, fractionDigits, hourDigits}
 use Rattle.time.specs.Convert.{scaledUp, ticksOf, startUnits, endUnits, coreHolds, ticksWithin, startWithin, endWithin}
-use Rattle.stamp.specs.Read.{timeWith, timeIn}
+use Rattle.stamp.specs.Read.{markIn, timeWith, timeIn}
 use Rattle.stamp.specs.Write.{pad, widthUnder, width, textWith, timeText}
 use Rattle.segment.specs.declared.segment.Segment.{Segment}
 use Rattle.segment.specs.Segment.{segmentsOf, endBad}
@@ -38,37 +38,37 @@ saysOf s = blockSays srt 7 (linesOf s)
 
 -- document 01: the end is read as 100 h and 45 ms, and the 6 is trailing
 hundred-hours : saysOf (ascii "00:00:00,000 --> 100:00:00,456") ≡ says (cue (blockCue 7 0 44 360000045 44 (blockFrame [] (ascii "6") [] [])))
-unfolding leadLen secondLow secondHigh tail widthBy charWidth codeBy codeHead whiteHigh white whiteHead last endsWhite whiteTail headFrom keepFrom trimHead trimTail trim starts first contains upTo past digit digits valueFrom natural unsigned number linesOf textOf terminatorLength terminatorOf kindBad unitsOf markOf timeWith timeIn srtEnd timingOf afterArrow timingLineSays blockSays
+unfolding leadLen secondLow secondHigh tail widthBy charWidth codeBy codeHead whiteHigh white whiteHead last endsWhite whiteTail headFrom keepFrom trimHead trimTail trim starts first contains upTo past digit digits valueFrom natural unsigned number linesOf textOf terminatorLength terminatorOf kindBad unitsOf markOf timeWith markIn timeIn srtEnd timingOf afterArrow timingLineSays blockSays
 hundred-hours = refl
 
 -- positions behind the end are trailing; the timing line is the block's second, and the lines around it stay
 positions : saysOf (line "12" ++ line "0:0:1,5-->00:00:02,500 X1:40 X2:600" ++ line "Hello" ++ line "--> there") ≡
     says (cue (blockCue 8 1005 44 2500 44 (blockFrame (line "12") (ascii " X1:40 X2:600") (10 ∷ []) (line "Hello" ++ line "--> there"))))
-unfolding leadLen secondLow secondHigh tail widthBy charWidth codeBy codeHead whiteHigh white whiteHead last endsWhite whiteTail headFrom keepFrom trimHead trimTail trim starts first contains upTo past digit digits valueFrom natural unsigned number linesOf textOf terminatorLength terminatorOf kindBad unitsOf markOf timeWith timeIn srtEnd timingOf afterArrow timingLineSays blockSays
+unfolding leadLen secondLow secondHigh tail widthBy charWidth codeBy codeHead whiteHigh white whiteHead last endsWhite whiteTail headFrom keepFrom trimHead trimTail trim starts first contains upTo past digit digits valueFrom natural unsigned number linesOf textOf terminatorLength terminatorOf kindBad unitsOf markOf timeWith markIn timeIn srtEnd timingOf afterArrow timingLineSays blockSays
 positions = refl
 
 -- fewer than 12 bytes: all of it is the end; CR LF is the terminator, and a lone CR is text
 short-end : saysOf (ascii "0:0:1,5 --> 0:0:2,500" ++ 13 ∷ 10 ∷ []) ≡ says (cue (blockCue 7 1005 44 2500 44 (blockFrame [] [] (13 ∷ 10 ∷ []) [])))
-unfolding leadLen secondLow secondHigh tail widthBy charWidth codeBy codeHead whiteHigh white whiteHead last endsWhite whiteTail headFrom keepFrom trimHead trimTail trim starts first contains upTo past digit digits valueFrom natural unsigned number linesOf textOf terminatorLength terminatorOf kindBad unitsOf markOf timeWith timeIn srtEnd timingOf afterArrow timingLineSays blockSays
+unfolding leadLen secondLow secondHigh tail widthBy charWidth codeBy codeHead whiteHigh white whiteHead last endsWhite whiteTail headFrom keepFrom trimHead trimTail trim starts first contains upTo past digit digits valueFrom natural unsigned number linesOf textOf terminatorLength terminatorOf kindBad unitsOf markOf timeWith markIn timeIn srtEnd timingOf afterArrow timingLineSays blockSays
 short-end = refl
 
 -- byte 12 splits a character (C3 A9): all of it is the end, and no time
 split-character : saysOf (ascii "00:00:01,500 --> 0:00:02,500" ++ 0xC3 ∷ 0xA9 ∷ 10 ∷ []) ≡ faulty badTime
-unfolding leadLen secondLow secondHigh tail widthBy charWidth codeBy codeHead whiteHigh white whiteHead last endsWhite whiteTail headFrom keepFrom trimHead trimTail trim starts first contains upTo past digit digits valueFrom natural unsigned number linesOf textOf terminatorLength terminatorOf kindBad unitsOf markOf timeWith timeIn srtEnd timingOf afterArrow timingLineSays blockSays
+unfolding leadLen secondLow secondHigh tail widthBy charWidth codeBy codeHead whiteHigh white whiteHead last endsWhite whiteTail headFrom keepFrom trimHead trimTail trim starts first contains upTo past digit digits valueFrom natural unsigned number linesOf textOf terminatorLength terminatorOf kindBad unitsOf markOf timeWith markIn timeIn srtEnd timingOf afterArrow timingLineSays blockSays
 split-character = refl
 
 -- the character begins at byte 12: it is trailing
 whole-character : saysOf (ascii "00:00:01,500 --> 00:00:02,500" ++ 0xC3 ∷ 0xA9 ∷ 10 ∷ []) ≡ says (cue (blockCue 7 1500 44 2500 44 (blockFrame [] (0xC3 ∷ 0xA9 ∷ []) (10 ∷ []) [])))
-unfolding leadLen secondLow secondHigh tail widthBy charWidth codeBy codeHead whiteHigh white whiteHead last endsWhite whiteTail headFrom keepFrom trimHead trimTail trim starts first contains upTo past digit digits valueFrom natural unsigned number linesOf textOf terminatorLength terminatorOf kindBad unitsOf markOf timeWith timeIn srtEnd timingOf afterArrow timingLineSays blockSays
+unfolding leadLen secondLow secondHigh tail widthBy charWidth codeBy codeHead whiteHigh white whiteHead last endsWhite whiteTail headFrom keepFrom trimHead trimTail trim starts first contains upTo past digit digits valueFrom natural unsigned number linesOf textOf terminatorLength terminatorOf kindBad unitsOf markOf timeWith markIn timeIn srtEnd timingOf afterArrow timingLineSays blockSays
 whole-character = refl
 
 no-timing-line : saysOf (line "12" ++ line "Hello -> there") ≡ says (stays (line "12" ++ line "Hello -> there"))
-unfolding leadLen secondLow secondHigh tail widthBy charWidth codeBy codeHead whiteHigh white whiteHead last endsWhite whiteTail headFrom keepFrom trimHead trimTail trim starts first contains upTo past digit digits valueFrom natural unsigned number linesOf textOf terminatorLength terminatorOf kindBad unitsOf markOf timeWith timeIn srtEnd timingOf afterArrow timingLineSays blockSays
+unfolding leadLen secondLow secondHigh tail widthBy charWidth codeBy codeHead whiteHigh white whiteHead last endsWhite whiteTail headFrom keepFrom trimHead trimTail trim starts first contains upTo past digit digits valueFrom natural unsigned number linesOf textOf terminatorLength terminatorOf kindBad unitsOf markOf timeWith markIn timeIn srtEnd timingOf afterArrow timingLineSays blockSays
 no-timing-line = refl
 
 -- minutes above 59 in the end
 bad-end : saysOf (line "00:00:00,000 --> 00:60:00,000") ≡ faulty badTime
-unfolding leadLen secondLow secondHigh tail widthBy charWidth codeBy codeHead whiteHigh white whiteHead last endsWhite whiteTail headFrom keepFrom trimHead trimTail trim starts first contains upTo past digit digits valueFrom natural unsigned number linesOf textOf terminatorLength terminatorOf kindBad unitsOf markOf timeWith timeIn srtEnd timingOf afterArrow timingLineSays blockSays
+unfolding leadLen secondLow secondHigh tail widthBy charWidth codeBy codeHead whiteHigh white whiteHead last endsWhite whiteTail headFrom keepFrom trimHead trimTail trim starts first contains upTo past digit digits valueFrom natural unsigned number linesOf textOf terminatorLength terminatorOf kindBad unitsOf markOf timeWith markIn timeIn srtEnd timingOf afterArrow timingLineSays blockSays
 bad-end = refl
 
 -- ---- through the map
@@ -84,24 +84,29 @@ told s = blockIn settings m 7 s 1000 2
 -- 210 to 250 ms through the second segment, with trailing text kept
 shifts : told (line "1" ++ line "00:00:00,210 --> 00:00:00,250 X1:40" ++ line "Hi") ≡
     answered (emit (line "1" ++ line "00:00:00,109 --> 00:00:00,150 X1:40" ++ line "Hi") [] (decided (shifted 109 150)))
-unfolding leadLen secondLow secondHigh tail widthBy charWidth codeBy codeHead whiteHigh white whiteHead last endsWhite whiteTail headFrom keepFrom trimHead trimTail trim starts first contains upTo past digit digits valueFrom natural unsigned number linesOf textOf terminatorLength terminatorOf kindBad unitsOf markOf timeWith timeIn srtEnd timingOf afterArrow timingLineSays blockSays fractionDigits hourDigits scaledUp ticksOf startUnits endUnits coreHolds ticksWithin startWithin endWithin pad widthUnder width textWith timeText segmentsOf endBad meetsParts findFrom lostLater decideIn render emitBy partIn blockIn
+unfolding leadLen secondLow secondHigh tail widthBy charWidth codeBy codeHead whiteHigh white whiteHead last endsWhite whiteTail headFrom keepFrom trimHead trimTail trim starts first contains upTo past digit digits valueFrom natural unsigned number linesOf textOf terminatorLength terminatorOf kindBad unitsOf markOf timeWith markIn timeIn srtEnd timingOf afterArrow timingLineSays blockSays fractionDigits hourDigits scaledUp ticksOf startUnits endUnits coreHolds ticksWithin startWithin endWithin pad widthUnder width textWith timeText segmentsOf endBad meetsParts findFrom lostLater decideIn render emitBy partIn blockIn
 shifts = refl
+
+-- each time keeps the mark that it was read with
+mixed : told (line "00:00:00.210 --> 00:00:00,250") ≡ answered (emit (line "00:00:00.109 --> 00:00:00,150") [] (decided (shifted 109 150)))
+unfolding leadLen secondLow secondHigh tail widthBy charWidth codeBy codeHead whiteHigh white whiteHead last endsWhite whiteTail headFrom keepFrom trimHead trimTail trim starts first contains upTo past digit digits valueFrom natural unsigned number linesOf textOf terminatorLength terminatorOf kindBad unitsOf markOf timeWith markIn timeIn srtEnd timingOf afterArrow timingLineSays blockSays fractionDigits hourDigits scaledUp ticksOf startUnits endUnits coreHolds ticksWithin startWithin endWithin pad widthUnder width textWith timeText segmentsOf endBad meetsParts findFrom lostLater decideIn render emitBy partIn blockIn
+mixed = refl
 
 -- 50 to 250 ms: cut to the first segment, and a part is lost; the warning is at the timing line
 clips : told (line "1" ++ line "0:0:0,50-->0:0:0,250") ≡
     answered (emit (line "1" ++ line "00:00:00,050 --> 00:00:00,101") (warning 4 8 ∷ []) (decided (clipped 50 101)))
-unfolding leadLen secondLow secondHigh tail widthBy charWidth codeBy codeHead whiteHigh white whiteHead last endsWhite whiteTail headFrom keepFrom trimHead trimTail trim starts first contains upTo past digit digits valueFrom natural unsigned number linesOf textOf terminatorLength terminatorOf kindBad unitsOf markOf timeWith timeIn srtEnd timingOf afterArrow timingLineSays blockSays fractionDigits hourDigits scaledUp ticksOf startUnits endUnits coreHolds ticksWithin startWithin endWithin pad widthUnder width textWith timeText segmentsOf endBad meetsParts findFrom lostLater decideIn render emitBy partIn blockIn
+unfolding leadLen secondLow secondHigh tail widthBy charWidth codeBy codeHead whiteHigh white whiteHead last endsWhite whiteTail headFrom keepFrom trimHead trimTail trim starts first contains upTo past digit digits valueFrom natural unsigned number linesOf textOf terminatorLength terminatorOf kindBad unitsOf markOf timeWith markIn timeIn srtEnd timingOf afterArrow timingLineSays blockSays fractionDigits hourDigits scaledUp ticksOf startUnits endUnits coreHolds ticksWithin startWithin endWithin pad widthUnder width textWith timeText segmentsOf endBad meetsParts findFrom lostLater decideIn render emitBy partIn blockIn
 clips = refl
 
 -- 120 to 200 ms: between the segments
 drops : told (line "00:00:00,120 --> 00:00:00,200") ≡ answered (emit [] [] (decided dropped))
-unfolding leadLen secondLow secondHigh tail widthBy charWidth codeBy codeHead whiteHigh white whiteHead last endsWhite whiteTail headFrom keepFrom trimHead trimTail trim starts first contains upTo past digit digits valueFrom natural unsigned number linesOf textOf terminatorLength terminatorOf kindBad unitsOf markOf timeWith timeIn srtEnd timingOf afterArrow timingLineSays blockSays fractionDigits hourDigits scaledUp ticksOf startUnits endUnits coreHolds ticksWithin startWithin endWithin pad widthUnder width textWith timeText segmentsOf endBad meetsParts findFrom lostLater decideIn render emitBy partIn blockIn
+unfolding leadLen secondLow secondHigh tail widthBy charWidth codeBy codeHead whiteHigh white whiteHead last endsWhite whiteTail headFrom keepFrom trimHead trimTail trim starts first contains upTo past digit digits valueFrom natural unsigned number linesOf textOf terminatorLength terminatorOf kindBad unitsOf markOf timeWith markIn timeIn srtEnd timingOf afterArrow timingLineSays blockSays fractionDigits hourDigits scaledUp ticksOf startUnits endUnits coreHolds ticksWithin startWithin endWithin pad widthUnder width textWith timeText segmentsOf endBad meetsParts findFrom lostLater decideIn render emitBy partIn blockIn
 drops = refl
 
 passes-through : told (line "NOTE") ≡ answered (emit (line "NOTE") [] none)
-unfolding leadLen secondLow secondHigh tail widthBy charWidth codeBy codeHead whiteHigh white whiteHead last endsWhite whiteTail headFrom keepFrom trimHead trimTail trim starts first contains upTo past digit digits valueFrom natural unsigned number linesOf textOf terminatorLength terminatorOf kindBad unitsOf markOf timeWith timeIn srtEnd timingOf afterArrow timingLineSays blockSays fractionDigits hourDigits scaledUp ticksOf startUnits endUnits coreHolds ticksWithin startWithin endWithin pad widthUnder width textWith timeText segmentsOf endBad meetsParts findFrom lostLater decideIn render emitBy partIn blockIn
+unfolding leadLen secondLow secondHigh tail widthBy charWidth codeBy codeHead whiteHigh white whiteHead last endsWhite whiteTail headFrom keepFrom trimHead trimTail trim starts first contains upTo past digit digits valueFrom natural unsigned number linesOf textOf terminatorLength terminatorOf kindBad unitsOf markOf timeWith markIn timeIn srtEnd timingOf afterArrow timingLineSays blockSays fractionDigits hourDigits scaledUp ticksOf startUnits endUnits coreHolds ticksWithin startWithin endWithin pad widthUnder width textWith timeText segmentsOf endBad meetsParts findFrom lostLater decideIn render emitBy partIn blockIn
 passes-through = refl
 
 refuses : told (line "00:60:00,000 --> 00:60:00,200") ≡ refusal 22
-unfolding leadLen secondLow secondHigh tail widthBy charWidth codeBy codeHead whiteHigh white whiteHead last endsWhite whiteTail headFrom keepFrom trimHead trimTail trim starts first contains upTo past digit digits valueFrom natural unsigned number linesOf textOf terminatorLength terminatorOf kindBad unitsOf markOf timeWith timeIn srtEnd timingOf afterArrow timingLineSays blockSays fractionDigits hourDigits scaledUp ticksOf startUnits endUnits coreHolds ticksWithin startWithin endWithin pad widthUnder width textWith timeText segmentsOf endBad meetsParts findFrom lostLater decideIn render emitBy partIn blockIn
+unfolding leadLen secondLow secondHigh tail widthBy charWidth codeBy codeHead whiteHigh white whiteHead last endsWhite whiteTail headFrom keepFrom trimHead trimTail trim starts first contains upTo past digit digits valueFrom natural unsigned number linesOf textOf terminatorLength terminatorOf kindBad unitsOf markOf timeWith markIn timeIn srtEnd timingOf afterArrow timingLineSays blockSays fractionDigits hourDigits scaledUp ticksOf startUnits endUnits coreHolds ticksWithin startWithin endWithin pad widthUnder width textWith timeText segmentsOf endBad meetsParts findFrom lostLater decideIn render emitBy partIn blockIn
 refuses = refl

@@ -1,6 +1,7 @@
 -- Within the limits the code's answer to a block is document 01's; and a block as one row of bytes is the block as its lines.
 use mathlib.Core.Path.{_≡_, refl, sym, ap, subst, _∙_}
 use mathlib.Core.Bool.{false}
+use mathlib.Core.Logic.{_⊎_}
 use mathlib.Core.List.{List, [], _∷_, _++_, append-nil}
 use Prim.Native.Nat.{ℕ, _+_, _*_, _≤_, _<_}
 use native.Mathlib.Omega.{arith}
@@ -11,9 +12,9 @@ use Rattle.text.specs.Line.{linesOf, concat, lineCount, textOf, terminatorOf, h
 use Rattle.text.proofs.LineLaws.{Finished, lines-back, line-last}
 use Rattle.stamp.specs.declared.read.Time.{Time}
 use Rattle.stamp.specs.declared.read.Time.the-variants.{At, Bad}
-use Rattle.time.specs.Kind.{unitsOf, markOf}
+use Rattle.time.specs.Kind.{unitsOf}
 use Rattle.stamp.specs.Read.{timeIn}
-use Rattle.stamp.proofs.Reading.{time-below, time-mark}
+use Rattle.stamp.proofs.Reading.{time-below, time-marks}
 use Rattle.segment.specs.Segment.{segmentsOf, mapBad}
 use Rattle.event.specs.declared.setting.Config.{Config}
 use Rattle.event.specs.Says.{Cue, stays, passes, cue}
@@ -26,12 +27,12 @@ use Rattle.timing.specs.Arrow.{arrow, timingOf, Timing}
 use Rattle.block.specs.Block.{blockFrame, bothSay, endText, trailing, timingLineSays, timingSays, blockSays, BlockSays, faulty, says}
 use Rattle.block.specs.Answer.{blockAnswer, blockAnswerIn, blockIn}
 
--- ---- what is known of the cue that a block says: times below 10,000 hours, and SRT's mark; no tag
+-- ---- what is known of the cue that a block says: times below 10,000 hours, each with a comma or a point; no tag
 pub record Timely (q : Cue) : Type 0 where
   pub start-below : q .start < 36000000 * unitsOf 1
   pub stop-below : q .stop < 36000000 * unitsOf 1
-  pub start-mark : q .startMark ≡ markOf 1
-  pub stop-mark : q .stopMark ≡ markOf 1
+  pub start-mark : (q .startMark ≡ 44) ⊎ (q .startMark ≡ 46)
+  pub stop-mark : (q .stopMark ≡ 44) ⊎ (q .stopMark ≡ 46)
   pub untagged : q .tagged ≡ false
 
 abbrev Timed : BlockSays → Type 0
@@ -52,8 +53,8 @@ line-timed k b l a = go (timeIn 1 (upTo arrow (textOf l))) (timeIn 1 (endText sr
         record {
           start-below = time-below 1 S i _ p;
           stop-below = time-below 1 E j _ q;
-          start-mark = time-mark 1 S i _ p;
-          stop-mark = time-mark 1 E j _ q;
+          start-mark = time-marks 1 S i _ p;
+          stop-mark = time-marks 1 E j _ q;
           untagged = refl;
         }
 

@@ -13,7 +13,7 @@ use Rattle.text.specs.Number.{digit, digits, valueFrom, natural, unsigned, numb
 use Rattle.text.specs.Line.{linesOf, textOf, terminatorLength, terminatorOf}
 use Rattle.time.specs.Kind.{kindBad, unitsOf, markOf}
 use Rattle.time.specs.Convert.{ticksOf, startUnits, endUnits, scaledUp}
-use Rattle.stamp.specs.Read.{timeWith, timeIn}
+use Rattle.stamp.specs.Read.{markIn, timeWith, timeIn}
 use Rattle.segment.specs.declared.segment.Segment.{Segment}
 use Rattle.segment.specs.Segment.{flatOf, segmentsOf, endBad, segmentBad, anyBad, mapBad}
 use Rattle.event.specs.declared.setting.Config.{Config}
@@ -38,7 +38,7 @@ use Rattle.example.proofs.Four.{fates}
 use Rattle.example.proofs.AssRun.{known}
 
 said-is : readingOf (plainRead 0) (plainFour 0 assFirst assRest .reader) .parts ≡ assParts
-unfolding leadLen secondLow secondHigh tail widthBy charWidth utf8From utf8 codeBy codeHead whiteHigh white whiteHead last endsWhite whiteTail headFrom keepFrom trimHead trimTail trim starts equals first contains upTo past piecesFrom pieces digit digits valueFrom natural unsigned number linesOf textOf terminatorLength terminatorOf kindBad unitsOf markOf timeWith timeIn namesIn placeIn columnsIn fields fieldAt holdsAny bracketed inside pieceAt fieldPieces captionSays wordSays textSays lineSays faultUnless _orElse_ lineFault assRead linesSay plainRead flatOf segmentsOf endBad segmentBad anyBad mapBad readerRefusal
+unfolding leadLen secondLow secondHigh tail widthBy charWidth utf8From utf8 codeBy codeHead whiteHigh white whiteHead last endsWhite whiteTail headFrom keepFrom trimHead trimTail trim starts equals first contains upTo past piecesFrom pieces digit digits valueFrom natural unsigned number linesOf textOf terminatorLength terminatorOf kindBad unitsOf markOf timeWith markIn timeIn namesIn placeIn columnsIn fields fieldAt holdsAny bracketed inside pieceAt fieldPieces captionSays wordSays textSays lineSays faultUnless _orElse_ lineFault assRead linesSay plainRead flatOf segmentsOf endBad segmentBad anyBad mapBad readerRefusal
 said-is = refl
 
 flat-back : segmentsOf (flatOf (plainMap .segments)) ≡ plainMap .segments

@@ -4,5 +4,6 @@ pub mod Written
 pub mod Reading
 pub mod RoundTrip
 pub mod ReadFree
+mod Marks
 mod Values
 mod Examples

@@ -1,6 +1,7 @@
 -- A text that reads as a time holds only digits, `+`, `:`, the mark and White_Space: no other character of one byte stands in it.
 use mathlib.Core.Path.{_≡_, refl, sym, ap, subst, _∙_}
 use mathlib.Core.Bool.{Bool, true, false, cond, true≢false}
+use mathlib.Core.Logic.{⊎-elim}
 use mathlib.Core.List.{List, [], _∷_}
 use Prim.Native.Nat.{ℕ, zero, suc, _+_, _-_, _≤_, _<_, min}
 use native.Mathlib.Omega.{arith}
@@ -15,16 +16,16 @@ use Rattle.text.specs.declared.decimal.Number.{Number}
 use Rattle.text.specs.declared.decimal.Number.the-variants.{Value, Bad as NoNumber}
 use Rattle.text.specs.Number.{digit, digits, valueFrom, natural, unsigned, number}
 use Rattle.utf8.specs.Utf8.{charWidth, codeHead}
-use Rattle.white.specs.White.{white, whiteHead, endsWhite, whiteTail, headFrom, keepFrom, trimHead, trimTail, trim}
-use Rattle.pattern.specs.Find.{starts, first, upTo, past}
+use Rattle.white.specs.White.{white, whiteHigh, whiteHead, endsWhite, whiteTail, headFrom, keepFrom, trimHead, trimTail, trim}
+use Rattle.pattern.specs.Find.{starts, first, contains, upTo, past}
 use Rattle.unicode.specs.Encode.{encode}
 use Rattle.unicode.proofs.Encoding.{encoded}
 use Rattle.unicode.proofs.Decoding.{decoded}
 use Rattle.unicode.proofs.Trailing.{enc-1, enc-2, enc-3, enc-4}
 use Rattle.stamp.specs.declared.read.Time.the-variants.{At}
-use Rattle.time.specs.Kind.{unitsOf, markOf}
-use Rattle.stamp.specs.Read.{colon, timeWith, timeIn}
-use Rattle.stamp.proofs.Reading.{parts, read-known}
+use Rattle.time.specs.Kind.{unitsOf}
+use Rattle.stamp.specs.Read.{colon, markIn, timeWith, timeIn}
+use Rattle.stamp.proofs.Reading.{parts, read-known, mark-one}
 use Rattle.pattern.proofs.Free.{Free}
 
 free-at : (c : ℕ) (s : List ℕ) (i : ℕ) → Free c s → i < length s → c ≡ getD s i 0 → ⊥
@@ -186,7 +187,7 @@ parts-free c d n (b ∷ s) f g = go (eqb d b) refl f g (parts-free c d n s)
 
 -- ---- a time that was read
 module _ (c : ℕ) (low : c < 0x80) (other : white c ≡ false) (no-digit : (b : ℕ) → 48 ≤ b → b ≤ 57 → c ≡ b → ⊥) (no-plus : c ≡ 43 → ⊥) (no-colon : c ≡ 58 → ⊥) where
-  with-free : (U n mark k : ℕ) (text : List ℕ) → (c ≡ mark → ⊥) → timeWith U mark text ≡ At n k → Free c text
+  pub with-free : (U n mark k : ℕ) (text : List ℕ) → (c ≡ mark → ⊥) → timeWith U mark text ≡ At n k → Free c text
   with-free U n mark k text no-mark e =
       let p = parts U n mark k text e in
       let sign : List ℕ = mark ∷ [] in
@@ -197,5 +198,8 @@ module _ (c : ℕ) (low : c < 0x80) (other : white c ≡ false) (no-digit : (b :
       (parts-free c 58 no-colon r1 (free mostMinutes (p .minutes) (upTo colon r1) (p .is-minutes))
       (parts-free c mark no-mark r2 (free mostSeconds (p .seconds) (upTo sign r2) (p .is-seconds)) (free (U - 1) (p .fraction) (past sign r2) (p .is-fraction))))
 
-  pub read-free : (kind n k : ℕ) (text : List ℕ) → (c ≡ markOf kind → ⊥) → timeIn kind text ≡ At n k → Free c text
-  read-free kind n k text no-mark e = trim-free c low other text (with-free (unitsOf kind) n (markOf kind) k (trim text) no-mark (read-known kind n k text e .1))
+  pub read-free : (kind n k : ℕ) (text : List ℕ) → (c ≡ 44 → ⊥) → (c ≡ 46 → ⊥) → timeIn kind text ≡ At n k → Free c text
+  read-free kind n k text no-comma no-point e =
+      let p = read-known kind n k text e in
+      let no-mark : c ≡ markIn kind (trim text) → ⊥ = λ q. ⊎-elim (λ r. no-comma (q ∙ r)) (λ r. no-point (q ∙ r)) (mark-one kind (trim text) (p .0)) in
+      trim-free c low other text (with-free (unitsOf kind) n (markIn kind (trim text)) k (trim text) no-mark (p .1))

@@ -3,7 +3,7 @@ use Prim.Native.Nat.{ℕ, zero, suc, _+_, _-_, _*_, _/_, _%_, _^_, _≤_, _<_}
 use mathlib.Core.Path.{_≡_, refl, ap, sym, subst, _∙_}
 use mathlib.Core.Bool.{Bool, true, false}
 use mathlib.Core.List.{List, [], _∷_, _++_, append-assoc, append-nil}
-use lib.ListN.{length, getD}
+use lib.ListN.{length, getD, length-append}
 use lib.Seq.{append-snoc}
 use native.Mathlib.Nat.{div-add-mod', mod-lt, div-lt-iff-lt-mul, pow-le-pow-right, lt-of-lt-of-le, pow-suc, mul-assoc}
 use native.Mathlib.Omega.{arith}
@@ -11,7 +11,7 @@ use borrow.Author.Tests.{ne-eqb, lt-ltb, le-ltb, lt-leb}
 use Rattle.base.proofs.Laws.{yes!, no! }
 use Rattle.text.specs.declared.decimal.Number.the-variants.{Value}
 use Rattle.text.specs.Number.{digits, valueFrom, natural, number}
-use Rattle.pattern.specs.Find.{upTo, past}
+use Rattle.pattern.specs.Find.{starts, first, contains, upTo, past}
 use Rattle.white.specs.White.{white, whiteHigh, trimHead, trimTail, trim}
 use Rattle.unicode.specs.Encode.{encode, Scalar}
 use Rattle.text.proofs.Laws.{digit-some, natural-value, unsigned-none}
@@ -20,11 +20,11 @@ use Rattle.unicode.proofs.Trailing.{tail-other}
 use Rattle.stamp.specs.declared.read.Time.the-variants.{At}
 use Rattle.base.specs.Limits.{mostHours, mostMinutes, mostSeconds}
 use Rattle.time.specs.Kind.{kindBad, unitsOf, markOf, fractionDigits, hourDigits}
-use Rattle.stamp.specs.Read.{colon, timeWith, timeIn}
+use Rattle.stamp.specs.Read.{colon, commaMark, markIn, timeWith, timeIn}
 use Rattle.stamp.specs.Write.{pad, width, widest, textWith, timeText}
-use Rattle.time.proofs.Limits.{units-low, fraction-low, fraction-holds, mark-plain}
+use Rattle.time.proofs.Limits.{units-low, fraction-low, fraction-holds}
 use Rattle.stamp.proofs.Written.{text-some, text-none}
-use Rattle.pattern.proofs.Free.{Free, free-append, up-byte, past-byte}
+use Rattle.pattern.proofs.Free.{Free, free-append, first-free, none-free, up-byte, past-byte}
 use Rattle.stamp.proofs.Pad.{pad-length, width-pos, width-pow}
 
 -- a list of digits, and a byte that is none
@@ -164,22 +164,72 @@ module _ (U frac least mark units : ℕ) (hU : 0 < U) (hf : U ≤ 10 ^ frac) (hf
       rw (e, p1, p2, H, M, S, F)
       (ap (λ (n : ℕ). At n mark) (ap (λ (n : ℕ). n * U + f) sum ∙ div-add-mod' units U))
 
--- a written time, read in its kind, is the time (hours up to 9,999), with the kind's mark
-pub time-back : (kind units : ℕ) → kindBad kind ≡ false → units < 36000000 * unitsOf kind → timeIn kind (timeText kind (markOf kind) units) ≡ At units (markOf kind)
-unfolding timeIn
-time-back kind units e h =
-    let U = unitsOf kind in
-    let f = fractionDigits kind in
-    let d = hourDigits kind in
-    let c = markOf kind in
-    let hU : 0 < U = omega (arith, units-low kind e) in
-    let hf : 0 < f = omega (arith, fraction-low kind e) in
-    sym
-    (no! _ e
-    (sym
-    (ap (λ (s : List ℕ). timeWith U c (trim s)) (text-some kind c units e) ∙
-    ap (timeWith U c) (trim-with U f d c units hf) ∙
-    back-with U f d c units hU (fraction-holds kind e) hf (mark-plain kind e) h)))
+-- what stands behind its second colon
+with-last : (U frac least mark units : ℕ) → past colon (past colon (textWith U frac least mark units)) ≡ pad 2 (units / U % 60) ++ mark ∷ pad frac (units % U)
+with-last U frac least mark units =
+    let h = units / U / 60 / 60 in
+    let m = units / U / 60 % 60 in
+    let w = widest least h in
+    let cm : Mark 58 = λ b l r e. omega arith in
+    let t3 : List ℕ = pad 2 (units / U % 60) ++ mark ∷ pad frac (units % U) in
+    let t2 : List ℕ = pad 2 m ++ 58 ∷ t3 in
+    ap (λ (s : List ℕ). past colon (past colon s)) (shape U frac least mark units)
+    ∙ ap (past colon) (past-byte 58 (pad w h) t2 (digits-free 58 cm (pad w h) (pad-digits w h)))
+    ∙ past-byte 58 (pad 2 m) t3 (digits-free 58 cm (pad 2 m) (pad-digits 2 m))
+
+-- a written time, read in its kind, is the time (hours up to 9,999), where the mark written is the one that its reading sees
+module _ (kind mark units : ℕ) (e : kindBad kind ≡ false) (hm : Mark mark)
+    (seen : markIn kind (textWith (unitsOf kind) (fractionDigits kind) (hourDigits kind) mark units) ≡ mark) (h : units < 36000000 * unitsOf kind) where
+  time-back : timeIn kind (timeText kind mark units) ≡ At units mark
+  unfolding timeIn
+  time-back =
+      let U = unitsOf kind in
+      let f = fractionDigits kind in
+      let d = hourDigits kind in
+      let hU : 0 < U = omega (arith, units-low kind e) in
+      let hf : 0 < f = omega (arith, fraction-low kind e) in
+      sym
+      (no! _ e
+      (sym
+      (ap (λ (s : List ℕ). timeWith U (markIn kind (trim s)) (trim s)) (text-some kind mark units e) ∙
+      ap (λ (s : List ℕ). timeWith U (markIn kind s) s) (trim-with U f d mark units hf) ∙
+      ap (λ (k : ℕ). timeWith U k (textWith U f d mark units)) seen ∙
+      back-with U f d mark units hU (fraction-holds kind e) hf hm h)))
+
+-- ASS has a point; SRT a comma or a point
+pub ass-back : (units : ℕ) → units < 36000000 * unitsOf 0 → timeIn 0 (timeText 0 46 units) ≡ At units 46
+unfolding markIn markOf kindBad
+ass-back units h = time-back 0 46 units refl (λ b l r e. omega arith) refl h
+
+comma-here : (r : List ℕ) → first commaMark (44 ∷ r) ≡ 0
+unfolding first starts
+comma-here r = refl
+
+comma-seen : (s : List ℕ) → Free 44 s → (r : List ℕ) → contains commaMark (s ++ 44 ∷ r) ≡ true
+unfolding contains
+comma-seen s f r = lt-ltb (first commaMark (s ++ 44 ∷ r)) (length (s ++ 44 ∷ r)) (omega (arith, first-free 44 [] s (44 ∷ r) f, comma-here r, length-append s (44 ∷ r)))
+
+plain-comma : Mark 44
+plain-comma = λ b l r e. omega arith
+
+pub comma-back : (units : ℕ) → units < 36000000 * unitsOf 1 → timeIn 1 (timeText 1 44 units) ≡ At units 44
+unfolding markIn kindBad
+comma-back units h =
+    let front : List ℕ = pad 2 (units / unitsOf 1 % 60) in
+    let free : Free 44 front = digits-free 44 plain-comma front (pad-digits 2 (units / unitsOf 1 % 60)) in
+    let seen : contains commaMark (front ++ 44 ∷ pad (fractionDigits 1) (units % unitsOf 1)) ≡ true = comma-seen front free (pad (fractionDigits 1) (units % unitsOf 1)) in
+    time-back 1 44 units refl plain-comma (rw (with-last (unitsOf 1) (fractionDigits 1) (hourDigits 1) 44 units, seen)) h
+
+pub point-back : (units : ℕ) → units < 36000000 * unitsOf 1 → timeIn 1 (timeText 1 46 units) ≡ At units 46
+unfolding markIn kindBad
+point-back units h =
+    let front : List ℕ = pad 2 (units / unitsOf 1 % 60) in
+    let back : List ℕ = pad (fractionDigits 1) (units % unitsOf 1) in
+    let f : Free 44 front = digits-free 44 plain-comma front (pad-digits 2 (units / unitsOf 1 % 60)) in
+    let g : Free 44 back = digits-free 44 plain-comma back (pad-digits (fractionDigits 1) (units % unitsOf 1)) in
+    let other : _≡_ {A = ℕ} 44 46 → ⊥ = λ q. omega (arith, q) in
+    let none : contains commaMark (front ++ 46 ∷ back) ≡ false = none-free 44 [] (front ++ 46 ∷ back) (free-append 44 front (46 ∷ back) f (other, g)) in
+    time-back 1 46 units refl (λ b l r e. omega arith) (rw (with-last (unitsOf 1) (fractionDigits 1) (hourDigits 1) 46 units, none)) h
 
 -- nothing of a written time is white space at an end
 pub text-trimmed : (kind mark units : ℕ) → kindBad kind ≡ false → trim (timeText kind mark units) ≡ timeText kind mark units

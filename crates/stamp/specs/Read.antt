@@ -1,12 +1,13 @@
 -- A caption time as text, read. A text is the list of its bytes.
 use Prim.Native.Nat.{ℕ, _+_, _-_, _*_, _≤_}
+use lib.Dec.{eqb}
 use mathlib.Core.Bool.{cond}
 use mathlib.Core.List.{List, [], _∷_}
 use Rattle.base.specs.Limits.{mostHours, mostMinutes, mostSeconds}
 use Rattle.text.specs.declared.decimal.Number.{Number}
 use Rattle.text.specs.declared.decimal.Number.the-variants.{Value, Bad as NoNumber}
 use Rattle.text.specs.Number.{number}
-use Rattle.pattern.specs.Find.{upTo, past}
+use Rattle.pattern.specs.Find.{contains, upTo, past}
 use Rattle.white.specs.White.{trim}
 use Rattle.time.specs.Kind.{kindBad, unitsOf, markOf}
 use Rattle.stamp.specs.declared.read.Time.{Time}
@@ -33,9 +34,17 @@ timeWith U mark text =
     (number mostSeconds (upTo (mark ∷ []) (past colon (past colon text))))
     (number (U - 1) (past (mark ∷ []) (past colon (past colon text))))
 
--- the time that a text, trimmed, says in a kind: `h:m:s.f` in ASS, `h:m:s,f` in SRT
+-- `,`
+abbrev pub commaMark : List ℕ
+commaMark = 44 ∷ []
+
+-- the mark before the fraction of a trimmed text: in SRT a comma where one stands behind the second `:`, else a point; the other kinds have their own
+unfoldable pub markIn : (kind : ℕ) → List ℕ → ℕ
+markIn kind t = cond (eqb kind 1) (cond (contains commaMark (past colon (past colon t))) 44 46) (markOf kind)
+
+-- the time that a text, trimmed, says in a kind: `h:m:s.f` in ASS, `h:m:s,f` or `h:m:s.f` in SRT
 unfoldable pub timeIn : (kind : ℕ) → List ℕ → Time
-timeIn kind text = cond (kindBad kind) Bad (timeWith (unitsOf kind) (markOf kind) (trim text))
+timeIn kind text = cond (kindBad kind) Bad (timeWith (unitsOf kind) (markIn kind (trim text)) (trim text))
 
 -- the number of the answer (22, bad time), and its values
 abbrev pub timeNumber : Time → ℕ

@@ -7,7 +7,7 @@ ghost use mathlib.Core.Path.{_≡_};
 ghost use Prim.Native.Nat.{_+_, _*_, _≤_};
 ghost use Rattle.base.specs.Limits.{mostHours, mostMinutes, mostSeconds};
 ghost use Rattle.pattern.specs.Find.{upTo, past};
-ghost use Rattle.stamp.specs.Read.{colon, timeFrom, timeWith, timeIn, Below};
+ghost use Rattle.stamp.specs.Read.{colon, timeFrom, timeWith, markIn, timeIn, Below};
 
 // A time that was read, in units, and the mark before its fraction.
 pub enum Time {
@@ -72,12 +72,26 @@ fn read_with(text: &[u8], unit: u32, mark: u8) -> Time
     join(h, m, s, f, unit, mark)
 }
 
-// Reads a time, trimmed first.
+// The mark before the fraction of a trimmed text.
+fn mark_in(text: &[u8], kind: u32) -> u8
+    ensures { λ r. ⌜ r ≡ markIn kind (now (text .entry)) ⌝ }
+{
+    if kind == 1 {
+        if pattern::has(after_colon(after_colon(text)), b",") {
+            return b',';
+        }
+        return b'.';
+    }
+    mark_of(kind)
+}
+
+// Reads a time, trimmed first, and tells the mark that it saw.
 pub fn read_time(text: &[u8], kind: u32) -> Time
     ensures { λ r. ⌜ r ≡ timeIn kind (now (text .entry)) ⌝ }
 {
     if kind_bad(kind) {
         return Time::Bad;
     }
-    read_with(white::trimmed(text), units_of(kind), mark_of(kind))
+    let t = white::trimmed(text);
+    read_with(t, units_of(kind), mark_in(t, kind))
 }

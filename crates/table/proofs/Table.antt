@@ -12,7 +12,7 @@ use Rattle.text.specs.Number.{digit, digits, valueFrom, natural, unsigned, numb
 use Rattle.text.specs.Line.{linesOf, textOf, terminatorLength, terminatorOf}
 use Rattle.time.specs.Kind.{kindBad, unitsOf, markOf, fractionDigits, hourDigits}
 use Rattle.time.specs.Convert.{ticksOf, startUnits, endUnits, scaledUp}
-use Rattle.stamp.specs.Read.{timeWith, timeIn}
+use Rattle.stamp.specs.Read.{markIn, timeWith, timeIn}
 use Rattle.stamp.specs.Write.{pad, widthUnder, width, textWith, timeText}
 use Rattle.segment.specs.declared.segment.Segment.{Segment}
 use Rattle.segment.specs.Segment.{segment}
@@ -34,7 +34,7 @@ use Rattle.table.specs.Table.{Table}
 use Rattle.table.proofs.TheMap.{segments-is}
 
 rows : Table (segment 0 3 0 3 0 3003 ∷ segment 6 10 6006 4 3003 4004 ∷ [])
-unfolding leadLen secondLow secondHigh tail widthBy charWidth codeBy codeHead whiteHigh white whiteHead last endsWhite whiteTail headFrom keepFrom trimHead trimTail trim starts equals first contains upTo past piecesFrom pieces digit digits valueFrom natural unsigned number linesOf textOf terminatorLength terminatorOf kindBad unitsOf markOf timeWith timeIn namesIn placeIn columnsIn fields fieldAt holdsAny bracketed inside pieceAt fieldPieces captionSays wordSays textSays lineSays emitBy render timeText textWith pad width widthUnder fractionDigits hourDigits fateOf decideOf decideTicks findFrom meetsParts lostLater ticksOf startUnits endUnits scaledUp srtEnd timingOf afterArrow timingLineSays blockSays
+unfolding leadLen secondLow secondHigh tail widthBy charWidth codeBy codeHead whiteHigh white whiteHead last endsWhite whiteTail headFrom keepFrom trimHead trimTail trim starts equals first contains upTo past piecesFrom pieces digit digits valueFrom natural unsigned number linesOf textOf terminatorLength terminatorOf kindBad unitsOf markOf timeWith markIn timeIn namesIn placeIn columnsIn fields fieldAt holdsAny bracketed inside pieceAt fieldPieces captionSays wordSays textSays lineSays emitBy render timeText textWith pad width widthUnder fractionDigits hourDigits fateOf decideOf decideTicks findFrom meetsParts lostLater ticksOf startUnits endUnits scaledUp srtEnd timingOf afterArrow timingLineSays blockSays
 rows =
     record {
       across = refl;

@@ -13,7 +13,7 @@ use Rattle.pattern.specs.Piece.{piecesFrom, pieces}
 use Rattle.text.specs.Number.{digit, digits, valueFrom, natural, unsigned, number}
 use Rattle.text.specs.Line.{linesOf, textOf, terminatorLength, terminatorOf}
 use Rattle.time.specs.Kind.{kindBad, unitsOf, markOf}
-use Rattle.stamp.specs.Read.{timeWith, timeIn}
+use Rattle.stamp.specs.Read.{markIn, timeWith, timeIn}
 use Rattle.event.specs.Says.{bytes, start, stop, short, stays, passes, cue}
 use Rattle.event.specs.Mark.{bom}
 use Rattle.columns.specs.Columns.{namesIn, placeIn, columnsIn, fields, fieldAt}
@@ -31,10 +31,10 @@ columns-stay : assSaid (bom ++ line "[Events]" ++ line "Format: Start, End, Text
     stays bom ∷ stays (line "[Events]") ∷ stays (line "Format: Start, End, Text") ∷ stays (line "[Fonts]") ∷ stays (line "Dialogue: x") ∷ stays (line "[Events]")
     ∷ cue (record { line = 6; start = 21; startMark = 46; stop = 25; stopMark = 46; tagged = false; frame = bytes (ascii "Dialogue:") ∷ start ∷ bytes (ascii ",") ∷ stop ∷ bytes (ascii ",") ∷ bytes (ascii "a,b") ∷ bytes (10 ∷ []) ∷ [] })
     ∷ passes short 7 (ascii "Comment: x") ∷ []
-unfolding leadLen secondLow secondHigh tail widthBy charWidth codeBy codeHead whiteHigh white whiteHead last endsWhite whiteTail headFrom keepFrom trimHead trimTail trim starts equals first contains upTo past piecesFrom pieces digit digits valueFrom natural unsigned number linesOf textOf terminatorLength terminatorOf kindBad unitsOf markOf timeWith timeIn namesIn placeIn columnsIn fields fieldAt holdsAny bracketed inside pieceAt fieldPieces captionSays wordSays textSays lineSays linesSaid assSaid
+unfolding leadLen secondLow secondHigh tail widthBy charWidth codeBy codeHead whiteHigh white whiteHead last endsWhite whiteTail headFrom keepFrom trimHead trimTail trim starts equals first contains upTo past piecesFrom pieces digit digits valueFrom natural unsigned number linesOf textOf terminatorLength terminatorOf kindBad unitsOf markOf timeWith markIn timeIn namesIn placeIn columnsIn fields fieldAt holdsAny bracketed inside pieceAt fieldPieces captionSays wordSays textSays lineSays linesSaid assSaid
 columns-stay = refl
 
 -- a bad time ends the text
 bad-time : assSaid (line "[Events]" ++ line "Format: Start, End" ++ line "Dialogue: 0:0:0.21,x" ++ line "later") ≡ stays (line "[Events]") ∷ stays (line "Format: Start, End") ∷ []
-unfolding leadLen secondLow secondHigh tail widthBy charWidth codeBy codeHead whiteHigh white whiteHead last endsWhite whiteTail headFrom keepFrom trimHead trimTail trim starts equals first contains upTo past piecesFrom pieces digit digits valueFrom natural unsigned number linesOf textOf terminatorLength terminatorOf kindBad unitsOf markOf timeWith timeIn namesIn placeIn columnsIn fields fieldAt holdsAny bracketed inside pieceAt fieldPieces captionSays wordSays textSays lineSays linesSaid assSaid
+unfolding leadLen secondLow secondHigh tail widthBy charWidth codeBy codeHead whiteHigh white whiteHead last endsWhite whiteTail headFrom keepFrom trimHead trimTail trim starts equals first contains upTo past piecesFrom pieces digit digits valueFrom natural unsigned number linesOf textOf terminatorLength terminatorOf kindBad unitsOf markOf timeWith markIn timeIn namesIn placeIn columnsIn fields fieldAt holdsAny bracketed inside pieceAt fieldPieces captionSays wordSays textSays lineSays linesSaid assSaid
 bad-time = refl

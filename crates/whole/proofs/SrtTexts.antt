@@ -11,7 +11,7 @@ use Rattle.pattern.specs.Find.{starts, first, contains, upTo, past}
 use Rattle.text.specs.Number.{digit, digits, valueFrom, natural, unsigned, number}
 use Rattle.text.specs.Line.{linesOf, textOf, terminatorLength, terminatorOf, blank}
 use Rattle.time.specs.Kind.{kindBad, unitsOf, markOf}
-use Rattle.stamp.specs.Read.{timeWith, timeIn}
+use Rattle.stamp.specs.Read.{markIn, timeWith, timeIn}
 use Rattle.event.specs.Says.{stays, cue}
 use Rattle.event.specs.Mark.{bom}
 use Rattle.timing.specs.Style.{srtEnd, blankIn}
@@ -34,10 +34,10 @@ blocks = refl
 -- a BOM stays, as do blank lines; the timing line is the text's third; a block without one passes
 parts : srtSaid sample ≡
     stays bom ∷ stays (line "") ∷ cue (blockCue 3 1005 44 2005 44 (blockFrame (line "7") [] (10 ∷ []) (line "a"))) ∷ stays (line "") ∷ stays (line " ") ∷ stays (line "b" ++ ascii "c") ∷ []
-unfolding leadLen secondLow secondHigh tail widthBy charWidth codeBy codeHead whiteHigh white whiteHead last endsWhite whiteTail headFrom keepFrom trimHead trimTail trim starts first contains upTo past digit digits valueFrom natural unsigned number linesOf textOf terminatorLength terminatorOf blank kindBad unitsOf markOf timeWith timeIn srtEnd blankIn timingOf afterArrow timingLineSays blockSays blocksOf blocksSaid srtSaid
+unfolding leadLen secondLow secondHigh tail widthBy charWidth codeBy codeHead whiteHigh white whiteHead last endsWhite whiteTail headFrom keepFrom trimHead trimTail trim starts first contains upTo past digit digits valueFrom natural unsigned number linesOf textOf terminatorLength terminatorOf blank kindBad unitsOf markOf timeWith markIn timeIn srtEnd blankIn timingOf afterArrow timingLineSays blockSays blocksOf blocksSaid srtSaid
 parts = refl
 
 -- a bad time ends the text
 bad-time : srtSaid (line "a" ++ line "" ++ line "0:0:1,5 --> x" ++ line "" ++ line "b") ≡ stays (line "a") ∷ stays (line "") ∷ []
-unfolding leadLen secondLow secondHigh tail widthBy charWidth codeBy codeHead whiteHigh white whiteHead last endsWhite whiteTail headFrom keepFrom trimHead trimTail trim starts first contains upTo past digit digits valueFrom natural unsigned number linesOf textOf terminatorLength terminatorOf blank kindBad unitsOf markOf timeWith timeIn srtEnd blankIn timingOf afterArrow timingLineSays blockSays blocksOf blocksSaid srtSaid
+unfolding leadLen secondLow secondHigh tail widthBy charWidth codeBy codeHead whiteHigh white whiteHead last endsWhite whiteTail headFrom keepFrom trimHead trimTail trim starts first contains upTo past digit digits valueFrom natural unsigned number linesOf textOf terminatorLength terminatorOf blank kindBad unitsOf markOf timeWith markIn timeIn srtEnd blankIn timingOf afterArrow timingLineSays blockSays blocksOf blocksSaid srtSaid
 bad-time = refl

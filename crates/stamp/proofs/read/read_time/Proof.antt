@@ -15,8 +15,8 @@ trimmed-requires c κs = search needs
 units-of-requires : tie.Need-units-of-requires
 units-of-requires c κs = search needs
 
-mark-of-requires : tie.Need-mark-of-requires
-mark-of-requires c κs = search needs
+mark-in-requires : tie.Need-mark-in-requires
+mark-in-requires c κs = search needs
 
 read-with-requires : tie.Need-read-with-requires
 read-with-requires c κs = read-limits _ _ _ (c .before .before .before .before .kind-bad .ensures) (c .before .before .before .if1 .left) (c .before .units-of .ensures)
@@ -32,6 +32,6 @@ read-time-spec =
     returns
     trimmed-requires
     units-of-requires
-    mark-of-requires
+    mark-in-requires
     read-with-requires
     returns-2)
