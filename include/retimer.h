@@ -15,7 +15,7 @@ extern "C" {
 /* 0 for a sound frame sheet, else 11, 12, 13 or 14. */
 uint32_t retimer_sheet_check(const uint8_t *sheet, size_t length);
 
-/* 0 for a good trim list, else 1 to 7, or 20 for bytes that are not UTF-8. */
+/* 0 for a good trim list, or a blank one, which keeps the whole play; else 2 to 7, or 20 for bytes that are not UTF-8. */
 uint32_t retimer_list_check(const uint8_t *list, size_t length);
 
 /* Conversions. kind: 0 ASS (hundredths), 1 SRT (thousandths); timescale: ticks a second, 1 to 1000000.

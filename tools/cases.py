@@ -10,6 +10,9 @@ sys.path.insert(0, os.path.dirname(os.path.abspath(__file__)))
 import lib
 from lib import as_bytes, case, place, seal
 
+# how many of the trim lists are blank (02, 2.4)
+BLANK = 0.05
+
 WHITE = [' ', '\t', '\u3000', '\u00a0', '\u2003', '\u0085', '\u1680', '\u205f', '\r', '\u2029']
 
 
@@ -99,7 +102,18 @@ def number(r, v):
     return s
 
 
+def blank_list(r):
+    if r.random() < 0.02:  # 65,537 are too many (7)
+        return b' ' * r.choice([65535, 65536, 65537])
+    s = ''.join(r.choice(lib.WHITE_SPACE) for _ in range(r.choice([0, 0, 1, 1, 2, 3, r.randint(1, 40)])))
+    if r.random() < 0.05:  # full to the last byte, or past it
+        s = '\u3000' * r.choice([21845, 21846]) + r.choice(['', ' '])
+    return s.encode()
+
+
 def trim_list(r, n=None, damaged=0.4):
+    if r.random() < BLANK:
+        return blank_list(r)
     k = r.choice([1, 1, 2, 2, 3, 4, 6, r.randint(1, 12)])
     top = n if n is not None else r.choice([20, 1000, 4294967295])
     # mostly ascending ranges inside the sheet, so that maps are built too

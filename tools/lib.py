@@ -8,7 +8,7 @@ root = os.path.dirname(os.path.dirname(os.path.abspath(__file__)))
 name = os.path.basename(sys.argv[0])
 
 # requests of document 02 that have landed, as the oracle's program takes them
-LANDED = ['2.7', '2.2']
+LANDED = ['2.7', '2.2', '2.4']
 
 
 # ---- arguments
@@ -152,6 +152,30 @@ def sheet(n, timescale=30000, sync=lambda i: i in (0, 3, 6), decode=lambda i: i,
 
 def as_bytes(words):
     return struct.pack('<%dI' % len(words), *words)
+
+
+# ---- trim lists
+WHITE_SPACE = '\t\n\v\f\r \x85\xa0\u1680\u2000\u2001\u2002\u2003\u2004\u2005\u2006\u2007\u2008\u2009\u200a\u2028\u2029\u202f\u205f\u3000'
+
+
+def blank(list):
+    """Whether a trim list of at most 65,536 bytes is White_Space alone; it then keeps the whole play (02, 2.4)."""
+    try:
+        return len(list) <= 65536 and not list.decode().strip(WHITE_SPACE)
+    except UnicodeDecodeError:
+        return False
+
+
+def whole_play(sheet):
+    """The list that keeps the same as a blank one: Trim(0,n-1), n being what a sheet says."""
+    return b'Trim(0,%d)' % max(0, int.from_bytes(sheet[8:12], 'little') - 1)
+
+
+def asked(one):
+    """The case to ask the oracle in the place of this one: the Rust refuses a blank list, so it is asked for the whole play (ops 2 and 3)."""
+    op, a, b, c, d, n, m, _ = struct.unpack('<8I', one[:32])
+    x, y, z = one[32:32 + n], one[32 + n:32 + n + m], one[32 + n + m:]
+    return case(op, a, b, c, d, x, whole_play(x), z) if op in (2, 3) and blank(y) else one
 
 
 # ---- times as text, in units of 1/100 s (ASS) and 1/1000 s (SRT)

@@ -54,7 +54,7 @@ pub fn check_sheet(sheet: &[u8]) -> Result<(), Refused> {
     by_number(unsafe { retimer_sheet_check(sheet.as_ptr(), sheet.len()) })
 }
 
-/// Whether `list` is a good trim list: 1 to 7, or 20 for bytes that are not UTF-8.
+/// Whether `list` is a good trim list, or a blank one, which keeps the whole play: else 2 to 7, or 20 for bytes that are not UTF-8.
 pub fn check_list(list: &[u8]) -> Result<(), Refused> {
     by_number(unsafe { retimer_list_check(list.as_ptr(), list.len()) })
 }

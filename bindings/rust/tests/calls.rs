@@ -51,12 +51,13 @@ fn sheets() {
 
 #[test]
 fn lists() {
-    for good in ["Trim(0,2) ++ Trim(6,8)", "Trim(0,1)++Trim(2,+3)", "\u{3000}Trim( 0 , 0 )\n"] {
+    for good in ["Trim(0,2) ++ Trim(6,8)", "Trim(0,1)++Trim(2,+3)", "\u{3000}Trim( 0 , 0 )\n", "", " \n", "\u{3000}\t\u{85}"] {
         assert_eq!(check_list(good.as_bytes()), Ok(()), "{good}");
     }
     for (list, number) in [
-        ("", 1),
-        (" \n", 1),
+        ("++", 2),
+        ("Trim(0,2)++ ", 2),
+        ("\u{FEFF}", 2),
         ("Trim(0,++1)", 2),
         ("Trim(0,1,2)", 2),
         ("Trim(0,x)", 3),
@@ -71,7 +72,7 @@ fn lists() {
     let many = |k: u32| (0..k).map(|i| format!("Trim({i},{i})")).collect::<Vec<_>>().join("++");
     assert_eq!(check_list(many(1024).as_bytes()), Ok(()));
     assert_eq!(check_list(many(1025).as_bytes()), Err(Refused(7)));
-    assert_eq!(check_list(&vec![b' '; 65536]), Err(Refused(1)));
+    assert_eq!(check_list(&vec![b' '; 65536]), Ok(()));
     assert_eq!(check_list(&vec![b' '; 65537]), Err(Refused(7)));
 }
 

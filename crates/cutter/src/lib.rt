@@ -13,7 +13,7 @@ pub extern "C" fn retimer_sheet_check(sheet: &[u8]) -> u32
     sheet::number(sheet::check(sheet))
 }
 
-// The trim list's number: 0, 1 to 7, or 20.
+// The trim list's number: 0, 2 to 7, or 20.
 #[no_mangle]
 pub extern "C" fn retimer_list_check(list: &[u8]) -> u32
     ensures { λ r. ⌜ r ≡ listNumber (now (list .entry)) ⌝ }

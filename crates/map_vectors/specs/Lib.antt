@@ -1,2 +1,3 @@
 -- Small sheets for worked examples.
 pub mod Turned
+pub mod Synced

@@ -18,52 +18,71 @@ use Rattle.frames.specs.Frames.{framesOf, timescaleOf, decodeOf}
 use Rattle.sheet.specs.Sheet.{sheetFault}
 use Rattle.base.proofs.RefusalNumbers.{else-numbers, unless-numbers}
 use Rattle.sheet.proofs.SheetLaws.{sheet-numbers, sound-head}
-use Rattle.trim.specs.TrimList.{listNumber, rangesOf, rangeCount}
-use Rattle.trim.proofs.RangeLaws.{list-number-table, range-count-most, ranges-length}
+use Rattle.trim.specs.TrimList.{listNumber}
+use Rattle.trim.proofs.RangeLaws.{OfList, list-number-table}
 use Rattle.plan.specs.Snap.{overlapsFault}
 use Rattle.plan.proofs.SnapMeaning.{Bounded, snap-bounded, overlap-numbers, overlap-apart}
 use Rattle.segment.specs.declared.segment.Segment.{Segment}
 use Rattle.segmap.specs.declared.whole.Made.{Made}
 use Rattle.segment.specs.Segment.{segment, flatOf, endBad, segmentBad, anyBad, mapBad}
 use Rattle.segmap.specs.Build.{ticksFrom, sourceStart, rangeTicks, rangeFault, rangesFault, segmentIn, segmentsIn}
-use Rattle.segmap.specs.Map.{rangesFor, snappedOf, mapNumber, Map, mapAnswer, mapOf, madeOf}
+use Rattle.segmap.specs.Map.{rangesFor, keptCount, snappedOf, mapNumber, Map, mapAnswer, mapOf, madeOf}
 use Rattle.segment.proofs.SegmentLaws.{flat-back}
 use Rattle.segmap.proofs.TicksLaws.{ticks-none, ticks-split, ticks-more, ticks-most, ticks-within}
 use Rattle.segmap.proofs.BuildLaws.{fault-free, faults-cut}
-use Rattle.segmap.proofs.MapLaws.{segments-count, snapped-length}
+use Rattle.segmap.proofs.MapLaws.{kept-few, kept-length, segments-count, snapped-length}
 
--- ---- the numbers of document 01's table: 0 to 14, 16 and 20
+-- ---- the numbers of the table: 0, 2 to 14, 16 and 20
+-- 0, or one of 2 to 14
+abbrev Told : ℕ → Type 0
+Told k = (k ≡ 0) ⊎ ((2 ≤ k) × (k ≤ 14))
+
 abbrev pub MapNumber : ℕ → Type 0
-MapNumber k = (k ≤ 14) ⊎ ((k ≡ 16) ⊎ (k ≡ 20))
+MapNumber k = Told k ⊎ ((k ≡ 16) ⊎ (k ≡ 20))
 
-range-number : (s : List ℕ) (n a e : ℕ) → rangeFault s n a e ≤ 10
+range-number : (s : List ℕ) (n a e : ℕ) → Told (rangeFault s n a e)
 unfolding rangeFault
 range-number s n a e =
-    else-numbers (λ (k : ℕ). k ≤ 10) (faultUnless (leb a e) 9) (faultUnless (leb (decodeOf s a + (e - a)) n) 10)
-    (unless-numbers (λ (k : ℕ). k ≤ 10) (omega arith) (leb a e) 9 (omega arith))
-    (unless-numbers (λ (k : ℕ). k ≤ 10) (omega arith) (leb (decodeOf s a + (e - a)) n) 10 (omega arith))
+    else-numbers Told (faultUnless (leb a e) 9) (faultUnless (leb (decodeOf s a + (e - a)) n) 10)
+    (unless-numbers Told (inl refl) (leb a e) 9 (inr (omega arith, omega arith)))
+    (unless-numbers Told (inl refl) (leb (decodeOf s a + (e - a)) n) 10 (inr (omega arith, omega arith)))
 
-ranges-number : (s : List ℕ) (n : ℕ) (l : List ℕ) → rangesFault s n l ≤ 10
+ranges-number : (s : List ℕ) (n : ℕ) (l : List ℕ) → Told (rangesFault s n l)
 unfolding rangesFault
-ranges-number s n [] = omega arith
-ranges-number s n (a ∷ []) = omega arith
-ranges-number s n (a ∷ e ∷ r) = else-numbers (λ (k : ℕ). k ≤ 10) (rangeFault s n a e) (rangesFault s n r) (range-number s n a e) (ranges-number s n r)
+ranges-number s n [] = inl refl
+ranges-number s n (a ∷ []) = inl refl
+ranges-number s n (a ∷ e ∷ r) = else-numbers Told (rangeFault s n a e) (rangesFault s n r) (range-number s n a e) (ranges-number s n r)
 
 or-else : {a b : ℕ} → MapNumber a → MapNumber b → MapNumber (a orElse b)
 or-else {a} {b} p q = else-numbers MapNumber a b p q
 
 argument : (t : Bool) → MapNumber (faultUnless t 16)
-argument t = unless-numbers MapNumber (inl (omega arith)) t 16 (inr (inl refl))
+argument t = unless-numbers MapNumber (inl (inl refl)) t 16 (inr (inl refl))
+
+of-list : (k : ℕ) → OfList k → MapNumber k
+of-list k (inl e) = inl (inl e)
+of-list k (inr (inl h)) = inl (inr (h .0, omega (arith, h .1)))
+of-list k (inr (inr e)) = inr (inr e)
 
 pub map-numbers : (sheet list : List ℕ) (d lent : ℕ) → MapNumber (mapNumber sheet list d lent)
 unfolding mapNumber
 map-numbers sheet list d lent =
     or-else (argument (leb (6 * mostSegments) lent))
     (or-else (argument (leb d 1))
-    (or-else (⊎-elim (λ e. inl (omega (arith, e))) (λ h. inl (omega (arith, h .1))) (sheet-numbers sheet))
-    (or-else (⊎-elim (λ h. inl (omega (arith, h))) (λ e. inr (inr e)) (list-number-table list))
-    (or-else (⊎-elim (λ e. inl (omega (arith, e))) (λ e. inl (omega (arith, e))) (overlap-numbers 0 (snappedOf sheet list d)))
-    (inl (omega (arith, ranges-number sheet (framesOf sheet) (snappedOf sheet list d))))))))
+    (or-else (⊎-elim (λ e. inl (inl e)) (λ h. inl (inr (omega (arith, h .0), h .1))) (sheet-numbers sheet))
+    (or-else (of-list (listNumber list) (list-number-table list))
+    (or-else (⊎-elim (λ e. inl (inl e)) (λ e. inl (inr (omega (arith, e), omega (arith, e)))) (overlap-numbers 0 (snappedOf sheet list d)))
+    (inl (ranges-number sheet (framesOf sheet) (snappedOf sheet list d)))))))
+
+-- no map has 1, which a blank list had in document 01
+never-of : (k : ℕ) → MapNumber k → k ≡ 1 → ⊥
+never-of k (inl (inl z)) e = omega arith
+never-of k (inl (inr h)) e = omega (arith, h .0)
+never-of k (inr (inl z)) e = omega arith
+never-of k (inr (inr z)) e = omega arith
+
+pub map-never-1 : (sheet list : List ℕ) (d lent : ℕ) → mapNumber sheet list d lent ≡ 1 → ⊥
+map-never-1 sheet list d lent e = never-of (mapNumber sheet list d lent) (map-numbers sheet list d lent) e
 
 -- ---- segments of ranges that have passed 8, 9 and 10
 -- their durations together
@@ -274,24 +293,25 @@ module _ (sheet list : List ℕ) (d lent : ℕ) (made : mapNumber sheet list d l
   unfolding mapAnswer
   made-segments = ap (λ (m : Map). m .segments) answer-made
 
-  -- as many as the list has ranges, and so at most 1,024
-  pub made-count : mapOf sheet list d lent .count ≡ rangeCount list
+  -- as many as the list has ranges, one for a blank list, and so at most 1,024
+  pub made-count : mapOf sheet list d lent .count ≡ keptCount list
   made-count =
       map-count sheet list d lent ∙ ap length made-segments
-      ∙ segments-count sheet 0 (rangeCount list) (snappedOf sheet list d) (snapped-length sheet list d (made-parts .list-sound))
+      ∙ segments-count sheet 0 (keptCount list) (snappedOf sheet list d) (snapped-length sheet list d (made-parts .list-sound))
 
   pub made-few : mapOf sheet list d lent .count ≤ mostSegments
-  made-few = omega (arith, made-count, range-count-most list (made-parts .list-sound))
+  made-few = omega (arith, made-count, kept-few list (made-parts .list-sound))
 
   -- no number of a snapped range is above the frame count
   pub made-bounded : Bounded (framesOf sheet) (snappedOf sheet list d)
-  unfolding snappedOf rangesFor
-  made-bounded = snap-bounded sheet (framesOf sheet) d (rangeCount list) (rangesOf list) (ranges-length list (made-parts .list-sound))
+  unfolding snappedOf
+  made-bounded =
+      snap-bounded sheet (framesOf sheet) d (keptCount list) (rangesFor (framesOf sheet) list) (kept-length (framesOf sheet) list (made-parts .list-sound))
 
   -- its segments' frames are the snapped ranges, in the list's order
   pub made-frames : framesIn (mapOf sheet list d lent .segments) ≡ snappedOf sheet list d
   made-frames =
-      ap framesIn made-segments ∙ segments-frames sheet 0 (rangeCount list) (snappedOf sheet list d) (snapped-length sheet list d (made-parts .list-sound))
+      ap framesIn made-segments ∙ segments-frames sheet 0 (keptCount list) (snappedOf sheet list d) (snapped-length sheet list d (made-parts .list-sound))
 
   -- each output starts where the one before it ends, and a segment without frames has no duration
   pub made-chained : Chained 0 (mapOf sheet list d lent .segments)

@@ -2,3 +2,4 @@ pub mod TicksLaws
 pub mod BuildLaws
 pub mod MapLaws
 pub mod Built
+pub mod Blank

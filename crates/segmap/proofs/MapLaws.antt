@@ -1,10 +1,13 @@
 -- Laws of the whole call: its refusals in their order, and the map that it makes.
 use mathlib.Core.Path.{_≡_, refl, sym, ap, _∙_}
+use mathlib.Core.Bool.{Bool, true, false, cond}
 use mathlib.Core.List.{List, [], _∷_}
 use Prim.Native.Nat.{ℕ, zero, suc, _+_, _-_, _*_, _≤_, _<_}
 use native.Mathlib.Omega.{arith}
-use borrow.Author.Tests.{le-leb, lt-leb}
-use lib.ListN.{length, take}
+use borrow.Author.Tests.{le-leb, lt-leb, eq-eqb, ne-eqb}
+use lib.Dec.{eqb}
+use Rattle.text.specs.Line.{blank}
+use lib.ListN.{length, take, set}
 use Rattle.base.specs.Limits.{mostFrames, mostPlaces, mostSegments}
 use Rattle.base.specs.Put.{put}
 use Rattle.base.specs.Refusal.{_orElse_, faultUnless}
@@ -16,16 +19,16 @@ use Rattle.sheet.specs.declared.answer.Head.{Head}
 use Rattle.sheet.specs.declared.answer.Sheet.{Sheet}
 use Rattle.sheet.specs.declared.answer.Sheet.the-variants.{Sound, Refused}
 use Rattle.sheet.proofs.SheetLaws.{sound-head, sound-answer, refused-answer}
-use Rattle.trim.specs.TrimList.{listNumber, rangesOf, rangeCount, parseOf, rangePlaces}
+use Rattle.trim.specs.TrimList.{rangesIn, listNumber, rangesOf, rangeCount, parsed, listAnswer, parseOf, rangePlaces}
 use Rattle.trim.specs.declared.list.Parsed.{Parsed}
-use Rattle.trim.proofs.RangeLaws.{parse-number, parse-lent, range-count-most, ranges-length, answered-count, places-front}
+use Rattle.trim.proofs.RangeLaws.{parse-number, parse-lent, range-count-most, ranges-length, answered-count, places-front, places-written, none-blank, list-none}
 use Rattle.plan.specs.Snap.{snapAll, overlapsFault}
 use Rattle.plan.proofs.SnapLaws.{snap-length}
 use Rattle.segment.specs.declared.segment.Segment.{Segment}
 use Rattle.segmap.specs.declared.whole.Made.{Made}
 use Rattle.segment.specs.Segment.{flatOf}
 use Rattle.segmap.specs.Build.{rangeTicks, rangesFault, segmentsIn}
-use Rattle.segmap.specs.Map.{rangesFor, snappedOf, mapNumber, mapAnswer, mapOf, made, madeOf}
+use Rattle.segmap.specs.Map.{rangesFor, keptCount, keptOf, snappedOf, mapNumber, mapAnswer, mapOf, made, madeOf}
 
 -- ---- snapped ranges tested: f is the overlap's number and g that of the ranges
 pub ranges-kept : (a b f g : ℕ) → f ≡ a → f ≡ 0 → g ≡ b → g ≡ 0 → 0 ≡ a orElse b
@@ -113,36 +116,130 @@ module _ (s : List ℕ) (a : Sheet) (h : Head) (e : a ≡ sheetOf s) (f : a ≡ 
 pub frames-few : (s : List ℕ) (n : ℕ) → sheetFault s ≡ 0 → n ≡ framesOf s → n ≤ mostFrames
 frames-few s n z e = omega (arith, sound-head s z .frames-high)
 
--- ---- the list: p is what was read of it into the places l
-module _ (list l : List ℕ) (p : Parsed) (e : p ≡ parseOf list (length l)) (places : mostPlaces ≤ length l) where
+-- ---- the list's ranges
+pub kept-few : (list : List ℕ) → listNumber list ≡ 0 → keptCount list ≤ mostSegments
+unfolding keptCount
+kept-few list z = go (blank list)
+  where
+    go : (t : Bool) → cond t 1 (rangeCount list) ≤ mostSegments
+    go true = omega arith
+    go false = omega (arith, range-count-most list z)
+
+pub kept-length : (n : ℕ) (list : List ℕ) → listNumber list ≡ 0 → length (rangesFor n list) ≡ 2 * keptCount list
+unfolding rangesFor keptCount
+kept-length n list z = go (blank list)
+  where
+    go : (t : Bool) → length (cond t (0 ∷ n ∷ []) (rangesOf list)) ≡ 2 * cond t 1 (rangeCount list)
+    go true = refl
+    go false = ranges-length list z
+
+blank-ranges : (list : List ℕ) → blank list ≡ true → rangesOf list ≡ []
+unfolding rangesOf rangesIn
+blank-ranges list e = ap rangesIn (list-none list e)
+
+blank-count : (list : List ℕ) → blank list ≡ true → rangeCount list ≡ 0
+unfolding rangeCount
+blank-count list e = ap length (list-none list e)
+
+-- p is what was read of the list into the places l, and m what stands in them then
+module _ (list l m : List ℕ) (n : ℕ) (p : Parsed) (e : p ≡ parseOf list (length l)) (places : mostPlaces ≤ length l) (em : m ≡ rangePlaces list l) where
+  parsed-number : p .number ≡ listNumber list
+  parsed-number = ap (λ (x : Parsed). x .number) e ∙ parse-number list (length l) ∙ parse-lent list (length l) places
+
+  kept-by : (k : ℕ) → k ≡ cond (eqb (listNumber list) 0) (keptCount list) 0 → parsed (p .number) k ≡ keptOf list
+  unfolding keptOf
+  kept-by k q = rw (parsed-number, q)
+
+  answer-is : p ≡ parsed (p .number) (p .count)
+  answer-is = refl
+
+  pub kept-refused : (p .number ≡ 0 → ⊥) → p ≡ keptOf list
+  unfolding parseOf listAnswer
+  kept-refused h =
+      let x : eqb (listNumber list) 0 ≡ false = ne-eqb (listNumber list) 0 (λ q. h (parsed-number ∙ q)) in
+      let c : p .count ≡ 0 = ap (λ (y : Parsed). y .count) e ∙ ap (λ (b : ℕ). cond (eqb b 0) (rangeCount list) 0) (parse-lent list (length l) places) ∙ ap (λ (t : Bool). cond t (rangeCount list) 0) x in
+      kept-by (p .count) (c ∙ sym (ap (λ (t : Bool). cond t (keptCount list) 0) x))
+
+  pub kept-vacuous : (x y : List ℕ) → (p .number ≡ 0 → ⊥) → p .number ≡ 0 → x ≡ y
+  kept-vacuous x y h z = absurd (h z)
+
+  module _ (z : p .number ≡ 0) where
+    zero-list : listNumber list ≡ 0
+    zero-list = sym parsed-number ∙ z
+
+    counted : p .count ≡ rangeCount list
+    unfolding parseOf
+    counted = ap (λ (x : Parsed). x .count) e ∙ answered-count list _ (parse-lent list (length l) places ∙ zero-list)
+
+    some-kept : (t : Bool) → blank list ≡ t → (p .count ≡ 0 → ⊥) → blank list ≡ false
+    some-kept false q h = q
+    some-kept true q h = absurd (h (counted ∙ blank-count list q))
+
+    pub kept-list : (p .count ≡ 0 → ⊥) → p ≡ keptOf list
+    unfolding keptCount
+    kept-list h =
+        let nb = some-kept (blank list) refl h in
+        kept-by (p .count) (counted ∙ sym (ap (λ (t : Bool). cond t (rangeCount list) (rangeCount list)) nb) ∙ sym (rw (eq-eqb (listNumber list) 0 zero-list, nb)))
+
+    pub list-front : (p .count ≡ 0 → ⊥) → take (2 * p .count) m ≡ rangesFor n list
+    unfolding rangesFor
+    list-front h =
+        let nb = some-kept (blank list) refl h in
+        ap (λ (k : ℕ). take (2 * k) m) counted ∙ ap (take (2 * rangeCount list)) em ∙ places-front list l places zero-list ∙ sym (rw nb)
+
+    pub kept-blank : (r : Parsed) → p .count ≡ 0 → r ≡ parsed 0 1 → r ≡ keptOf list
+    unfolding keptCount
+    kept-blank r c g =
+        let b : blank list ≡ true = none-blank list (sym counted ∙ c) in
+        g ∙ ap (λ (k : ℕ). parsed k 1) (sym z) ∙ kept-by 1 (sym (rw (eq-eqb (listNumber list) 0 zero-list, b)))
+
+    -- a blank list leaves the places as they were
+    places-two : blank list ≡ true → 2 ≤ length m
+    places-two b =
+        let q : m ≡ l = em ∙ places-written list l places zero-list ∙ ap (λ (v : List ℕ). put v l) (blank-ranges list b) ∙ put-nil l in
+        omega (arith, ap length q)
+
+    pub blank-front : (w : List ℕ) → p .count ≡ 0 → w ≡ set (set m 0 0) 1 n → take (2 * 1) w ≡ rangesFor n list
+    unfolding rangesFor
+    blank-front w c g =
+        let b : blank list ≡ true = none-blank list (sym counted ∙ c) in
+        ap (take (2 * 1)) g ∙ two m (places-two b) ∙ sym (rw b)
+      where
+        two : (v : List ℕ) → 2 ≤ length v → take 2 (set (set v 0 0) 1 n) ≡ 0 ∷ n ∷ []
+        two [] k = absurd (omega arith)
+        two (x ∷ []) k = absurd (omega arith)
+        two (x ∷ y ∷ v) k = refl
+
+-- ---- p is what was read of the list
+module _ (list : List ℕ) (p : Parsed) (e : p ≡ keptOf list) where
   list-number : p .number ≡ listNumber list
-  list-number = ap (λ (x : Parsed). x .number) e ∙ parse-number list (length l) ∙ parse-lent list (length l) places
+  unfolding keptOf
+  list-number = ap (λ (x : Parsed). x .number) e
 
   module _ (z : p .number ≡ 0) where
     list-zero : listNumber list ≡ 0
     list-zero = sym list-number ∙ z
 
-    pub list-count : p .count ≡ rangeCount list
-    unfolding parseOf
-    list-count = ap (λ (x : Parsed). x .count) e ∙ answered-count list _ (parse-lent list (length l) places ∙ list-zero)
+    pub list-count : p .count ≡ keptCount list
+    unfolding keptOf
+    list-count = ap (λ (x : Parsed). x .count) e ∙ ap (λ (t : Bool). cond t (keptCount list) 0) (eq-eqb (listNumber list) 0 list-zero)
 
     pub count-few : p .count ≤ mostSegments
-    count-few = omega (arith, list-count, range-count-most list list-zero)
+    count-few = omega (arith, list-count, kept-few list list-zero)
 
-    -- the ranges that were read, snapped in place
-    pub snapped-is : (s : List ℕ) (n d : ℕ) (m w : List ℕ) → n ≡ framesOf s → m ≡ rangePlaces list l → w ≡ put (snapAll s n d (take (2 * p .count) m)) m
+    -- the ranges that were read into m, snapped in place
+    pub snapped-is : (s m : List ℕ) (n d : ℕ) (w : List ℕ) → (p .number ≡ 0 → take (2 * p .count) m ≡ rangesFor n list) → n ≡ framesOf s → w ≡ put (snapAll s n d (take (2 * p .count) m)) m
         → take (2 * p .count) w ≡ snappedOf s list d
-    unfolding snappedOf rangesFor
-    snapped-is s n d m w en em ew =
-        let f : take (2 * p .count) m ≡ rangesOf list =
-        ap (λ (k : ℕ). take (2 * k) m) list-count ∙ ap (take (2 * rangeCount list)) em ∙ places-front list l places list-zero in
+    unfolding snappedOf
+    snapped-is s m n d w front en ew =
+        let f : take (2 * p .count) m ≡ rangesFor n list = front z in
         let g : length (snapAll s n d (take (2 * p .count) m)) ≡ 2 * p .count =
-        snap-length s n d (take (2 * p .count) m) ∙ ap length f ∙ ranges-length list list-zero ∙ ap (λ (k : ℕ). 2 * k) (sym list-count) in
+        snap-length s n d (take (2 * p .count) m) ∙ ap length f ∙ kept-length n list list-zero ∙ ap (λ (k : ℕ). 2 * k) (sym list-count) in
         ap (λ (k : ℕ). take k w) (sym g)
         ∙ ap (take (length (snapAll s n d (take (2 * p .count) m)))) ew
         ∙ take-put (snapAll s n d (take (2 * p .count) m)) m
         ∙ ap (snapAll s n d) f
-        ∙ ap (λ (k : ℕ). snapAll s k d (rangesOf list)) en
+        ∙ ap (λ (k : ℕ). snapAll s k d (rangesFor k list)) en
 
 -- as many segments as ranges
 pub segments-count : (s : List ℕ) (o k : ℕ) (l : List ℕ) → length l ≡ 2 * k → length (segmentsIn s o l) ≡ k
@@ -151,20 +248,20 @@ segments-count s o k [] h = omega arith
 segments-count s o k (a ∷ []) h = absurd (omega arith)
 segments-count s o k (a ∷ e ∷ r) h = omega (arith, segments-count s (o + rangeTicks s a e) (k - 1) r (omega arith))
 
-pub snapped-length : (s list : List ℕ) (d : ℕ) → listNumber list ≡ 0 → length (snappedOf s list d) ≡ 2 * rangeCount list
-unfolding snappedOf rangesFor
-snapped-length s list d z = snap-length s (framesOf s) d (rangesOf list) ∙ ranges-length list z
+pub snapped-length : (s list : List ℕ) (d : ℕ) → listNumber list ≡ 0 → length (snappedOf s list d) ≡ 2 * keptCount list
+unfolding snappedOf
+snapped-length s list d z = snap-length s (framesOf s) d (rangesFor (framesOf s) list) ∙ kept-length (framesOf s) list z
 
 -- ---- a sound sheet, and the list's answer p
-module _ (s list : List ℕ) (d n lent : ℕ) (l m w : List ℕ) (p : Parsed) (sound : sheetFault s ≡ 0) (en : n ≡ framesOf s) (dir : d ≤ 1) (room : 6 * mostSegments ≤ lent)
-    (e : p ≡ parseOf list (length l)) (places : mostPlaces ≤ length l) where
+module _ (s list : List ℕ) (d n lent : ℕ) (p : Parsed) (sound : sheetFault s ≡ 0) (en : n ≡ framesOf s) (dir : d ≤ 1) (room : 6 * mostSegments ≤ lent)
+    (e : p ≡ keptOf list) where
   past-sheet : (v : ℕ) → v ≡ listNumber list orElse (overlapsFault 0 (snappedOf s list d) orElse rangesFault s (framesOf s) (snappedOf s list d)) → v ≡ mapNumber s list d lent
   past-sheet v q = else-next _ _ (sheetFault s) v refl sound q ∙ sym (past-arguments s list d lent room dir)
 
   -- the list is refused
   module _ (h : p .number ≡ 0 → ⊥) where
     number-list : p .number ≡ mapNumber s list d lent
-    number-list = past-sheet (p .number) (else-here _ _ (p .number) (list-number list l p e places) h)
+    number-list = past-sheet (p .number) (else-here _ _ (p .number) (list-number list p e) h)
 
     pub list-made : (r : Made) → r ≡ made (p .number) 0 0 → r ≡ madeOf (mapOf s list d lent)
     list-made r q = refused-made s list d lent (p .number) number-list h r q
@@ -173,15 +270,15 @@ module _ (s list : List ℕ) (d n lent : ℕ) (l m w : List ℕ) (p : Parsed) (s
     list-map x = refused-map s list d lent (p .number) number-list h x
 
   -- the list is read; g is the number of its snapped ranges
-  module _ (z : p .number ≡ 0) (em : m ≡ rangePlaces list l) (ew : w ≡ put (snapAll s n d (take (2 * p .count) m)) m) (g : ℕ)
+  module _ (m w : List ℕ) (front : p .number ≡ 0 → take (2 * p .count) m ≡ rangesFor n list) (z : p .number ≡ 0) (ew : w ≡ put (snapAll s n d (take (2 * p .count) m)) m) (g : ℕ)
       (eg : g ≡ overlapsFault 0 (take (2 * p .count) w) orElse rangesFault s n (take (2 * p .count) w)) where
     snapped : take (2 * p .count) w ≡ snappedOf s list d
-    snapped = snapped-is list l p e places z s n d m w en em ew
+    snapped = snapped-is list p e z s m n d w front en ew
 
     number-ranges : g ≡ mapNumber s list d lent
     number-ranges =
         past-sheet g
-        (else-next _ _ (p .number) g (list-number list l p e places) z
+        (else-next _ _ (p .number) g (list-number list p e) z
         (eg
         ∙ ap (λ (x : List ℕ). overlapsFault 0 x orElse rangesFault s n x) snapped
         ∙ ap (λ (k : ℕ). overlapsFault 0 (snappedOf s list d) orElse rangesFault s k (snappedOf s list d)) en))
@@ -196,7 +293,7 @@ module _ (s list : List ℕ) (d n lent : ℕ) (l m w : List ℕ) (p : Parsed) (s
     unfolding mapOf
     whole-made t r et h q =
         let c : p .count ≡ length (segmentsIn s 0 (snappedOf s list d)) =
-        list-count list l p e places z ∙ sym (segments-count s 0 (rangeCount list) (snappedOf s list d) (snapped-length s list d (list-zero list l p e places z))) in
+        list-count list p e z ∙ sym (segments-count s 0 (keptCount list) (snappedOf s list d) (snapped-length s list d (list-zero list p e z))) in
         q ∙ ap (λ (x : ℕ). made 0 x (p .count)) et ∙ ap (made 0 (timescaleOf s)) c
         ∙ sym (answer-made (mapNumber s list d lent) (timescaleOf s) (segmentsIn s 0 (snappedOf s list d)) (sym number-ranges ∙ h))
 

@@ -1,21 +1,31 @@
 -- The map that a sheet and a trim list give, from their bytes, or the number of the refusal in document 01's order.
 use Prim.Native.Nat.{ℕ, zero, suc, _*_}
-use mathlib.Core.List.{List, []}
-use lib.Dec.{leb}
+use mathlib.Core.Bool.{cond}
+use mathlib.Core.List.{List, [], _∷_}
+use lib.Dec.{eqb, leb}
 use lib.ListN.{length}
 use Rattle.base.specs.Limits.{mostSegments}
 use Rattle.base.specs.Refusal.{_orElse_, faultUnless}
 use Rattle.frames.specs.Frames.{framesOf, timescaleOf}
 use Rattle.sheet.specs.Sheet.{sheetFault}
-use Rattle.trim.specs.TrimList.{listNumber, rangesOf}
+use Rattle.text.specs.Line.{blank}
+use Rattle.trim.specs.TrimList.{listNumber, rangeCount, rangesOf, parsed}
+use Rattle.trim.specs.declared.list.Parsed.{Parsed}
 use Rattle.plan.specs.Snap.{snapAll, overlapsFault}
 use Rattle.segment.specs.declared.segment.Segment.{Segment}
 use Rattle.segmap.specs.declared.whole.Made.{Made}
 use Rattle.segmap.specs.Build.{rangesFault, segmentsIn}
 
--- the ranges that a list keeps of n frames
+-- the ranges that a list keeps of n frames: a blank one keeps them all
 unfoldable pub rangesFor : ℕ → List ℕ → List ℕ
-rangesFor n list = rangesOf list
+rangesFor n list = cond (blank list) (0 ∷ n ∷ []) (rangesOf list)
+
+-- how many these are, and what is read of a list: its number, and their count where that is 0
+unfoldable pub keptCount : List ℕ → ℕ
+keptCount list = cond (blank list) 1 (rangeCount list)
+
+unfoldable pub keptOf : List ℕ → Parsed
+keptOf list = parsed (listNumber list) (cond (eqb (listNumber list) 0) (keptCount list) 0)
 
 -- the same, snapped
 unfoldable pub snappedOf : (sheet list : List ℕ) (direction : ℕ) → List ℕ

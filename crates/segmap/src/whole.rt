@@ -2,6 +2,7 @@
 use crate::building::build;
 use crate::faults::ranges_fault;
 use sheet::Sheet;
+use trim::Parsed;
 ghost use mathlib.Core.Path.{_≡_};
 ghost use Prim.Native.Nat.{_*_, _≤_};
 ghost use lib.ListN.{length, take};
@@ -13,7 +14,7 @@ ghost use Rattle.sheet.specs.Sheet.{sheetFault};
 ghost use Rattle.plan.specs.Snap.{overlapsFault};
 ghost use Rattle.segment.specs.Segment.{flatOf};
 ghost use Rattle.segmap.specs.Build.{rangesFault, segmentsIn};
-ghost use Rattle.segmap.specs.Map.{made, madeOf, mapOf};
+ghost use Rattle.segmap.specs.Map.{rangesFor, keptOf, made, madeOf, mapOf};
 
 // What a call gives: 0 with the sheet's timescale and how many segments were written, or the number of the refusal and zeros.
 pub struct Made {
@@ -51,6 +52,29 @@ fn keep(s: &[u8], n: u32, ranges: &[u32], count: usize, map: &mut [u64]) -> u32
     0
 }
 
+// Reads the list into `ranges`: a blank one has the range of all n frames.
+fn ranges_of(list: &[u8], n: u32, ranges: &mut [u32]) -> Parsed
+    requires { ⌜ mostPlaces ≤ length (now ranges) ⌝ }
+    ensures { λ r. ⌜ r ≡ keptOf (now (list .entry)) ⌝ }
+    ensures { λ r. ⌜ (r .number ≡ 0 → take (2 * r .count) (now (ranges .exit)) ≡ rangesFor n (now (list .entry))) ⌝ }
+{
+    let p = trim::parse(list, ranges);
+    let f = p.number;
+    if f != 0 {
+        return p;
+    }
+    let count = p.count;
+    if count != 0 {
+        return p;
+    }
+    ranges[0] = 0;
+    ranges[1] = n;
+    Parsed {
+        number: 0,
+        count: 1,
+    }
+}
+
 // Reads the list into `ranges`, snaps them and writes their segments, of a sheet without a fault.
 fn map_ranges(
     s: &[u8],
@@ -66,7 +90,7 @@ fn map_ranges(
     ensures { λ r. ⌜ r ≡ madeOf (mapOf (now (s .entry)) (now (list .entry)) direction (length (now (map .entry)))) ⌝ }
     ensures { λ _. ⌜ now (map .exit) ≡ put (flatOf (mapOf (now (s .entry)) (now (list .entry)) direction (length (now (map .entry))) .segments)) (now (map .entry)) ⌝ }
 {
-    let parsed = trim::parse(list, ranges);
+    let parsed = ranges_of(list, n, ranges);
     let f = parsed.number;
     if f != 0 {
         return refused(f);

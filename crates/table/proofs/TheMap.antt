@@ -17,7 +17,7 @@ use Rattle.frames.specs.Frames.{recordWord, decodeOf, syncOf, durationOf, frame
 use Rattle.sheet_vectors.specs.Small.{smallSheet}
 use Rattle.sheet_vectors.proofs.Vectors.{small-fault, small-timescale, small-frames}
 use Rattle.trim.specs.Token.{rangeOf, boundsOf, pairOf, closedOf, tokenOf, behindEnd, stepOf, tokenNumber, tokenRange, tokenEnd}
-use Rattle.trim.specs.TrimList.{tokensOf, tokensNumber, rangesIn, headNumber, listNumber, rangesOf}
+use Rattle.trim.specs.TrimList.{tokensOf, listTokens, tokensNumber, rangesIn, headNumber, listNumber, rangesOf}
 use Rattle.plan.specs.Snap.{lastBelow, firstFrom, floorSync, ceilSync, snapStart, snapEnd, snapAll, overlapsFault}
 use Rattle.segment.specs.declared.segment.Segment.{Segment}
 use Rattle.segment.specs.Segment.{segment}
@@ -26,12 +26,16 @@ use Rattle.segmap.specs.Map.{rangesFor, snappedOf, mapNumber, Map, mapAnswer, m
 use Rattle.table.specs.Example.{theList, theMap, theSegments}
 
 list-number : listNumber theList ≡ 0
-unfolding listNumber headNumber tokensNumber tokensOf pieces piecesFrom starts stepOf behindEnd tokenOf closedOf pairOf boundsOf rangeOf tokenNumber tokenEnd number natural digits digit valueFrom unsigned blank trim trimTail trimHead keepFrom headFrom whiteTail endsWhite last whiteHead white whiteHigh utf8 utf8From codeHead codeBy charWidth widthBy leadLen secondLow secondHigh tail faultUnless _orElse_
+unfolding listTokens listNumber headNumber tokensNumber tokensOf pieces piecesFrom starts stepOf behindEnd tokenOf closedOf pairOf boundsOf rangeOf tokenNumber tokenEnd number natural digits digit valueFrom unsigned blank trim trimTail trimHead keepFrom headFrom whiteTail endsWhite last whiteHead white whiteHigh utf8 utf8From codeHead codeBy charWidth widthBy leadLen secondLow secondHigh tail faultUnless _orElse_
 list-number = refl
 
 list-ranges : rangesOf theList ≡ 0 ∷ 3 ∷ 6 ∷ 9 ∷ []
-unfolding rangesOf rangesIn tokensOf pieces piecesFrom starts tokenOf closedOf pairOf boundsOf rangeOf tokenRange number natural digits digit valueFrom unsigned trim trimTail trimHead keepFrom headFrom whiteTail endsWhite last whiteHead white whiteHigh codeHead codeBy charWidth widthBy leadLen secondLow secondHigh tail
+unfolding listTokens blank rangesOf rangesIn tokensOf pieces piecesFrom starts tokenOf closedOf pairOf boundsOf rangeOf tokenRange number natural digits digit valueFrom unsigned trim trimTail trimHead keepFrom headFrom whiteTail endsWhite last whiteHead white whiteHigh codeHead codeBy charWidth widthBy leadLen secondLow secondHigh tail
 list-ranges = refl
+
+list-told : blank theList ≡ false
+unfolding blank trim trimTail trimHead keepFrom headFrom whiteTail endsWhite last whiteHead white whiteHigh codeHead codeBy charWidth widthBy leadLen secondLow secondHigh tail
+list-told = refl
 
 abbrev snapped : List ℕ
 snapped = 0 ∷ 3 ∷ 6 ∷ 10 ∷ []
@@ -42,7 +46,7 @@ snaps = refl
 
 snapped-is : snappedOf smallSheet theList 0 ≡ snapped
 unfolding snappedOf rangesFor
-snapped-is = rw (small-frames, list-ranges) snaps
+snapped-is = rw (small-frames, list-told, list-ranges) snaps
 
 overlap-none : overlapsFault 0 snapped ≡ 0
 unfolding overlapsFault faultUnless _orElse_

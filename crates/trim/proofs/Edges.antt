@@ -1,6 +1,5 @@
 -- The limits of a list from both sides, by document 01's numbers: 65,536 bytes and 1,024 trims (7), 2,048 places (16).
 use mathlib.Core.Path.{_≡_, refl, ap, _∙_}
-use mathlib.Core.Bool.{not}
 use mathlib.Core.List.{List, [], _∷_}
 use Prim.Native.Nat.{ℕ, zero, suc, _≤_, _<_}
 use native.Mathlib.Omega.{arith}
@@ -11,9 +10,8 @@ use Rattle.base.specs.Refusal.{_orElse_, faultUnless}
 use Rattle.base.proofs.RefusalLaws.{else-none, unless-held}
 use Rattle.base.proofs.RefusalNumbers.{else-numbers, unless-numbers}
 use Rattle.utf8.specs.Utf8.{utf8}
-use Rattle.text.specs.Line.{blank}
 use Rattle.trim.specs.Token.{stepOf, tokenNumber, tokenEnd}
-use Rattle.trim.specs.TrimList.{tokensOf, tokensNumber, headNumber, listNumber, parseNumber}
+use Rattle.trim.specs.TrimList.{listTokens, tokensNumber, headNumber, listNumber, parseNumber}
 
 -- ---- bytes
 Not7 : ℕ → Type 0
@@ -23,8 +21,7 @@ pub bytes-65536 : (s : List ℕ) → length s ≡ 65536 → headNumber s ≡ 7 �
 unfolding headNumber Not7
 bytes-65536 s h =
     let k : faultUnless (leb (length s) 65536) 7 ≡ 0 = unless-held 7 (le-leb (length s) 65536 (omega arith)) in
-    else-numbers Not7 _ _ (λ e. omega arith)
-    (else-numbers Not7 _ _ (unless-numbers Not7 (λ e. omega arith) (utf8 s) 20 (λ e. omega arith)) (unless-numbers Not7 (λ e. omega arith) (not (blank s)) 1 (λ e. omega arith)))
+    else-numbers Not7 _ _ (λ e. omega arith) (unless-numbers Not7 (λ e. omega arith) (utf8 s) 20 (λ e. omega arith))
 
 pub bytes-65537 : (s : List ℕ) → length s ≡ 65537 → listNumber s ≡ 7
 unfolding listNumber headNumber _orElse_ faultUnless
@@ -56,14 +53,14 @@ own-many (suc left) prev (t ∷ ts) h =
     ∙ else-assoc (tokenNumber (stepOf prev t)) (ownNumber (tokenEnd (stepOf prev t)) (take left ts)) 7
 
 -- 1,024 trims have their own numbers, and no other
-pub trims-1024 : (s : List ℕ) → length (tokensOf s) ≡ 1024 → headNumber s ≡ 0 → listNumber s ≡ ownNumber 0 (tokensOf s)
+pub trims-1024 : (s : List ℕ) → length (listTokens s) ≡ 1024 → headNumber s ≡ 0 → listNumber s ≡ ownNumber 0 (listTokens s)
 unfolding listNumber
-trims-1024 s h z = else-none _ z ∙ own-few 1024 0 (tokensOf s) (omega arith)
+trims-1024 s h z = else-none _ z ∙ own-few 1024 0 (listTokens s) (omega arith)
 
 -- with one more the list is 7 at the latest
-pub trims-1025 : (s : List ℕ) → length (tokensOf s) ≡ 1025 → headNumber s ≡ 0 → listNumber s ≡ ownNumber 0 (take 1024 (tokensOf s)) orElse 7
+pub trims-1025 : (s : List ℕ) → length (listTokens s) ≡ 1025 → headNumber s ≡ 0 → listNumber s ≡ ownNumber 0 (take 1024 (listTokens s)) orElse 7
 unfolding listNumber
-trims-1025 s h z = else-none _ z ∙ own-many 1024 0 (tokensOf s) (omega arith)
+trims-1025 s h z = else-none _ z ∙ own-many 1024 0 (listTokens s) (omega arith)
 
 -- ---- lent places
 pub places-2048 : (s : List ℕ) → parseNumber s 2048 ≡ listNumber s

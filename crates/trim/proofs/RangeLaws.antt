@@ -1,6 +1,6 @@
 -- Laws of a whole list for the crates above: its number is from document 01's table, and where that is 0, what its ranges keep to.
 use mathlib.Core.Path.{_≡_, refl, sym, ap, subst, _∙_}
-use mathlib.Core.Logic.{_⊎_, inl, inr}
+use mathlib.Core.Logic.{_⊎_, inl, inr, ⊎-elim}
 use mathlib.Core.Bool.{Bool, true, false, cond, not}
 use mathlib.Core.List.{List, [], _∷_}
 use Prim.Native.Nat.{ℕ, zero, suc, _+_, _*_, _-_, _≤_, _<_}
@@ -17,7 +17,7 @@ use Rattle.base.proofs.PutLaws.{take-put}
 use Rattle.utf8.specs.Utf8.{utf8}
 use Rattle.text.specs.Line.{blank}
 use Rattle.trim.specs.declared.list.Parsed.{Parsed}
-use Rattle.trim.specs.TrimList.{tokensOf, tokensNumber, headNumber, listNumber, rangeCount, rangesOf, parsed, listAnswer, parseNumber, parseOf, rangePlaces}
+use Rattle.trim.specs.TrimList.{tokensOf, listTokens, tokensNumber, headNumber, listNumber, rangeCount, rangesOf, parsed, listAnswer, parseNumber, parseOf, rangePlaces}
 use Rattle.trim.proofs.TokensLaws.{Ascending, zero-taken, number-table, tokens-one}
 
 -- ---- the numbers
@@ -33,49 +33,64 @@ unless-table P true n h k = h
 unless-table P false n h k = k
 
 abbrev pub OfList : ℕ → Type 0
-OfList n = (n ≤ 7) ⊎ (n ≡ 20)
+OfList n = (n ≡ 0) ⊎ (((2 ≤ n) × (n ≤ 7)) ⊎ (n ≡ 20))
 
--- a list's number is 0 to 7 or 20
+-- a list's number is 0, 2 to 7 or 20
 pub list-number-table : (s : List ℕ) → OfList (listNumber s)
 unfolding listNumber headNumber
 list-number-table s =
     else-table OfList _ _
-    (else-table OfList _ _ (unless-table OfList (leb (length s) mostListBytes) 7 (inl (omega arith)) (inl (omega arith)))
-    (else-table OfList _ _ (unless-table OfList (utf8 s) 20 (inl (omega arith)) (inr refl)) (unless-table OfList (not (blank s)) 1 (inl (omega arith)) (inl (omega arith)))))
-    (inl (number-table mostTrims 0 (tokensOf s)))
+    (else-table OfList _ _ (unless-table OfList (leb (length s) mostListBytes) 7 (inl refl) (inr (inl (omega arith, omega arith)))) (unless-table OfList (utf8 s) 20 (inl refl) (inr (inr refl))))
+    (⊎-elim (λ e. inl e) (λ h. inr (inl h)) (number-table mostTrims 0 (listTokens s)))
+
+-- it is never 1, which a blank list had in document 01
+pub never-1 : (s : List ℕ) → listNumber s ≡ 1 → ⊥
+never-1 s e = ⊎-elim (λ (z : listNumber s ≡ 0). omega (arith, e, z)) (λ h. ⊎-elim (λ (k : (2 ≤ listNumber s) × (listNumber s ≤ 7)). omega (arith, e, k .0)) (λ (z : listNumber s ≡ 20). omega (arith, e, z)) h) (list-number-table s)
 
 -- with lent places also 16
 pub parse-number-table : (s : List ℕ) (lent : ℕ) → (parseNumber s lent ≡ 16) ⊎ OfList (parseNumber s lent)
 unfolding parseNumber
 parse-number-table s lent =
-    else-table (λ (n : ℕ). (n ≡ 16) ⊎ OfList n) _ _ (unless-table (λ (n : ℕ). (n ≡ 16) ⊎ OfList n) (leb mostPlaces lent) 16 (inr (inl (omega arith))) (inl refl)) (inr (list-number-table s))
+    else-table (λ (n : ℕ). (n ≡ 16) ⊎ OfList n) _ _ (unless-table (λ (n : ℕ). (n ≡ 16) ⊎ OfList n) (leb mostPlaces lent) 16 (inr (inl refl)) (inl refl)) (inr (list-number-table s))
 
 -- ---- a list whose number is 0
 -- it passed the tests before its tokens
-pub list-head : (s : List ℕ) → listNumber s ≡ 0 → (length s ≤ mostListBytes) × (utf8 s ≡ true) × (not (blank s) ≡ true)
+pub list-head : (s : List ℕ) → listNumber s ≡ 0 → (length s ≤ mostListBytes) × (utf8 s ≡ true)
 unfolding listNumber headNumber
 list-head s z =
     let h : _ × _ = else-zero (headNumber s) _ z in
     let a : _ × _ = else-zero (faultUnless (leb (length s) mostListBytes) 7) _ (h .0) in
-    let b : _ × _ = else-zero (faultUnless (utf8 s) 20) _ (a .1) in
-    (leb-true _ _ (held _ 7 (λ e. omega arith) (a .0)), held _ 20 (λ e. omega arith) (b .0), held _ 1 (λ e. omega arith) (b .1))
+    (leb-true _ _ (held _ 7 (λ e. omega arith) (a .0)), held _ 20 (λ e. omega arith) (a .1))
 
-tokens-zero : (s : List ℕ) → listNumber s ≡ 0 → tokensNumber mostTrims 0 (tokensOf s) ≡ 0
+tokens-zero : (s : List ℕ) → listNumber s ≡ 0 → tokensNumber mostTrims 0 (listTokens s) ≡ 0
 unfolding listNumber
 tokens-zero s z = else-zero (headNumber s) _ z .1
 
--- it has 1 to 1,024 ranges, two numbers each
-pub range-count-least : (s : List ℕ) → 1 ≤ rangeCount s
-unfolding rangeCount
-range-count-least s = tokens-one s
+-- a list that is not blank has its tokens, one at least; a blank one has none
+pub list-some : (s : List ℕ) → blank s ≡ false → listTokens s ≡ tokensOf s
+unfolding listTokens
+list-some s e = rw e
 
+pub list-none : (s : List ℕ) → blank s ≡ true → listTokens s ≡ []
+unfolding listTokens
+list-none s e = rw e
+
+pub none-blank : (s : List ℕ) → rangeCount s ≡ 0 → blank s ≡ true
+unfolding rangeCount
+none-blank s z = go (blank s) refl
+  where
+    go : (t : Bool) → blank s ≡ t → blank s ≡ true
+    go true e = e
+    go false e = absurd (omega (arith, z, ap length (list-some s e), tokens-one s))
+
+-- it has at most 1,024 ranges, two numbers each
 pub range-count-most : (s : List ℕ) → listNumber s ≡ 0 → rangeCount s ≤ mostTrims
 unfolding rangeCount
-range-count-most s z = zero-taken mostTrims 0 (tokensOf s) (tokens-zero s z) .0
+range-count-most s z = zero-taken mostTrims 0 (listTokens s) (tokens-zero s z) .0
 
 pub ranges-length : (s : List ℕ) → listNumber s ≡ 0 → length (rangesOf s) ≡ 2 * rangeCount s
 unfolding rangeCount rangesOf
-ranges-length s z = zero-taken mostTrims 0 (tokensOf s) (tokens-zero s z) .1
+ranges-length s z = zero-taken mostTrims 0 (listTokens s) (tokens-zero s z) .1
 
 pub ranges-fit : (s : List ℕ) → listNumber s ≡ 0 → length (rangesOf s) ≤ mostPlaces
 ranges-fit s z = omega (arith, ranges-length s z, range-count-most s z)
@@ -83,7 +98,7 @@ ranges-fit s z = omega (arith, ranges-length s z, range-count-most s z)
 -- its ranges ascend
 pub ranges-ascending : (s : List ℕ) → listNumber s ≡ 0 → Ascending 0 (rangesOf s)
 unfolding rangesOf
-ranges-ascending s z = zero-taken mostTrims 0 (tokensOf s) (tokens-zero s z) .2
+ranges-ascending s z = zero-taken mostTrims 0 (listTokens s) (tokens-zero s z) .2
 
 -- ---- the same by a range's place i: its start is below its end, and the next range starts there or above
 ascending-start : (prev : ℕ) (l : List ℕ) (i : ℕ) → Ascending prev l → 2 * i + 1 < length l → getD l (2 * i) 0 < getD l (2 * i + 1) 0

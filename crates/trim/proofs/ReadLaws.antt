@@ -13,7 +13,7 @@ use Rattle.base.specs.Refusal.{_orElse_, faultUnless}
 use Rattle.base.specs.Put.{put}
 use Rattle.base.proofs.Laws.{yes!, no! }
 use Rattle.base.proofs.RefusalLaws.{else-found, else-none}
-use Rattle.base.proofs.PutLaws.{take-put, put-take, sets-put}
+use Rattle.base.proofs.PutLaws.{put-nil, take-put, put-take, sets-put}
 use Rattle.utf8.specs.Utf8.{utf8}
 use Rattle.text.specs.Line.{blank}
 use Rattle.pattern.specs.Find.{first}
@@ -22,9 +22,9 @@ use Rattle.trim.specs.declared.token.Token.{Token}
 use Rattle.trim.specs.declared.token.Token.the-variants.{Range, Fault}
 use Rattle.trim.specs.declared.list.Parsed.{Parsed}
 use Rattle.trim.specs.Token.{mark, stepOf}
-use Rattle.trim.specs.TrimList.{tokensOf, tokensNumber, rangesIn, headNumber, listNumber, rangeCount, rangesOf, parsed, listAnswer, parseNumber, parseOf, rangePlaces}
+use Rattle.trim.specs.TrimList.{tokensOf, listTokens, tokensNumber, rangesIn, headNumber, listNumber, rangeCount, rangesOf, parsed, listAnswer, parseNumber, parseOf, rangePlaces}
 use Rattle.trim.proofs.TokensLaws.{tokens-turn, tokens-last, tokens-next, tokens-one, fault-some, number-fault, number-range, number-many, number-done, ranges-range, ranges-done, zero-taken}
-use Rattle.trim.proofs.RangeLaws.{ranges-length, range-count-most, parse-lent, parse-short, places-written, places-kept}
+use Rattle.trim.proofs.RangeLaws.{list-some, list-none, ranges-length, range-count-most, parse-lent, parse-short, places-written, places-kept}
 
 -- ---- the tests before the tokens
 module _ (s : List ℕ) where
@@ -36,13 +36,9 @@ module _ (s : List ℕ) where
   unfolding headNumber faultUnless _orElse_
   head-bytes f h u q = rw (le-leb (length s) mostListBytes h, ← u, q)
 
-  pub head-blank : (f b : Bool) → length s ≤ mostListBytes → f ≡ utf8 s → f ≡ true → b ≡ blank s → b ≡ true → 1 ≡ headNumber s
+  pub head-passed : (f : Bool) → length s ≤ mostListBytes → f ≡ utf8 s → f ≡ true → 0 ≡ headNumber s
   unfolding headNumber faultUnless _orElse_
-  head-blank f b h u q v p = rw (le-leb (length s) mostListBytes h, ← u, q, ← v, p)
-
-  pub head-passed : (f b : Bool) → length s ≤ mostListBytes → f ≡ utf8 s → f ≡ true → b ≡ blank s → b ≡ false → 0 ≡ headNumber s
-  unfolding headNumber faultUnless _orElse_
-  head-passed f b h u q v p = rw (le-leb (length s) mostListBytes h, ← u, q, ← v, p)
+  head-passed f h u q = rw (le-leb (length s) mostListBytes h, ← u, q)
 
 -- ---- an answer
 answered-fault : (s : List ℕ) (n : ℕ) → (n ≡ 0 → ⊥) → parsed n 0 ≡ listAnswer n s
@@ -91,11 +87,11 @@ module _ (s t p : List ℕ) (prev count k : ℕ) (token : Token) (inv : tokensNu
     number-last : length t ≤ k → tokensNumber mostTrims 0 (tokensOf s) ≡ 0
     number-last l = number-next [] (tokens-last t p k e d l) ∙ number-done (mostTrims - (count + 1)) b
 
-    pub read-last : (r : Parsed) → length (tokensOf s) ≡ count + length (tokensOf t) → length t ≤ k → r ≡ parsed 0 (count + 1) → r ≡ listAnswer (tokensNumber mostTrims 0 (tokensOf s)) s
+    pub read-last : (r : Parsed) → blank s ≡ false → length (tokensOf s) ≡ count + length (tokensOf t) → length t ≤ k → r ≡ parsed 0 (count + 1) → r ≡ listAnswer (tokensNumber mostTrims 0 (tokensOf s)) s
     unfolding rangeCount
-    read-last r c l g =
+    read-last r nb c l g =
         let w : length (tokensOf t) ≡ 1 = ap length (tokens-last t p k e d l) in
-        g ∙ answered-zero s (count + 1) (omega arith) ∙ ap (λ (m : ℕ). listAnswer m s) (sym (number-last l))
+        g ∙ answered-zero s (count + 1) (omega (arith, w, c, ap length (list-some s nb))) ∙ ap (λ (m : ℕ). listAnswer m s) (sym (number-last l))
 
     pub number-again : (u : List ℕ) → k < length t → u ≡ drop (k + 2) t → tokensNumber mostTrims 0 (tokensOf s) ≡ tokensNumber (mostTrims - (count + 1)) b (tokensOf u)
     number-again u l g = number-next (tokensOf u) (tokens-next t p u k e d l g)
@@ -122,12 +118,12 @@ module _ (s t p : List ℕ) (prev count k : ℕ) (token : Token) (inv : tokensNu
       pub places-again : (u : List ℕ) → k < length t → u ≡ drop (k + 2) t → sets l₀ 0 (rangesIn (tokensOf s)) ≡ sets m ((count + 1) * 2) (rangesIn (tokensOf u))
       places-again u z g = places-next (tokensOf u) (tokens-next t p u k e d z g)
 
-      pub read-filled : mostPlaces ≤ length l₀ → length t ≤ k → m ≡ put (rangesOf s) l₀
+      pub read-filled : blank s ≡ false → mostPlaces ≤ length l₀ → length t ≤ k → m ≡ put (rangesOf s) l₀
       unfolding rangesOf
-      read-filled o z =
+      read-filled nb o z =
           let w = zero-taken mostTrims 0 (tokensOf s) (number-last z) in
           let y : sets m ((count + 1) * 2) (rangesIn []) ≡ m = ap (sets m ((count + 1) * 2)) ranges-done in
-          sym (sym (sets-put (rangesIn (tokensOf s)) l₀ (omega (arith, w .0, w .1))) ∙ places-next [] (tokens-last t p k e d z) ∙ y)
+          sym (sym (sets-put (rangesIn (tokensOf s)) l₀ (omega (arith, w .0, w .1))) ∙ places-next [] (tokens-last t p k e d z) ∙ y) ∙ ap (λ (x : List (List ℕ)). put (rangesIn x) l₀) (sym (list-some s nb))
 
 pub read-many : (s t : List ℕ) (prev count : ℕ) (r : Parsed) → tokensNumber mostTrims 0 (tokensOf s) ≡ tokensNumber (mostTrims - count) prev (tokensOf t) → mostTrims ≤ count → r ≡ parsed 7 0
     → r ≡ listAnswer (tokensNumber mostTrims 0 (tokensOf s)) s
@@ -164,12 +160,33 @@ head-count n r g =
     let q : r .count ≡ 0 = ap (λ (u : Parsed). u .count) g in
     omega arith
 
-pub read-rest : (s : List ℕ) (n : ℕ) (r : Parsed) → n ≡ headNumber s → n ≡ 0 → r ≡ listAnswer (tokensNumber mostTrims 0 (tokensOf s)) s → r ≡ listAnswer (listNumber s) s
-unfolding listNumber
-read-rest s n r e z g = g ∙ ap (λ (m : ℕ). listAnswer m s) (sym (else-none _ (sym e ∙ z)))
+module _ (s : List ℕ) (n : ℕ) (r : Parsed) (e : n ≡ headNumber s) (z : n ≡ 0) (t : Bool) (et : t ≡ blank s) where
+  -- a list that is not blank
+  pub not-blank : t ≡ false → blank s ≡ false
+  not-blank h = sym et ∙ h
 
-pub rest-count : (s : List ℕ) (n : ℕ) (r : Parsed) → n ≡ headNumber s → n ≡ 0 → r ≡ listAnswer (tokensNumber mostTrims 0 (tokensOf s)) s → r .count ≤ mostTrims
-rest-count s n r e z g = count-most s r (read-rest s n r e z g)
+  pub read-rest : t ≡ false → r ≡ listAnswer (tokensNumber mostTrims 0 (tokensOf s)) s → r ≡ listAnswer (listNumber s) s
+  unfolding listNumber
+  read-rest h g = g ∙ ap (λ (x : List (List ℕ)). listAnswer (tokensNumber mostTrims 0 x) s) (sym (list-some s (not-blank h))) ∙ ap (λ (m : ℕ). listAnswer m s) (sym (else-none _ (sym e ∙ z)))
+
+  pub rest-count : t ≡ false → r ≡ listAnswer (tokensNumber mostTrims 0 (tokensOf s)) s → r .count ≤ mostTrims
+  rest-count h g = count-most s r (read-rest h g)
+
+  -- a blank one
+  pub read-blank : t ≡ true → r ≡ parsed 0 0 → r ≡ listAnswer (listNumber s) s
+  unfolding listNumber rangeCount tokensNumber
+  read-blank h g =
+      let q : listTokens s ≡ [] = list-none s (sym et ∙ h) in
+      let c : 0 ≡ length (listTokens s) = sym (ap length q) in
+      let w : tokensNumber mostTrims 0 (listTokens s) ≡ 0 = ap (tokensNumber mostTrims 0) q in
+      g ∙ answered-zero s 0 c ∙ ap (λ (m : ℕ). listAnswer m s) (sym (else-none _ (sym e ∙ z) ∙ w))
+
+  pub blank-count : t ≡ true → r ≡ parsed 0 0 → r .count ≤ mostTrims
+  blank-count h g = count-most s r (read-blank h g)
+
+  pub blank-filled : (l : List ℕ) → t ≡ true → l ≡ put (rangesOf s) l
+  unfolding rangesOf rangesIn
+  blank-filled l h = sym (ap (λ (x : List (List ℕ)). put (rangesIn x) l) (list-none s (sym et ∙ h)) ∙ put-nil l)
 
 -- ---- the calls
 pub check-told : (s : List ℕ) (r : Parsed) → r ≡ listAnswer (listNumber s) s → r .number ≡ listNumber s

@@ -1,5 +1,6 @@
 -- Laws of the tokens of a list, one after the other. Where their number is 0, their ranges ascend.
 use mathlib.Core.Path.{_≡_, refl, sym, ap, subst, _∙_}
+use mathlib.Core.Logic.{_⊎_, inl, inr}
 use mathlib.Core.Bool.{Bool, true, false, cond}
 use mathlib.Core.List.{List, [], _∷_, _++_}
 use Prim.Native.Nat.{ℕ, zero, suc, _+_, _*_, _-_, _≤_, _<_}
@@ -98,14 +99,17 @@ zero-taken left prev [] z = (omega arith, omega arith, tt)
 zero-taken zero prev (t ∷ ts) z = absurd (omega (arith, number-many prev (t ∷ ts) (omega arith)))
 zero-taken (suc left) prev (t ∷ ts) z = taken-next left prev t ts (stepOf prev t) refl z (λ e. zero-taken left e ts)
 
--- every number is from the table
-pub number-table : (left prev : ℕ) (ts : List (List ℕ)) → tokensNumber left prev ts ≤ 7
-number-table left prev [] = subst (λ (n : ℕ). n ≤ 7) (sym (number-done left prev)) (omega arith)
-number-table zero prev (t ∷ ts) = subst (λ (n : ℕ). n ≤ 7) (sym (number-many prev (t ∷ ts) (omega arith))) (omega arith)
+-- every number is from the table: 0, or 2 to 7
+abbrev pub OfTokens : ℕ → Type 0
+OfTokens n = (n ≡ 0) ⊎ ((2 ≤ n) × (n ≤ 7))
+
+pub number-table : (left prev : ℕ) (ts : List (List ℕ)) → OfTokens (tokensNumber left prev ts)
+number-table left prev [] = inl (number-done left prev)
+number-table zero prev (t ∷ ts) = subst OfTokens (sym (number-many prev (t ∷ ts) (omega arith))) (inr (omega arith, omega arith))
 number-table (suc left) prev (t ∷ ts) = go (stepOf prev t) refl (λ e. number-table left e ts)
   where
-    go : (x : Token) → x ≡ stepOf prev t → ((e : ℕ) → tokensNumber left e ts ≤ 7) → tokensNumber (suc left) prev (t ∷ ts) ≤ 7
+    go : (x : Token) → x ≡ stepOf prev t → ((e : ℕ) → OfTokens (tokensNumber left e ts)) → OfTokens (tokensNumber (suc left) prev (t ∷ ts))
     go (Fault n) q ih =
         let k : (2 ≤ n) × (n ≤ 6) = subst TokenKept (sym q) (step-kept prev t) in
-        subst (λ (m : ℕ). m ≤ 7) (sym (number-fault left prev n t ts q)) (omega arith)
-    go (Range a e) q ih = subst (λ (m : ℕ). m ≤ 7) (sym (number-range left prev (a .0) (e .0) t ts q)) (ih (e .0))
+        subst OfTokens (sym (number-fault left prev n t ts q)) (inr (k .0, omega arith))
+    go (Range a e) q ih = subst OfTokens (sym (number-range left prev (a .0) (e .0) t ts q)) (ih (e .0))

@@ -1,6 +1,6 @@
 -- The trim list: tokens parted by `++` from the left, the ranges that they say, and the list's refusals in document 01's order.
 use Prim.Native.Nat.{ℕ, zero, suc}
-use mathlib.Core.Bool.{Bool, true, false, cond, not}
+use mathlib.Core.Bool.{Bool, true, false, cond}
 use mathlib.Core.List.{List, [], _∷_, _++_}
 use lib.ListN.{length}
 use lib.Dec.{eqb, ltb, leb}
@@ -18,6 +18,10 @@ use Rattle.trim.specs.declared.list.Parsed.{Parsed}
 unfoldable pub tokensOf : List ℕ → List (List ℕ)
 tokensOf s = pieces mark s
 
+-- those of a list: a blank one has none (only the whole list; what stands behind a `++` may not be blank)
+unfoldable pub listTokens : List ℕ → List (List ℕ)
+listTokens s = cond (blank s) [] (tokensOf s)
+
 -- the first refusal among tokens, of which `left` are allowed, after a range that ends at prev: 7 for one too many, then the token's own
 unfoldable pub tokensNumber : ℕ → ℕ → List (List ℕ) → ℕ
 tokensNumber left prev [] = 0
@@ -30,23 +34,22 @@ rangesIn [] = []
 rangesIn (t ∷ ts) = tokenRange (tokenOf (trim t)) ++ rangesIn ts
 
 -- ---- the list
--- length, UTF-8, blank
+-- length, UTF-8
 unfoldable pub headNumber : List ℕ → ℕ
 headNumber s =
     faultUnless (leb (length s) mostListBytes) 7 orElse
-    faultUnless (utf8 s) 20 orElse
-    faultUnless (not (blank s)) 1
+    faultUnless (utf8 s) 20
 
 -- the number of the list s: 0, or its first refusal
 unfoldable pub listNumber : List ℕ → ℕ
-listNumber s = headNumber s orElse tokensNumber mostTrims 0 (tokensOf s)
+listNumber s = headNumber s orElse tokensNumber mostTrims 0 (listTokens s)
 
--- how many ranges s has, and the ranges, where its number is 0
+-- how many ranges s has, none where it is blank, and the ranges, where its number is 0
 unfoldable pub rangeCount : List ℕ → ℕ
-rangeCount s = length (tokensOf s)
+rangeCount s = length (listTokens s)
 
 unfoldable pub rangesOf : List ℕ → List ℕ
-rangesOf s = rangesIn (tokensOf s)
+rangesOf s = rangesIn (listTokens s)
 
 -- ---- the call
 abbrev pub parsed : ℕ → ℕ → Parsed

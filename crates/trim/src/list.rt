@@ -7,7 +7,9 @@ ghost use Prim.Native.Nat.{_+_, _*_, _≤_, _<_};
 ghost use lib.ListN.{length, take, set};
 ghost use Rattle.base.specs.Limits.{mostTrims, mostPlaces};
 ghost use Rattle.base.specs.Put.{put};
+ghost use mathlib.Core.Bool.{false};
 ghost use Rattle.pattern.specs.Find.{first};
+ghost use Rattle.text.specs.Line.{blank};
 ghost use Rattle.trim.specs.Token.{mark};
 ghost use Rattle.trim.specs.TrimList.{parsed, listAnswer, tokensOf, tokensNumber, headNumber, listNumber, rangesOf, parseOf, rangePlaces};
 
@@ -61,9 +63,6 @@ fn head_number(list: &[u8]) -> u32
         return 7;
     }
     if utf8::is_utf8(list) {
-        if text::is_blank(list) {
-            return 1;
-        }
         return 0;
     }
     20
@@ -80,7 +79,7 @@ fn store(ranges: &mut [u32], count: usize, a: DisplayIdx, e: DisplayIdx)
 
 // Reads the tokens, and writes their ranges from the start of `ranges` on.
 fn read_tokens(list: &[u8], ranges: &mut [u32]) -> Parsed
-    requires { ⌜ mostPlaces ≤ length (now ranges) ⌝ }
+    requires { ⌜ (mostPlaces ≤ length (now ranges)) × (blank (now list) ≡ false) ⌝ }
     ensures { λ r. ⌜ r ≡ listAnswer (tokensNumber mostTrims 0 (tokensOf (now (list .entry)))) (now (list .entry)) ⌝ }
     ensures { λ r. ⌜ (r .number ≡ 0 → now (ranges .exit) ≡ put (rangesOf (now (list .entry))) (now (ranges .entry))) ⌝ }
 {
@@ -120,6 +119,9 @@ fn read(list: &[u8], ranges: &mut [u32]) -> Parsed
     if n != 0 {
         return refused(n);
     }
+    if text::is_blank(list) {
+        return taken(0);
+    }
     read_tokens(list, ranges)
 }
 
@@ -135,8 +137,8 @@ fn copy(ranges: &mut [u32], held: &[u32], n: usize)
     }
 }
 
-// Reads a trim list. Answers 0 and how many ranges it wrote from the start of `ranges`, two numbers each, or the number of the refusal; then
-// nothing is written.
+// Reads a trim list. Answers 0 and how many ranges it wrote from the start of `ranges`, two numbers each (a blank list has none), or the number of
+// the refusal; then nothing is written.
 pub fn parse(list: &[u8], ranges: &mut [u32]) -> Parsed
     ensures { λ r. ⌜ r ≡ parseOf (now (list .entry)) (length (now (ranges .entry))) ⌝ }
     ensures { λ _. ⌜ now (ranges .exit) ≡ rangePlaces (now (list .entry)) (now (ranges .entry)) ⌝ }

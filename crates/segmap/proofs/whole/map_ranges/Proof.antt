@@ -6,8 +6,8 @@ use borrow.Author.Needs.{needs}
 use Rattle.segmap.proofs.whole.map_ranges.Statement.{statement}
 use Rattle.segmap.proofs.whole.map_ranges.Tie as tie
 
-parse-requires : tie.Need-parse-requires
-parse-requires c κs = search needs
+ranges-of-requires : tie.Need-ranges-of-requires
+ranges-of-requires c κs = search needs
 
 refused-requires : tie.Need-refused-requires
 refused-requires c κs = search needs
@@ -22,7 +22,7 @@ snap-requires : tie.Need-snap-requires
 snap-requires c κs = search needs
 
 keep-requires : tie.Need-keep-requires
-keep-requires c κs = let few : c .before .before .before .before .before .before .before .before .before .parse .result .count ≤ mostSegments = search count-few in
+keep-requires c κs = let few : c .before .before .before .before .before .before .before .before .before .ranges-of .result .count ≤ mostSegments = search count-few in
     (search frames-few, few, omega arith, omega arith)
 
 refused-requires-2 : tie.Need-refused-requires-2
@@ -50,7 +50,7 @@ pub map-ranges-spec : {M : Type 1} → statement M
 map-ranges-spec =
     tie.close
     (tie.spec
-    parse-requires
+    ranges-of-requires
     refused-requires
     same-length
     returns
