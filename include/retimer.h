@@ -1,5 +1,5 @@
 /* The retimer's C functions: frame sheet check, trim list check, time conversions.
- * They keep no state, write nothing and return on every input. Numbers: docs/NUMBERS.md. */
+ * They keep no state, write nothing but the sheet check's work bytes, and return on every input. Numbers: docs/NUMBERS.md. */
 #ifndef RETIMER_H
 #define RETIMER_H
 
@@ -12,8 +12,13 @@ extern "C" {
 
 /* Bytes are given as a pointer that is not NULL and a length in bytes, which may be 0. */
 
-/* 0 for a sound frame sheet, else 11, 12, 13 or 14. */
-uint32_t retimer_sheet_check(const uint8_t *sheet, size_t length);
+/* Work bytes that are enough for the check of every sheet. */
+#define RETIMER_MOST_WORK 131072
+
+/* 0 for a sound frame sheet, else 11, 12, 13 or 14; 16 where too few work bytes are lent; 25 where two frames name the same sample.
+ * The work bytes, of any value, are n / 8, rounded up, for n frames, or more. They must not overlap the sheet.
+ * With 0 and 25 those needed end zero; else all stay as they were, and bytes past those needed always do. */
+uint32_t retimer_sheet_check(const uint8_t *sheet, size_t length, uint8_t *work, size_t work_length);
 
 /* 0 for a good trim list, or a blank one, which keeps the whole play; else 2 to 7, or 20 for bytes that are not UTF-8. */
 uint32_t retimer_list_check(const uint8_t *list, size_t length);

@@ -25,13 +25,13 @@ def sheet_words(r, n=None):
     w[1] = r.choice([1, 2, 1000, 24000, 30000, 90000, 1000000, r.randint(1, 1000000)])
     w[2], w[3], w[4] = n, r.choice([24000, 30000, r.getrandbits(32)]), r.choice([1001, r.getrandbits(32)])
     decode = list(range(n))
-    style = r.randrange(6)
+    style = 3 if r.random() < 0.05 else r.choice([0, 1, 2, 4, 5])
     if style == 1:  # frames of a group out of order
         for i in range(0, n - 3, 4):
             decode[i + 1:i + 4] = r.sample(decode[i + 1:i + 4], 3)
     elif style == 2:
         r.shuffle(decode)
-    elif style == 3:  # any index below n
+    elif style == 3:  # any index below n, so that most are repeated (25)
         decode = [r.randrange(n) for _ in range(n)]
     gap = r.choice([1, 2, 3, 3, 5, 8, 15])
     kind = r.randrange(5)
@@ -45,11 +45,17 @@ def sheet_words(r, n=None):
     return w
 
 
+def work_lent(r, n):
+    """Word c of a map or a text: the work bytes lent to the sheet's check, 0 being 131,072."""
+    need = -(-n // 8)
+    return 0 if r.random() < 0.85 else r.choice([max(need - 1, 0), max(need - 1, 0), need, need + 1, 1, 131072, 131073, 0xFFFFFFFF])
+
+
 def sheet(r, damaged=0.5, n=None):
     w = sheet_words(r, n)
     if r.random() >= damaged:
         return as_bytes(w)
-    how = r.randrange(10)
+    how = r.randrange(11)
     count = len(w) // 128
     if how == 0:
         return as_bytes(w)[:r.choice([0, 1, 511, 512, len(w) * 4 - 1, r.randrange(len(w) * 4)])]
@@ -83,6 +89,15 @@ def sheet(r, damaged=0.5, n=None):
         w[at] = r.choice([0, 1, r.getrandbits(32)])
         if at % 128 not in (0, 127):
             seal(w, at // 128)
+    if how == 10 and w[2] > 1:  # an index named twice, at times with a fault in a later block
+        i, j = r.sample(range(w[2]), 2)
+        w[place(i)] = w[place(i)] & (1 << 31) | w[place(j)] & 0x7FFFFFFF
+        seal(w, place(i) // 128)
+        if r.random() < 0.2:
+            at = 128 * (count - 1) + r.choice([1, 2, 125, 127])
+            w[at] = r.getrandbits(32)
+            if at % 128 != 127 and r.random() < 0.5:
+                seal(w, count - 1)
     if how == 9 and count > 1:  # two faults: the order decides
         w[129] = w[2]
         seal(w, 1)
@@ -449,7 +464,7 @@ def through_made(r):
     for i in range(n):
         sums.append(sums[-1] + w[place(i) + 1])
     x = as_bytes(w) if r.random() < 0.98 else sheet(r, 1.0)
-    return case(3, r.randrange(2) if r.random() < 0.995 else 2, kind, 0, plan(r), x, fitting_list(r, n, gap) if gap else trim_list(r, n, 0.03),
+    return case(3, r.randrange(2) if r.random() < 0.995 else 2, kind, work_lent(r, n) if r.random() < 0.1 else 0, plan(r), x, fitting_list(r, n, gap) if gap else trim_list(r, n, 0.03),
                 caption_text(r, kind, t, sums, sums[-1]))
 
 
@@ -584,7 +599,7 @@ def one(r, op):
             x, n = sheet(r, 1.0), 20
         else:
             x, n = as_bytes(w), w[2]
-        return case(2, 0 if r.random() < 0.5 else 1 if r.random() < 0.96 else r.choice([2, 0xFFFFFFFF]), x=x, y=trim_list(r, n, 0.15))
+        return case(2, 0 if r.random() < 0.5 else 1 if r.random() < 0.96 else r.choice([2, 0xFFFFFFFF]), c=work_lent(r, n), x=x, y=trim_list(r, n, 0.15))
     if op == 3:
         return through_made(r)
     if op == 4:

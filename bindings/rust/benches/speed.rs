@@ -29,13 +29,14 @@ fn best(rounds: usize, mut f: impl FnMut()) -> f64 {
         .fold(f64::INFINITY, f64::min)
 }
 
-fn sheet(n: u32) -> Vec<u8> {
+/// Frame i's decode index is decode(i).
+fn sheet(n: u32, decode: impl Fn(u32) -> u32) -> Vec<u8> {
     let blocks = 1 + n.div_ceil(63);
     let mut w = vec![0u32; 128 * blocks as usize];
     (w[1], w[2]) = (30000, n);
     for i in 0..n {
         let at = (128 * (1 + i / 63) + 1 + 2 * (i % 63)) as usize;
-        w[at] = i | if i % 15 == 0 { 1 << 31 } else { 0 };
+        w[at] = decode(i) | if i % 15 == 0 { 1 << 31 } else { 0 };
         w[at + 1] = 1001;
     }
     for b in 0..blocks as usize {
@@ -74,6 +75,14 @@ fn plain_check(s: &[u8]) -> u32 {
             }
         }
     }
+    let mut seen = vec![0u8; n.div_ceil(8)];
+    for i in 0..n {
+        let d = (word(128 * (1 + i / 63) + 1 + 2 * (i % 63)) & 0x7fff_ffff) as usize;
+        if seen[d / 8] >> (d % 8) & 1 == 1 {
+            return 25;
+        }
+        seen[d / 8] |= 1 << (d % 8);
+    }
     0
 }
 
@@ -82,11 +91,14 @@ fn line(what: &str, here: f64, rust: f64) {
 }
 
 fn main() {
-    let s = sheet(1_048_576);
-    assert_eq!((retimer::check_sheet(&s), plain_check(&s)), (Ok(()), 0));
-    let here = best(40, || assert!(retimer::check_sheet(black_box(&s)).is_ok()));
-    let rust = best(40, || assert!(plain_check(black_box(&s)) == 0));
-    line("sheet check, 1,048,576 frames", here, rust);
+    // an odd factor permutes the numbers below 2^20, far apart from frame to frame
+    let shuffled = |i: u32| i.wrapping_mul(0x9E37_79B1) % 1_048_576;
+    for (what, s) in [("in order", sheet(1_048_576, |i| i)), ("shuffled", sheet(1_048_576, shuffled))] {
+        assert_eq!((retimer::check_sheet(&s), plain_check(&s)), (Ok(()), 0));
+        let here = best(40, || assert!(retimer::check_sheet(black_box(&s)).is_ok()));
+        let rust = best(40, || assert!(plain_check(black_box(&s)) == 0));
+        line(&format!("sheet check, 1,048,576 frames {what}"), here, rust);
+    }
 
     let text = b"Dialogue: 0,0:00:21.04,0:00:22.80,Default,,0,0,0,,The curtain rises.\n".repeat(1000);
     let here = best(200, || assert!(unsafe { bench_is_utf8(black_box(text.as_ptr()), text.len()) } == 1));

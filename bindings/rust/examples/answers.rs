@@ -1,5 +1,6 @@
 //! Answers the oracle's stream of cases (ops 1, 2 and 4) through the C functions: a line for each case.
-//! `list N`, `sheet N` (11 to 14, else 0) or `converted V` / `refused N`.
+//! `list N`, `sheet N SUM` or `converted V` / `refused N`. To a sheet's check as many work bytes are lent as word c says (0: 131,072),
+//! byte k being k * 37 % 255 + 1; SUM is that of (k + 1) times byte k afterwards.
 use std::io::{BufWriter, Read, Write};
 
 fn word(s: &[u8], k: usize) -> u32 {
@@ -21,7 +22,13 @@ fn main() {
         let part = &s[32..32 + x];
         match op {
             1 => writeln!(out, "list {}", number(retimer::check_list(part))),
-            2 => writeln!(out, "sheet {}", number(retimer::check_sheet(part))),
+            2 => {
+                let lent = if c == 0 { retimer::MOST_WORK } else { c as usize };
+                let mut work: Vec<u8> = (0..lent).map(|k| (k * 37 % 255 + 1) as u8).collect();
+                let told = retimer::raw::sheet_check(part, &mut work);
+                let sum: u64 = work.iter().zip(1..).map(|(b, k)| k * u64::from(*b)).sum();
+                writeln!(out, "sheet {told} {sum}")
+            }
             4 => {
                 let value = u64::from_le_bytes(part.try_into().unwrap());
                 // a unit that is neither 100 nor 1000 is a kind that there is not

@@ -1,9 +1,9 @@
 //! Safe functions over the retimer's static library. Each has the contract of the proved function that it calls: it
-//! returns on every input and writes nothing.
+//! returns on every input, and writes nothing but the work bytes that are lent to the sheet's check.
 
 #[link(name = "cutter", kind = "static")]
 extern "C" {
-    fn retimer_sheet_check(sheet: *const u8, length: usize) -> u32;
+    fn retimer_sheet_check(sheet: *const u8, length: usize, work: *mut u8, work_length: usize) -> u32;
     fn retimer_list_check(list: *const u8, length: usize) -> u32;
     fn retimer_units_to_ticks(value: u64, timescale: u32, kind: u32) -> u64;
     fn retimer_ticks_to_units_floor(value: u64, timescale: u32, kind: u32) -> u64;
@@ -49,9 +49,13 @@ fn by_number(number: u32) -> Result<(), Refused> {
     }
 }
 
-/// Whether `sheet` is a sound frame sheet: 11 length, 12 block, 13 head, 14 record.
+/// Work bytes that are enough for every sheet.
+pub const MOST_WORK: usize = 131_072;
+
+/// Whether `sheet` is a sound frame sheet: 11 length, 12 block, 13 head, 14 record, 25 a sample named twice. It lends the
+/// work bytes by itself, as many as are always enough.
 pub fn check_sheet(sheet: &[u8]) -> Result<(), Refused> {
-    by_number(unsafe { retimer_sheet_check(sheet.as_ptr(), sheet.len()) })
+    by_number(raw::sheet_check(sheet, &mut vec![0; MOST_WORK]))
 }
 
 /// Whether `list` is a good trim list, or a blank one, which keeps the whole play: else 2 to 7, or 20 for bytes that are not UTF-8.
@@ -82,6 +86,12 @@ pub fn ticks_to_units_ceil(ticks: u64, timescale: u32, kind: Kind) -> Result<u64
 
 /// The C functions as they are, for callers that pass any number as a kind.
 pub mod raw {
+    /// The number of a sheet: as `check_sheet`, and 16 where fewer work bytes are lent than n / 8, rounded up. With 0 and 25
+    /// those needed end zero, whatever stood there, and any others stay; with other numbers all stay.
+    pub fn sheet_check(sheet: &[u8], work: &mut [u8]) -> u32 {
+        unsafe { super::retimer_sheet_check(sheet.as_ptr(), sheet.len(), work.as_mut_ptr(), work.len()) }
+    }
+
     /// The value that units give as ticks; 0 when refused.
     pub fn units_to_ticks(value: u64, timescale: u32, kind: u32) -> u64 {
         unsafe { super::retimer_units_to_ticks(value, timescale, kind) }

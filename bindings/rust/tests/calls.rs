@@ -50,6 +50,24 @@ fn sheets() {
 }
 
 #[test]
+fn samples_named_once() {
+    let twice = changed(9, 129 + 2 * 8, 0);
+    let above = changed(9, 129 + 2 * 8, 9);
+    assert_eq!(check_sheet(&twice), Err(Refused(25)));
+    assert_eq!(check_sheet(&above), Err(Refused(14)));
+    for (s, number, n) in [(sheet(8), 0, 8), (sheet(9), 0, 9), (sheet(1000), 0, 1000), (twice, 25, 9), (above, 14, 9)] {
+        let need = (n + 7) / 8;
+        for lent in [0, need - 1, need, need + 3] {
+            let mut work = vec![170u8; lent];
+            let got = raw::sheet_check(&s, &mut work);
+            assert_eq!(got, if number == 14 { 14 } else if lent < need { 16 } else { number }, "{n} frames, {lent} bytes");
+            let zeros = if number == 14 || lent < need { 0 } else { need };
+            assert!(work.iter().enumerate().all(|(k, b)| *b == if k < zeros { 0 } else { 170 }), "{n} frames, {lent} bytes");
+        }
+    }
+}
+
+#[test]
 fn lists() {
     for good in ["Trim(0,2) ++ Trim(6,8)", "Trim(0,1)++Trim(2,+3)", "\u{3000}Trim( 0 , 0 )\n", "", " \n", "\u{3000}\t\u{85}"] {
         assert_eq!(check_list(good.as_bytes()), Ok(()), "{good}");

@@ -10,6 +10,10 @@ mostSheetTimescale = 1000000
 abbrev pub mostFrames : ℕ
 mostFrames = 1048576
 
+-- the work bytes of its check that are always enough: a bit for each frame (16)
+abbrev pub mostWork : ℕ
+mostWork = 131072
+
 -- ---- the trim list (7, and 16 for the lent places)
 abbrev pub mostListBytes : ℕ
 mostListBytes = 65536

@@ -24,6 +24,7 @@ pub use limits::MOST_TICKS;
 pub use limits::MOST_TIMESCALE;
 pub use limits::MOST_TRIMS;
 pub use limits::MOST_UNITS;
+pub use limits::MOST_WORK;
 pub use part::byte;
 pub use part::front;
 pub use part::last_part;

@@ -6,6 +6,9 @@ pub const MOST_SHEET_TIMESCALE: u32 = 1000000;
 // Frames of a sheet.
 pub const MOST_FRAMES: u32 = 1048576;
 
+// Work bytes that are enough for the check of every sheet.
+pub const MOST_WORK: usize = 131072;
+
 // Bytes and trims of a trim list, the places for its ranges, and the largest number in one.
 pub const MOST_LIST_BYTES: usize = 65536;
 

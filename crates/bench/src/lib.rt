@@ -1,6 +1,7 @@
 // C functions for measurements alone, each with the contract of what it calls.
 ghost use mathlib.Core.Path.{_≡_};
 ghost use mathlib.Core.Bool.{cond};
+ghost use Rattle.base.specs.Limits.{mostWork};
 ghost use Rattle.utf8.specs.Utf8.{utf8};
 ghost use Rattle.segmap.specs.Map.{mapOf};
 
@@ -18,9 +19,10 @@ pub extern "C" fn bench_is_utf8(text: &[u8]) -> u32
 // The number of a map that is built and thrown away.
 #[no_mangle]
 pub extern "C" fn bench_map(sheet: &[u8], list: &[u8], direction: u32) -> u32
-    ensures { λ r. ⌜ r ≡ mapOf (now (sheet .entry)) (now (list .entry)) direction 6144 .number ⌝ }
+    ensures { λ r. ⌜ r ≡ mapOf (now (sheet .entry)) (now (list .entry)) direction 6144 mostWork .number ⌝ }
 {
     let mut map = [0u64; 6144];
-    let made = segmap::make(sheet, list, direction, &mut map);
+    let mut work = [0; base::MOST_WORK];
+    let made = segmap::make(sheet, list, direction, &mut work, &mut map);
     made.number
 }

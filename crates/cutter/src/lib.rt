@@ -1,16 +1,18 @@
 // The C functions for the Rust cutter: thin wrappers with the contracts of what they call. include/retimer.h declares them.
 ghost use mathlib.Core.Path.{_≡_};
-ghost use Rattle.sheet.specs.Sheet.{sheetOf, numberOf};
+ghost use lib.ListN.{length};
+ghost use Rattle.sheet.specs.Sheet.{sheetOf, workAfter, numberOf};
 ghost use Rattle.trim.specs.TrimList.{listNumber};
 ghost use Rattle.time.specs.Kind.{unitsOf};
 ghost use Rattle.time.specs.Convert.{ticksOf, startUnits, endUnits, unitsNumber, ticksNumber, convertedTo};
 
-// The frame sheet's number: 0, or 11 to 14.
+// The frame sheet's number: 0, 11 to 14, 16 or 25. The work bytes are n / 8, rounded up, or more; 131,072 are always enough. Those needed end zero.
 #[no_mangle]
-pub extern "C" fn retimer_sheet_check(sheet: &[u8]) -> u32
-    ensures { λ r. ⌜ r ≡ numberOf (sheetOf (now (sheet .entry))) ⌝ }
+pub extern "C" fn retimer_sheet_check(sheet: &[u8], work: &mut [u8]) -> u32
+    ensures { λ r. ⌜ r ≡ numberOf (sheetOf (now (sheet .entry)) (length (now (work .entry)))) ⌝ }
+    ensures { λ _. ⌜ now (work .exit) ≡ workAfter (now (sheet .entry)) (now (work .entry)) ⌝ }
 {
-    sheet::number(sheet::check(sheet))
+    sheet::number(sheet::check(sheet, work))
 }
 
 // The trim list's number: 0, 2 to 7, or 20.

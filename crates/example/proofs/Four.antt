@@ -8,6 +8,7 @@ use native.Mathlib.Omega.{arith}
 use lib.Dec.{ltb}
 use lib.ListN.{length, getD}
 use borrow.Author.Tests.{ltb-true}
+use Rattle.base.specs.Limits.{mostWork}
 use Rattle.sheet_vectors.specs.Small.{smallSheet}
 use Rattle.time.specs.Kind.{kindBad}
 use Rattle.segment.specs.Segment.{flatOf, segmentsOf}
@@ -58,7 +59,7 @@ map-number = ap (λ (x : Map). x .number) map-is
 -- ---- the session
 module _ (kind : ℕ) (k : kindBad kind ≡ false) where
   opens-0 : openSession kit (configOf kind (theMap .timescale)) lentMap .number ≡ 0
-  opens-0 = built-opens smallSheet theList 0 6144 sheet-bytes map-number kind k
+  opens-0 = built-opens smallSheet theList 0 6144 mostWork sheet-bytes map-number kind k
 
   open-is : openSession kit (configOf kind (theMap .timescale)) lentMap ≡ record { number = 0; session = fresh kit (setting kind); emits = [] }
   open-is =
@@ -81,7 +82,7 @@ module _ (kind : ℕ) (k : kindBad kind ≡ false) (first rest out short places 
   -- the premises are met, and demand 3 holds of the list
   pub demanded : Demand (configOf kind (theMap .timescale)) lentMap (callsOf calls) (outcome (openAnswer kind .session) calls)
   demanded =
-      promise smallSheet theList 0 6144 kind sheet-bytes map-number k (openAnswer kind) (opens kind k) .kept calls
+      promise smallSheet theList 0 6144 mostWork kind sheet-bytes map-number k (openAnswer kind) (opens kind k) .kept calls
       (inl refl, (inl refl, (inl refl, (inl refl, tt))))
       (made-ran (openAnswer kind .session) (four lentMap first rest out short places))
 

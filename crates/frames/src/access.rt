@@ -33,12 +33,12 @@ pub fn rate_den(s: &[u8]) -> u32
     blocks::word(s, 4)
 }
 
-// Where record i starts, in words.
+// Where record i starts, in words: 128 to each block from block 1 on, of which its 63 records take 126.
 fn record_word(i: u32) -> usize
     ensures { λ r. ⌜ (r ≡ recordWord i) × (r < 2 ^ 39) ⌝ }
 {
     let k = i as usize;
-    128 * (1 + k / 63) + 1 + 2 * (k % 63)
+    129 + 2 * (k / 63 + k)
 }
 
 // The decode index in a record's first word.

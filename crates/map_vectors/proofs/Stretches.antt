@@ -1,15 +1,18 @@
 -- What snapping and segments come to on small sheets, by computation. Document 01's own map is in the table of its examples.
 use mathlib.Core.Path.{_≡_, refl}
 use mathlib.Core.List.{[], _∷_, map}
+use Rattle.base.specs.Put.{put, placed}
 use Rattle.base.specs.Refusal.{_orElse_, faultUnless}
 use Rattle.blocks.specs.Block.{wordAt}
-use Rattle.frames.specs.Frames.{recordWord, decodeOf, syncOf, durationOf}
+use Rattle.frames.specs.Frames.{framesOf, recordWord, decodeOf, syncOf, durationOf}
 use Rattle.sheet_vectors.specs.Small.{smallSheet}
 use Rattle.plan.specs.Snap.{lastBelow, firstFrom, floorSync, ceilSync, snapStart, snapEnd, snapAll, overlapsFault}
 use Rattle.segment.specs.Segment.{flatOf}
 use Rattle.segmap.specs.Build.{ticksFrom, sourceStart, rangeTicks, rangeFault, rangesFault, segmentIn, segmentsIn}
-use Rattle.sheet.specs.Sheet.{sheetFault}
-use Rattle.segmap.specs.Map.{mapNumber}
+use Rattle.sheet.specs.Sheet.{sheetFault, sheetNumber, workAfter}
+use Rattle.sheet_vectors.proofs.Vectors.{small-fault}
+use Rattle.once.specs.Once.{workBytes, workOnce}
+use Rattle.segmap.specs.Map.{mapNumber, mapWork}
 use Rattle.map_vectors.specs.Turned.{crossed, backward}
 
 -- the small sheet has ten frames, sync 0, 3 and 6: the ranges of `Trim(0,2) ++ Trim(6,8)` outward and inward
@@ -68,10 +71,23 @@ unfolding flatOf segmentsIn segmentIn sourceStart rangeTicks ticksFrom backward 
 backward-order = refl
 
 -- 16: one place fewer than 1,024 segments take, or a direction above 1, before the 11 of an empty sheet
-map-places : map (mapNumber [] [] 0) (6143 ∷ 6144 ∷ []) ≡ 16 ∷ 11 ∷ []
-unfolding mapNumber sheetFault faultUnless _orElse_
+map-places : map (λ lent. mapNumber [] [] 0 lent 0) (6143 ∷ 6144 ∷ []) ≡ 16 ∷ 11 ∷ []
+unfolding mapNumber sheetNumber sheetFault faultUnless _orElse_
 map-places = refl
 
-map-directions : map (λ d. mapNumber [] [] d 6144) (0 ∷ 1 ∷ 2 ∷ []) ≡ 11 ∷ 11 ∷ 16 ∷ []
-unfolding mapNumber sheetFault faultUnless _orElse_
+map-directions : map (λ d. mapNumber [] [] d 6144 0) (0 ∷ 1 ∷ 2 ∷ []) ≡ 11 ∷ 11 ∷ 16 ∷ []
+unfolding mapNumber sheetNumber sheetFault faultUnless _orElse_
 map-directions = refl
+
+-- the work bytes stay with that 16; else those that the ten frames of the small sheet need end zero
+small-frames : framesOf smallSheet ≡ 10
+unfolding framesOf wordAt smallSheet
+small-frames = refl
+
+work-refused : (mapWork smallSheet 0 6143 (7 ∷ 8 ∷ 9 ∷ []) ≡ 7 ∷ 8 ∷ 9 ∷ []) × (mapWork smallSheet 2 6144 (7 ∷ 8 ∷ 9 ∷ []) ≡ 7 ∷ 8 ∷ 9 ∷ [])
+unfolding mapWork
+work-refused = (refl, refl)
+
+work-cleared : mapWork smallSheet 0 6144 (7 ∷ 8 ∷ 9 ∷ []) ≡ 0 ∷ 0 ∷ 9 ∷ []
+unfolding mapWork workAfter workOnce workBytes placed put
+work-cleared = rw (small-fault, small-frames)

@@ -4,6 +4,7 @@ use mathlib.Core.List.{List}
 use Prim.Native.Nat.{ℕ, _≤_, _<_}
 use lib.ListN.{length}
 use borrow.Author.Tests.{lt-ltb, le-ltb}
+use Rattle.base.specs.Limits.{mostWork}
 use Rattle.base.proofs.Laws.{yes!, no! }
 use Rattle.segmap.specs.declared.whole.Made.{Made}
 use Rattle.segmap.specs.Map.{Map, mapOf, madeOf}
@@ -14,16 +15,16 @@ made-number : (r : Made) (m : Map) → r ≡ madeOf m → r .number ≡ m .numbe
 unfolding madeOf
 made-number r m e = ap (λ (x : Made). x .number) e
 
-pub number-told : (s l : List ℕ) (d n : ℕ) (r : Made) → r ≡ madeOf (mapOf s l d n) → n ≡ 6144 → r .number ≡ mapOf s l d 6144 .number
-number-told s l d n r e p = made-number r (mapOf s l d n) e ∙ ap (λ (x : ℕ). mapOf s l d x .number) p
+pub number-told : (s l : List ℕ) (d n w : ℕ) (r : Made) → r ≡ madeOf (mapOf s l d n w) → n ≡ 6144 → r .number ≡ mapOf s l d 6144 w .number
+number-told s l d n w r e p = made-number r (mapOf s l d n w) e ∙ ap (λ (x : ℕ). mapOf s l d x w .number) p
 
-pub number-zero : (s l : List ℕ) (d n : ℕ) (r : Made) → r ≡ madeOf (mapOf s l d n) → n ≡ 6144 → r .number ≡ 0 → 0 ≡ mapOf s l d 6144 .number
-number-zero s l d n r e p z = sym z ∙ number-told s l d n r e p
+pub number-zero : (s l : List ℕ) (d n w : ℕ) (r : Made) → r ≡ madeOf (mapOf s l d n w) → n ≡ 6144 → r .number ≡ 0 → 0 ≡ mapOf s l d 6144 w .number
+number-zero s l d n w r e p z = sym z ∙ number-told s l d n w r e p
 
 pub too-large : (s l : List ℕ) (r : ℕ) → 65536 < length s → r ≡ 11 → r ≡ printedNumber s l
 unfolding printedNumber
 too-large s l r h e = yes! _ (lt-ltb 65536 (length s) h) e
 
-pub within : (s l : List ℕ) (r : ℕ) → length s ≤ 65536 → r ≡ mapOf s l 0 6144 .number → r ≡ printedNumber s l
+pub within : (s l : List ℕ) (r w : ℕ) → length s ≤ 65536 → r ≡ mapOf s l 0 6144 w .number → w ≡ mostWork → r ≡ printedNumber s l
 unfolding printedNumber
-within s l r h e = no! _ (le-ltb 65536 (length s) h) e
+within s l r w h e q = no! _ (le-ltb 65536 (length s) h) (e ∙ ap (λ (x : ℕ). mapOf s l 0 6144 x .number) q)

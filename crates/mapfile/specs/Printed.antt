@@ -4,7 +4,8 @@ use mathlib.Core.List.{List}
 use Prim.Native.Nat.{ℕ}
 use lib.Dec.{ltb}
 use lib.ListN.{length}
+use Rattle.base.specs.Limits.{mostWork}
 use Rattle.segmap.specs.Map.{mapOf}
 
 unfoldable pub printedNumber : (sheet list : List ℕ) → ℕ
-printedNumber s l = cond (ltb 65536 (length s)) 11 (mapOf s l 0 6144 .number)
+printedNumber s l = cond (ltb 65536 (length s)) 11 (mapOf s l 0 6144 mostWork .number)

@@ -1,7 +1,8 @@
 // The map of a sheet and a list, outward, printed as document 01's "Small proofs" has it.
 use libc::STDOUT_FILENO;
 ghost use mathlib.Core.Path.{_≡_};
-ghost use Rattle.segmap.specs.Map.{mapOf};
+ghost use lib.ListN.{length};
+ghost use Rattle.segmap.specs.Map.{mapOf, mapWork};
 ghost use Rattle.mapfile.specs.Printed.{printedNumber};
 
 // Prints a name, a number and a line end, and answers the number.
@@ -39,12 +40,13 @@ fn print_segments(map: &[u64], count: usize) {
     }
 }
 
-// Prints the map, or `refused` and the number that it answers.
-pub fn print_map_of(sheet: &[u8], list: &[u8], direction: u32) -> u32
-    ensures { λ r. ⌜ r ≡ mapOf (now (sheet .entry)) (now (list .entry)) direction 6144 .number ⌝ }
+// Prints the map, or `refused` and the number that it answers. The work bytes are for the sheet's check.
+pub fn print_map_of(sheet: &[u8], list: &[u8], direction: u32, work: &mut [u8]) -> u32
+    ensures { λ r. ⌜ r ≡ mapOf (now (sheet .entry)) (now (list .entry)) direction 6144 (length (now (work .entry))) .number ⌝ }
+    ensures { λ _. ⌜ now (work .exit) ≡ mapWork (now (sheet .entry)) direction 6144 (now (work .entry)) ⌝ }
 {
     let mut map = [0u64; 6144];
-    let made = segmap::make(sheet, list, direction, &mut map);
+    let made = segmap::make(sheet, list, direction, work, &mut map);
     let number = made.number;
     if number != 0 {
         return print_number(b"refused ", number);
@@ -61,5 +63,6 @@ pub fn print_map(sheet: &[u8], list: &[u8]) -> u32
     if 65536 < sheet.len() {
         return print_number(b"refused ", 11);
     }
-    print_map_of(sheet, list, 0)
+    let mut work = [0; base::MOST_WORK];
+    print_map_of(sheet, list, 0, &mut work)
 }

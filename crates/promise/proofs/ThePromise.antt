@@ -76,26 +76,26 @@ promise-records kind T xs o a z cs p r =
     (d, subst (λ (m : List Segment). AllRight (configOf kind T) m (saidIn (configOf kind T) (callsOf cs) .parts)) (flat-back xs) (d .fates))
 
 -- ---- the map that is built opens with 0
-module _ (sheet list : List ℕ) (d l : ℕ) (bytes : (j : ℕ) → getD sheet j 0 < 256) (e : mapOf sheet list d l .number ≡ 0) where
-  built-number : mapNumber sheet list d l ≡ 0
-  built-number = sym (map-number sheet list d l) ∙ e
+module _ (sheet list : List ℕ) (d l w : ℕ) (bytes : (j : ℕ) → getD sheet j 0 < 256) (e : mapOf sheet list d l w .number ≡ 0) where
+  built-number : mapNumber sheet list d l w ≡ 0
+  built-number = sym (map-number sheet list d l w) ∙ e
 
-  pub built-timescale : timescaleBad (mapOf sheet list d l .timescale) ≡ false
+  pub built-timescale : timescaleBad (mapOf sheet list d l w .timescale) ≡ false
   built-timescale =
-      let h = sound-head sheet (made-parts sheet list d l built-number .sheet-sound) in
-      ap timescaleBad (made-timescale sheet list d l built-number) ∙ timescale-good _ (h .timescale-low) (h .timescale-high)
+      let h = sound-head sheet (made-parts sheet list d l w built-number .sheet-sound) in
+      ap timescaleBad (made-timescale sheet list d l w built-number) ∙ timescale-good _ (h .timescale-low) (h .timescale-high)
 
-  pub built-opens : (kind : ℕ) → kindBad kind ≡ false → openSession kit (configOf kind (mapOf sheet list d l .timescale)) (flatOf (mapOf sheet list d l .segments)) .number ≡ 0
+  pub built-opens : (kind : ℕ) → kindBad kind ≡ false → openSession kit (configOf kind (mapOf sheet list d l w .timescale)) (flatOf (mapOf sheet list d l w .segments)) .number ≡ 0
   built-opens kind k =
       ap (λ (x : model.Answer Columns). x .number)
-      (opens-fresh kit (configOf kind (mapOf sheet list d l .timescale)) (flatOf (mapOf sheet list d l .segments))
-      (record { timescale-good = built-timescale; map-good = made-good sheet list d l built-number bytes; kind-known = k }))
+      (opens-fresh kit (configOf kind (mapOf sheet list d l w .timescale)) (flatOf (mapOf sheet list d l w .segments))
+      (record { timescale-good = built-timescale; map-good = made-good sheet list d l w built-number bytes; kind-known = k }))
 
 -- DEMAND 3 from the bytes of a sheet and a trim list
 pub promise : Promise
-promise sheet list d l kind bytes e k o a =
-    let z = open-number kind (mapOf sheet list d l .timescale) (flatOf (mapOf sheet list d l .segments)) o a ∙ built-opens sheet list d l bytes e kind k in
+promise sheet list d l w kind bytes e k o a =
+    let z = open-number kind (mapOf sheet list d l w .timescale) (flatOf (mapOf sheet list d l w .segments)) o a ∙ built-opens sheet list d l w bytes e kind k in
     record {
       opens = z;
-      kept = promise-opened kind (mapOf sheet list d l .timescale) (flatOf (mapOf sheet list d l .segments)) o a z;
+      kept = promise-opened kind (mapOf sheet list d l w .timescale) (flatOf (mapOf sheet list d l w .segments)) o a z;
     }

@@ -51,12 +51,12 @@ PromiseRecords =
 
 -- a sheet and a trim list that are accepted, the map built from them in either direction, and a fresh session of either kind opened with it and the
 -- sheet's T: open answers 0, and the promise is kept
-pub record Holds (sheet list : List ℕ) (direction lent kind : ℕ) (o : Opened) : Type 0 where
+pub record Holds (sheet list : List ℕ) (direction lent work kind : ℕ) (o : Opened) : Type 0 where
   pub opens : o .number ≡ 0
-  pub kept : Kept kind (mapOf sheet list direction lent .timescale) (flatOf (mapOf sheet list direction lent .segments)) o
+  pub kept : Kept kind (mapOf sheet list direction lent work .timescale) (flatOf (mapOf sheet list direction lent work .segments)) o
 
 abbrev pub Promise : Type 0
 Promise =
-    (sheet list : List ℕ) (direction lent kind : ℕ) → ((j : ℕ) → getD sheet j 0 < 256) → mapOf sheet list direction lent .number ≡ 0 → kindBad kind ≡ false
-    → (o : Opened) → OpenAnswered kind (mapOf sheet list direction lent .timescale) (flatOf (mapOf sheet list direction lent .segments)) o
-    → Holds sheet list direction lent kind o
+    (sheet list : List ℕ) (direction lent work kind : ℕ) → ((j : ℕ) → getD sheet j 0 < 256) → mapOf sheet list direction lent work .number ≡ 0 → kindBad kind ≡ false
+    → (o : Opened) → OpenAnswered kind (mapOf sheet list direction lent work .timescale) (flatOf (mapOf sheet list direction lent work .segments)) o
+    → Holds sheet list direction lent work kind o

@@ -50,7 +50,8 @@ fn print_number(name: &[u8], n: u64) {
 // The map, outward, or `refused` and the number.
 fn print_map(sheet: &[u8], list: &[u8]) {
     let mut map = [0u64; 6144];
-    let answer = through::through_records(sheet, list, 0, 0, 0, &mut map);
+    let mut work = [0; base::MOST_WORK];
+    let answer = through::through_records(sheet, list, 0, &mut work, 0, 0, &mut map);
     let made = answer.made;
     if made.number != 0 {
         print_number(b"refused ", made.number as u64);
@@ -63,7 +64,8 @@ fn print_map(sheet: &[u8], list: &[u8]) {
 // Two ticks, and the place of the segment that they meet.
 fn print_hit(sheet: &[u8], list: &[u8], start: u64, end: u64) {
     let mut map = [0u64; 6144];
-    let answer = through::through_records(sheet, list, 0, start, end, &mut map);
+    let mut work = [0; base::MOST_WORK];
+    let answer = through::through_records(sheet, list, 0, &mut work, start, end, &mut map);
     io::print_decimal(STDOUT_FILENO, start);
     io::write_all(STDOUT_FILENO, b" to ");
     io::print_decimal(STDOUT_FILENO, end);

@@ -1,4 +1,5 @@
 // The answer to a case, by its op.
+use crate::mapping::print_made;
 use crate::mapping::through_given;
 use crate::mapping::through_made;
 use libc::STDOUT_FILENO;
@@ -93,7 +94,7 @@ fn answer_plain(op: u32, head: &[u8], x: &[u8], y: &[u8]) {
         return;
     }
     if op == 2 {
-        mapfile::print_map_of(x, y, blocks::word(head, 1));
+        print_made(x, y, blocks::word(head, 1), blocks::word(head, 3));
         return;
     }
     if op == 4 {
@@ -107,9 +108,10 @@ pub fn answer(head: &[u8], x: &[u8], y: &[u8], z: &[u8], all: &mut [u8], notes: 
     let op = blocks::word(head, 0);
     let first = blocks::word(head, 1);
     let second = blocks::word(head, 2);
+    let third = blocks::word(head, 3);
     let plan = blocks::word(head, 4);
     if op == 3 {
-        through_made(x, y, first, second, plan, z, all, notes);
+        through_made(x, y, first, third, second, plan, z, all, notes);
         return;
     }
     if op == 5 {

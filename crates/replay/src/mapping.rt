@@ -1,7 +1,9 @@
 // The map of a case that has a text.
 use crate::retiming::print_retimed;
 ghost use mathlib.Core.Path.{_≡_};
+ghost use Prim.Native.Nat.{_≤_};
 ghost use lib.ListN.{take};
+ghost use Rattle.base.specs.Limits.{mostWork};
 
 // The first n numbers, or all where there are fewer.
 fn front_words(s: &[u64], n: usize) -> &[u64]
@@ -63,11 +65,33 @@ pub fn through_given(
     );
 }
 
-// A text through the map of a sheet and a list.
+// How many work bytes a case lends: 0 is as many as are always enough, and more do not matter.
+fn work_lent(c: u32) -> usize
+    ensures { λ r. ⌜ r ≤ mostWork ⌝ }
+{
+    let n = c as usize;
+    if n == 0 {
+        return base::MOST_WORK;
+    }
+    if base::MOST_WORK < n {
+        return base::MOST_WORK;
+    }
+    n
+}
+
+// The map of a sheet and a list, with so many work bytes.
+pub fn print_made(sheet: &[u8], list: &[u8], direction: u32, lent: u32) {
+    let mut work = [0; base::MOST_WORK];
+    let n = work_lent(lent);
+    mapfile::print_map_of(sheet, list, direction, &mut work[..n]);
+}
+
+// A text through the map of a sheet and a list, with so many work bytes.
 pub fn through_made(
     sheet: &[u8],
     list: &[u8],
     direction: u32,
+    lent: u32,
     kind: u32,
     plan: u32,
     text: &[u8],
@@ -75,7 +99,9 @@ pub fn through_made(
     notes: &mut [u8],
 ) {
     let mut map = [0u64; 6144];
-    let made = segmap::make(sheet, list, direction, &mut map);
+    let mut work = [0; base::MOST_WORK];
+    let n = work_lent(lent);
+    let made = segmap::make(sheet, list, direction, &mut work[..n], &mut map);
     if made.number != 0 {
         mapfile::print_number(b"refused ", made.number);
         return;

@@ -5,6 +5,7 @@ use Prim.Native.Nat.{ℕ, _≤_, _<_, _*_}
 use lib.ListN.{length, take}
 use borrow.Author.Tests.{lt-ltb, le-ltb}
 use native.Mathlib.Omega.{arith}
+use Rattle.base.specs.Limits.{mostWork}
 use Rattle.base.specs.Put.{put}
 use Rattle.base.proofs.Laws.{yes!, no! }
 use Rattle.base.proofs.RefusalLaws.{else-here, else-next}
@@ -45,19 +46,22 @@ module _ (s l : List ℕ) where
   retimes-large h = record { kind = 0; known = omega arith; pieces = []; sized = tt; number = yes! _ (lt-ltb 65536 (length s) h) refl }
 
   -- what was made, with the places that were lent
-  module _ (n : ℕ) (r : Made) (e : r ≡ madeOf (mapOf s l 0 n)) (q : n ≡ 6144) where
-    made-map : r ≡ madeOf (mapOf s l 0 6144)
-    made-map = e ∙ ap (λ (x : ℕ). madeOf (mapOf s l 0 x)) q
+  module _ (n w : ℕ) (r : Made) (e : r ≡ madeOf (mapOf s l 0 n w)) (q : n ≡ 6144) (u : w ≡ mostWork) where
+    map-is : mapOf s l 0 n w ≡ mapOf s l 0 6144 mostWork
+    map-is = ap (λ (x : ℕ). mapOf s l 0 x w) q ∙ ap (mapOf s l 0 6144) u
 
-    told-number : r .number ≡ mapOf s l 0 6144 .number
+    made-map : r ≡ madeOf (mapOf s l 0 6144 mostWork)
+    made-map = e ∙ ap madeOf map-is
+
+    told-number : r .number ≡ mapOf s l 0 6144 mostWork .number
     unfolding madeOf
     told-number = ap (λ (x : Made). x .number) made-map
 
-    told-timescale : r .timescale ≡ mapOf s l 0 6144 .timescale
+    told-timescale : r .timescale ≡ mapOf s l 0 6144 mostWork .timescale
     unfolding madeOf
     told-timescale = ap (λ (x : Made). x .timescale) made-map
 
-    told-count : r .count ≡ mapOf s l 0 6144 .count
+    told-count : r .count ≡ mapOf s l 0 6144 mostWork .count
     unfolding madeOf
     told-count = ap (λ (x : Made). x .count) made-map
 
@@ -73,21 +77,21 @@ module _ (s l : List ℕ) where
         }
 
     -- the first segments of the places are the map
-    kept-map : (m₀ m kept : List ℕ) → m ≡ put (flatOf (mapOf s l 0 n .segments)) m₀ → kept ≡ take (6 * r .count) m → kept ≡ flatOf (mapOf s l 0 6144 .segments)
+    kept-map : (m₀ m kept : List ℕ) → m ≡ put (flatOf (mapOf s l 0 n w .segments)) m₀ → kept ≡ take (6 * r .count) m → kept ≡ flatOf (mapOf s l 0 6144 mostWork .segments)
     kept-map m₀ m kept f g =
-        let a : m ≡ put (flatOf (mapOf s l 0 6144 .segments)) m₀ = f ∙ ap (λ (x : ℕ). put (flatOf (mapOf s l 0 x .segments)) m₀) q in
-        let b : take (6 * r .count) m ≡ take (6 * mapOf s l 0 6144 .count) m = ap (λ (x : ℕ). take (6 * x) m) told-count in
-        g ∙ b ∙ ap (take (6 * mapOf s l 0 6144 .count)) a ∙ map-front s l 0 6144 m₀
+        let a : m ≡ put (flatOf (mapOf s l 0 6144 mostWork .segments)) m₀ = f ∙ ap (λ (x : Map). put (flatOf (x .segments)) m₀) map-is in
+        let b : take (6 * r .count) m ≡ take (6 * mapOf s l 0 6144 mostWork .count) m = ap (λ (x : ℕ). take (6 * x) m) told-count in
+        g ∙ b ∙ ap (take (6 * mapOf s l 0 6144 mostWork .count)) a ∙ map-front s l 0 6144 mostWork m₀
 
-    pub retimes-run : length s ≤ 65536 → r .number ≡ 0 → (m₀ m kept : List ℕ) → m ≡ put (flatOf (mapOf s l 0 n .segments)) m₀ → kept ≡ take (6 * r .count) m
+    pub retimes-run : length s ≤ 65536 → r .number ≡ 0 → (m₀ m kept : List ℕ) → m ≡ put (flatOf (mapOf s l 0 n w .segments)) m₀ → kept ≡ take (6 * r .count) m
         → (v : ℕ) → Chooses (r .timescale) kept v → Retimes s l v
     unfolding retimeNumber throughMap
     retimes-run h z m₀ m kept f g v c =
         let ps : List (List ℕ) = c .runs .pieces in
-        let a : v ≡ runNumber (c .kind) (mapOf s l 0 6144 .timescale) (flatOf (mapOf s l 0 6144 .segments)) ps =
+        let a : v ≡ runNumber (c .kind) (mapOf s l 0 6144 mostWork .timescale) (flatOf (mapOf s l 0 6144 mostWork .segments)) ps =
         c .runs .number
         ∙ ap (λ (x : ℕ). runNumber (c .kind) x kept ps) told-timescale
-        ∙ ap (λ (x : List ℕ). runNumber (c .kind) (mapOf s l 0 6144 .timescale) x ps) (kept-map m₀ m kept f g) in
+        ∙ ap (λ (x : List ℕ). runNumber (c .kind) (mapOf s l 0 6144 mostWork .timescale) x ps) (kept-map m₀ m kept f g) in
         record {
           kind = c .kind;
           known = c .known;

@@ -5,7 +5,7 @@ use mathlib.Core.List.{List, [], _∷_}
 use Prim.Native.Nat.{ℕ, _≤_}
 use lib.Dec.{ltb}
 use lib.ListN.{length}
-use Rattle.base.specs.Limits.{mostPiece, leastOutput, leastPlaces}
+use Rattle.base.specs.Limits.{mostPiece, leastOutput, leastPlaces, mostWork}
 use Rattle.base.specs.Refusal.{_orElse_}
 use Rattle.segment.specs.Segment.{flatOf}
 use Rattle.segmap.specs.Map.{Map, mapOf}
@@ -36,7 +36,7 @@ throughMap m k ps = m .number orElse runNumber k (m .timescale) (flatOf (m .segm
 
 -- from the bytes of a sheet and a list, outward: a sheet above 65,536 bytes is 11
 unfoldable pub retimeNumber : (sheet list : List ℕ) (kind : ℕ) (pieces : List (List ℕ)) → ℕ
-retimeNumber s l k ps = cond (ltb 65536 (length s)) 11 (throughMap (mapOf s l 0 6144) k ps)
+retimeNumber s l k ps = cond (ltb 65536 (length s)) 11 (throughMap (mapOf s l 0 6144 mostWork) k ps)
 
 -- pieces of at most 1,024 bytes
 abbrev pub Sized : List (List ℕ) → Type 0

@@ -44,7 +44,8 @@ fn retimed(folder: &[u8], sheet: &[u8], list: &[u8]) -> u32
         return 11;
     }
     let mut map = [0u64; 6144];
-    let made = segmap::make(sheet, list, 0, &mut map);
+    let mut work = [0; base::MOST_WORK];
+    let made = segmap::make(sheet, list, 0, &mut work, &mut map);
     if made.number != 0 {
         return made.number;
     }

@@ -5,6 +5,7 @@ use mathlib.Core.Logic.{_⊎_, inl, inr, ⊎-elim}
 use mathlib.Core.List.{List, [], _∷_}
 use Prim.Native.Nat.{ℕ, zero, suc, _+_, _-_, _*_, _%_, _≤_, _<_}
 use native.Mathlib.Omega.{arith}
+use native.Mathlib.Nat.{zero-add}
 use borrow.Author.Tests.{le-ltb, eq-eqb, leb-true}
 use lib.Dec.{leb}
 use lib.ListN.{length, getD, take}
@@ -14,10 +15,12 @@ use Rattle.base.specs.Refusal.{_orElse_, faultUnless}
 use Rattle.base.proofs.Laws.{yes!, no! }
 use Rattle.base.proofs.PutLaws.{put-nil, take-put}
 use Rattle.base.proofs.RefusalLaws.{else-zero, held}
-use Rattle.frames.specs.Frames.{framesOf, timescaleOf, decodeOf}
-use Rattle.sheet.specs.Sheet.{sheetFault}
+use Rattle.frames.specs.Frames.{framesOf, timescaleOf, decodeOf, durationOf}
+use Rattle.once.specs.Once.{EachOnce}
+use Rattle.once.proofs.NamedLaws.{sum, display-sum}
+use Rattle.sheet.specs.Sheet.{sheetFault, sheetNumber}
 use Rattle.base.proofs.RefusalNumbers.{else-numbers, unless-numbers}
-use Rattle.sheet.proofs.SheetLaws.{sheet-numbers, sound-head}
+use Rattle.sheet.proofs.SheetLaws.{SheetNumber, sheet-numbers, checked, sound-head}
 use Rattle.trim.specs.TrimList.{listNumber}
 use Rattle.trim.proofs.RangeLaws.{OfList, list-number-table}
 use Rattle.plan.specs.Snap.{overlapsFault}
@@ -26,19 +29,19 @@ use Rattle.segment.specs.declared.segment.Segment.{Segment}
 use Rattle.segmap.specs.declared.whole.Made.{Made}
 use Rattle.segment.specs.Segment.{segment, flatOf, endBad, segmentBad, anyBad, mapBad}
 use Rattle.segmap.specs.Build.{ticksFrom, sourceStart, rangeTicks, rangeFault, rangesFault, segmentIn, segmentsIn}
-use Rattle.segmap.specs.Map.{rangesFor, keptCount, snappedOf, mapNumber, Map, mapAnswer, mapOf, madeOf}
+use Rattle.segmap.specs.Map.{rangesFor, keptCount, snappedOf, cutNumber, mapNumber, Map, mapAnswer, mapOf, madeOf}
 use Rattle.segment.proofs.SegmentLaws.{flat-back}
 use Rattle.segmap.proofs.TicksLaws.{ticks-none, ticks-split, ticks-more, ticks-most, ticks-within}
 use Rattle.segmap.proofs.BuildLaws.{fault-free, faults-cut}
 use Rattle.segmap.proofs.MapLaws.{kept-few, kept-length, segments-count, snapped-length}
 
--- ---- the numbers of the table: 0, 2 to 14, 16 and 20
+-- ---- the numbers of the table: 0, 2 to 14, 16, 20 and 25
 -- 0, or one of 2 to 14
 abbrev Told : ℕ → Type 0
 Told k = (k ≡ 0) ⊎ ((2 ≤ k) × (k ≤ 14))
 
 abbrev pub MapNumber : ℕ → Type 0
-MapNumber k = Told k ⊎ ((k ≡ 16) ⊎ (k ≡ 20))
+MapNumber k = Told k ⊎ ((k ≡ 16) ⊎ ((k ≡ 20) ⊎ (k ≡ 25)))
 
 range-number : (s : List ℕ) (n a e : ℕ) → Told (rangeFault s n a e)
 unfolding rangeFault
@@ -62,14 +65,19 @@ argument t = unless-numbers MapNumber (inl (inl refl)) t 16 (inr (inl refl))
 of-list : (k : ℕ) → OfList k → MapNumber k
 of-list k (inl e) = inl (inl e)
 of-list k (inr (inl h)) = inl (inr (h .0, omega (arith, h .1)))
-of-list k (inr (inr e)) = inr (inr e)
+of-list k (inr (inr e)) = inr (inr (inl e))
 
-pub map-numbers : (sheet list : List ℕ) (d lent : ℕ) → MapNumber (mapNumber sheet list d lent)
-unfolding mapNumber
-map-numbers sheet list d lent =
+checked-number : (k : ℕ) → SheetNumber k → MapNumber k
+checked-number k n =
+    ⊎-elim (λ (e : k ≡ 0). inl (inl e))
+    (⊎-elim (λ (h : (11 ≤ k) × (k ≤ 14)). inl (inr (omega (arith, h .0), h .1))) (⊎-elim (λ (e : k ≡ 16). inr (inl e)) (λ (e : k ≡ 25). inr (inr (inr e))))) n
+
+pub map-numbers : (sheet list : List ℕ) (d lent work : ℕ) → MapNumber (mapNumber sheet list d lent work)
+unfolding mapNumber cutNumber
+map-numbers sheet list d lent work =
     or-else (argument (leb (6 * mostSegments) lent))
     (or-else (argument (leb d 1))
-    (or-else (⊎-elim (λ e. inl (inl e)) (λ h. inl (inr (omega (arith, h .0), h .1))) (sheet-numbers sheet))
+    (or-else (checked-number _ (sheet-numbers sheet work))
     (or-else (of-list (listNumber list) (list-number-table list))
     (or-else (⊎-elim (λ e. inl (inl e)) (λ e. inl (inr (omega (arith, e), omega (arith, e)))) (overlap-numbers 0 (snappedOf sheet list d)))
     (inl (ranges-number sheet (framesOf sheet) (snappedOf sheet list d)))))))
@@ -79,10 +87,11 @@ never-of : (k : ℕ) → MapNumber k → k ≡ 1 → ⊥
 never-of k (inl (inl z)) e = omega arith
 never-of k (inl (inr h)) e = omega (arith, h .0)
 never-of k (inr (inl z)) e = omega arith
-never-of k (inr (inr z)) e = omega arith
+never-of k (inr (inr (inl z))) e = omega arith
+never-of k (inr (inr (inr z))) e = omega arith
 
-pub map-never-1 : (sheet list : List ℕ) (d lent : ℕ) → mapNumber sheet list d lent ≡ 1 → ⊥
-map-never-1 sheet list d lent e = never-of (mapNumber sheet list d lent) (map-numbers sheet list d lent) e
+pub map-never-1 : (sheet list : List ℕ) (d lent work : ℕ) → mapNumber sheet list d lent work ≡ 1 → ⊥
+map-never-1 sheet list d lent work e = never-of (mapNumber sheet list d lent work) (map-numbers sheet list d lent work) e
 
 -- ---- segments of ranges that have passed 8, 9 and 10
 -- their durations together
@@ -195,6 +204,24 @@ segments-still s o [] = tt
 segments-still s o (a ∷ []) = tt
 segments-still s o (a ∷ e ∷ r) = (λ q. ticks-none s (decodeOf s a) (e - a) (omega arith), segments-still s (o + ticksFrom s (decodeOf s a) (e - a)) r)
 
+-- ---- each sample named once: the durations of all frames in display order
+abbrev pub displayTicks : List ℕ → ℕ → ℕ
+displayTicks s zero = 0
+displayTicks s (suc k) = displayTicks s k + durationOf s (decodeOf s k)
+
+display-is : (s : List ℕ) (k : ℕ) → displayTicks s k ≡ sum (λ i. durationOf s (decodeOf s i)) k
+display-is s zero = refl
+display-is s (suc k) = omega (arith, display-is s k)
+
+ticks-are : (s : List ℕ) (k : ℕ) → ticksFrom s 0 k ≡ sum (durationOf s) k
+unfolding ticksFrom
+ticks-are s zero = refl
+ticks-are s (suc k) = omega (arith, ticks-are s k, ap (durationOf s) (zero-add k))
+
+-- together they last as long as all samples in decode order
+pub display-total : (s : List ℕ) (n : ℕ) → EachOnce s n → displayTicks s n ≡ ticksFrom s 0 n
+display-total s n e = display-is s n ∙ display-sum s (durationOf s) n e ∙ sym (ticks-are s n)
+
 -- ---- an answer, made or refused
 answer-number : (k t : ℕ) (xs : List Segment) → mapAnswer k t xs .number ≡ k
 unfolding mapAnswer
@@ -211,60 +238,61 @@ unfolding mapAnswer
 answer-refused zero t xs h = absurd (h refl)
 answer-refused (suc k) t xs h = refl
 
-module _ (sheet list : List ℕ) (d lent : ℕ) where
-  pub map-number : mapOf sheet list d lent .number ≡ mapNumber sheet list d lent
+module _ (sheet list : List ℕ) (d lent work : ℕ) where
+  pub map-number : mapOf sheet list d lent work .number ≡ mapNumber sheet list d lent work
   unfolding mapOf
   map-number = answer-number _ _ _
 
   -- its count is the number of its segments, and its numbers as they are written are six to each
-  pub map-count : mapOf sheet list d lent .count ≡ length (mapOf sheet list d lent .segments)
+  pub map-count : mapOf sheet list d lent work .count ≡ length (mapOf sheet list d lent work .segments)
   unfolding mapOf
   map-count = answer-count _ _ _
 
-  pub map-length : length (flatOf (mapOf sheet list d lent .segments)) ≡ 6 * mapOf sheet list d lent .count
-  map-length = flat-length (mapOf sheet list d lent .segments) ∙ ap (λ (k : ℕ). 6 * k) (sym map-count)
+  pub map-length : length (flatOf (mapOf sheet list d lent work .segments)) ≡ 6 * mapOf sheet list d lent work .count
+  map-length = flat-length (mapOf sheet list d lent work .segments) ∙ ap (λ (k : ℕ). 6 * k) (sym map-count)
 
   -- the first 6 x count places that a call leaves are the map
-  pub map-front : (m : List ℕ) → take (6 * mapOf sheet list d lent .count) (put (flatOf (mapOf sheet list d lent .segments)) m) ≡ flatOf (mapOf sheet list d lent .segments)
+  pub map-front : (m : List ℕ) → take (6 * mapOf sheet list d lent work .count) (put (flatOf (mapOf sheet list d lent work .segments)) m) ≡ flatOf (mapOf sheet list d lent work .segments)
   map-front m =
-      ap (λ (k : ℕ). take k (put (flatOf (mapOf sheet list d lent .segments)) m)) (sym map-length) ∙ take-put (flatOf (mapOf sheet list d lent .segments)) m
+      ap (λ (k : ℕ). take k (put (flatOf (mapOf sheet list d lent work .segments)) m)) (sym map-length) ∙ take-put (flatOf (mapOf sheet list d lent work .segments)) m
 
   -- what a call tells of it
-  module _ (r : Made) (e : r ≡ madeOf (mapOf sheet list d lent)) where
-    pub told-number : r .number ≡ mapNumber sheet list d lent
+  module _ (r : Made) (e : r ≡ madeOf (mapOf sheet list d lent work)) where
+    pub told-number : r .number ≡ mapNumber sheet list d lent work
     unfolding madeOf
     told-number = ap (λ (x : Made). x .number) e ∙ map-number
 
-    pub told-timescale : r .timescale ≡ mapOf sheet list d lent .timescale
+    pub told-timescale : r .timescale ≡ mapOf sheet list d lent work .timescale
     unfolding madeOf
     told-timescale = ap (λ (x : Made). x .timescale) e
 
-    pub told-count : r .count ≡ mapOf sheet list d lent .count
+    pub told-count : r .count ≡ mapOf sheet list d lent work .count
     unfolding madeOf
     told-count = ap (λ (x : Made). x .count) e
 
   -- a refusal has no segments, and writes nothing
-  pub map-refused : (mapNumber sheet list d lent ≡ 0 → ⊥) → mapOf sheet list d lent .segments ≡ []
+  pub map-refused : (mapNumber sheet list d lent work ≡ 0 → ⊥) → mapOf sheet list d lent work .segments ≡ []
   unfolding mapOf
-  map-refused h = answer-refused (mapNumber sheet list d lent) (timescaleOf sheet) (segmentsIn sheet 0 (snappedOf sheet list d)) h
+  map-refused h = answer-refused (mapNumber sheet list d lent work) (timescaleOf sheet) (segmentsIn sheet 0 (snappedOf sheet list d)) h
 
-  pub map-kept : (m : List ℕ) → (mapNumber sheet list d lent ≡ 0 → ⊥) → put (flatOf (mapOf sheet list d lent .segments)) m ≡ m
+  pub map-kept : (m : List ℕ) → (mapNumber sheet list d lent work ≡ 0 → ⊥) → put (flatOf (mapOf sheet list d lent work .segments)) m ≡ m
   unfolding flatOf
   map-kept m h = ap (λ (xs : List Segment). put (flatOf xs) m) (map-refused h) ∙ put-nil m
 
 -- ---- a map that is made: the number is 0
-pub record MadeParts (sheet list : List ℕ) (d lent : ℕ) : Type 0 where
+pub record MadeParts (sheet list : List ℕ) (d lent work : ℕ) : Type 0 where
   pub room : 6 * mostSegments ≤ lent
   pub direction : d ≤ 1
   pub sheet-sound : sheetFault sheet ≡ 0
+  pub once : EachOnce sheet (framesOf sheet)
   pub list-sound : listNumber list ≡ 0
   pub apart : overlapsFault 0 (snappedOf sheet list d) ≡ 0
   pub ranges : rangesFault sheet (framesOf sheet) (snappedOf sheet list d) ≡ 0
 
-module _ (sheet list : List ℕ) (d lent : ℕ) (made : mapNumber sheet list d lent ≡ 0) where
+module _ (sheet list : List ℕ) (d lent work : ℕ) (made : mapNumber sheet list d lent work ≡ 0) where
   -- it has passed every test
-  pub made-parts : MadeParts sheet list d lent
-  unfolding mapNumber
+  pub made-parts : MadeParts sheet list d lent work
+  unfolding mapNumber cutNumber
   made-parts =
       let a = else-zero _ _ made in
       let b = else-zero _ _ (a .1) in
@@ -274,32 +302,37 @@ module _ (sheet list : List ℕ) (d lent : ℕ) (made : mapNumber sheet list d l
       record {
         room = leb-true _ _ (held _ 16 (omega arith) (a .0));
         direction = leb-true _ _ (held _ 16 (omega arith) (b .0));
-        sheet-sound = c .0;
+        sheet-sound = checked sheet work (c .0) .fault;
+        once = checked sheet work (c .0) .once;
         list-sound = e .0;
         apart = f .0;
         ranges = f .1;
       }
 
-  answer-made : mapOf sheet list d lent ≡ mapAnswer 0 (timescaleOf sheet) (segmentsIn sheet 0 (snappedOf sheet list d))
+  -- no sample of its sheet is played twice, and none is left out
+  pub made-total : displayTicks sheet (framesOf sheet) ≡ ticksFrom sheet 0 (framesOf sheet)
+  made-total = display-total sheet (framesOf sheet) (made-parts .once)
+
+  answer-made : mapOf sheet list d lent work ≡ mapAnswer 0 (timescaleOf sheet) (segmentsIn sheet 0 (snappedOf sheet list d))
   unfolding mapOf
   answer-made = ap (λ (k : ℕ). mapAnswer k (timescaleOf sheet) (segmentsIn sheet 0 (snappedOf sheet list d))) made
 
   -- its timescale is the sheet's, and its segments are those of the snapped ranges
-  pub made-timescale : mapOf sheet list d lent .timescale ≡ timescaleOf sheet
+  pub made-timescale : mapOf sheet list d lent work .timescale ≡ timescaleOf sheet
   unfolding mapAnswer
   made-timescale = ap (λ (m : Map). m .timescale) answer-made
 
-  pub made-segments : mapOf sheet list d lent .segments ≡ segmentsIn sheet 0 (snappedOf sheet list d)
+  pub made-segments : mapOf sheet list d lent work .segments ≡ segmentsIn sheet 0 (snappedOf sheet list d)
   unfolding mapAnswer
   made-segments = ap (λ (m : Map). m .segments) answer-made
 
   -- as many as the list has ranges, one for a blank list, and so at most 1,024
-  pub made-count : mapOf sheet list d lent .count ≡ keptCount list
+  pub made-count : mapOf sheet list d lent work .count ≡ keptCount list
   made-count =
-      map-count sheet list d lent ∙ ap length made-segments
+      map-count sheet list d lent work ∙ ap length made-segments
       ∙ segments-count sheet 0 (keptCount list) (snappedOf sheet list d) (snapped-length sheet list d (made-parts .list-sound))
 
-  pub made-few : mapOf sheet list d lent .count ≤ mostSegments
+  pub made-few : mapOf sheet list d lent work .count ≤ mostSegments
   made-few = omega (arith, made-count, kept-few list (made-parts .list-sound))
 
   -- no number of a snapped range is above the frame count
@@ -309,27 +342,27 @@ module _ (sheet list : List ℕ) (d lent : ℕ) (made : mapNumber sheet list d l
       snap-bounded sheet (framesOf sheet) d (keptCount list) (rangesFor (framesOf sheet) list) (kept-length (framesOf sheet) list (made-parts .list-sound))
 
   -- its segments' frames are the snapped ranges, in the list's order
-  pub made-frames : framesIn (mapOf sheet list d lent .segments) ≡ snappedOf sheet list d
+  pub made-frames : framesIn (mapOf sheet list d lent work .segments) ≡ snappedOf sheet list d
   made-frames =
       ap framesIn made-segments ∙ segments-frames sheet 0 (keptCount list) (snappedOf sheet list d) (snapped-length sheet list d (made-parts .list-sound))
 
   -- each output starts where the one before it ends, and a segment without frames has no duration
-  pub made-chained : Chained 0 (mapOf sheet list d lent .segments)
+  pub made-chained : Chained 0 (mapOf sheet list d lent work .segments)
   made-chained = subst (Chained 0) (sym made-segments) (segments-chained sheet 0 (snappedOf sheet list d))
 
-  pub made-still : Still (mapOf sheet list d lent .segments)
+  pub made-still : Still (mapOf sheet list d lent work .segments)
   made-still = subst Still (sym made-segments) (segments-still sheet 0 (snappedOf sheet list d))
 
   -- where the sums of all samples and of what is kept are within the limit, open does not refuse it (15)
-  pub made-within : ticksFrom sheet 0 (framesOf sheet) ≤ mostTicks → keptTicks sheet (snappedOf sheet list d) ≤ mostTicks → mapBad (flatOf (mapOf sheet list d lent .segments)) ≡ false
+  pub made-within : ticksFrom sheet 0 (framesOf sheet) ≤ mostTicks → keptTicks sheet (snappedOf sheet list d) ≤ mostTicks → mapBad (flatOf (mapOf sheet list d lent work .segments)) ≡ false
   made-within t k =
-      let few : length (mapOf sheet list d lent .segments) ≤ mostSegments = omega (arith, map-count sheet list d lent, made-few) in
-      flat-good (mapOf sheet list d lent .segments) few
+      let few : length (mapOf sheet list d lent work .segments) ≤ mostSegments = omega (arith, map-count sheet list d lent work, made-few) in
+      flat-good (mapOf sheet list d lent work .segments) few
       (ap anyBad made-segments
       ∙ none-bad sheet (framesOf sheet) 0 (snappedOf sheet list d) (sound-head sheet (made-parts .sheet-sound) .frames-high) made-bounded (made-parts .ranges) t (omega arith))
 
   -- and they are, since a sheet's durations are of 32 bits
-  pub made-good : ((j : ℕ) → getD sheet j 0 < 256) → mapBad (flatOf (mapOf sheet list d lent .segments)) ≡ false
+  pub made-good : ((j : ℕ) → getD sheet j 0 < 256) → mapBad (flatOf (mapOf sheet list d lent work .segments)) ≡ false
   made-good bytes =
       let few : framesOf sheet ≤ mostFrames = sound-head sheet (made-parts .sheet-sound) .frames-high in
       made-within (samples-within sheet bytes (framesOf sheet) few)

@@ -11,14 +11,15 @@ use lib.ListN.{length, take, set}
 use Rattle.base.specs.Limits.{mostFrames, mostPlaces, mostSegments}
 use Rattle.base.specs.Put.{put}
 use Rattle.base.specs.Refusal.{_orElse_, faultUnless}
+use Rattle.base.proofs.Laws.{yes!, no! }
 use Rattle.base.proofs.PutLaws.{put-nil, take-put}
 use Rattle.base.proofs.RefusalLaws.{else-here, else-next}
 use Rattle.frames.specs.Frames.{framesOf, timescaleOf}
-use Rattle.sheet.specs.Sheet.{sheetFault, sheetOf}
+use Rattle.sheet.specs.Sheet.{sheetFault, sheetNumber, workAfter, sheetOf}
 use Rattle.sheet.specs.declared.answer.Head.{Head}
 use Rattle.sheet.specs.declared.answer.Sheet.{Sheet}
 use Rattle.sheet.specs.declared.answer.Sheet.the-variants.{Sound, Refused}
-use Rattle.sheet.proofs.SheetLaws.{sound-head, sound-answer, refused-answer}
+use Rattle.sheet.proofs.SheetLaws.{sound-head, checked, sound-answer, refused-answer}
 use Rattle.trim.specs.TrimList.{rangesIn, listNumber, rangesOf, rangeCount, parsed, listAnswer, parseOf, rangePlaces}
 use Rattle.trim.specs.declared.list.Parsed.{Parsed}
 use Rattle.trim.proofs.RangeLaws.{parse-number, parse-lent, range-count-most, ranges-length, answered-count, places-front, places-written, none-blank, list-none}
@@ -28,7 +29,7 @@ use Rattle.segment.specs.declared.segment.Segment.{Segment}
 use Rattle.segmap.specs.declared.whole.Made.{Made}
 use Rattle.segment.specs.Segment.{flatOf}
 use Rattle.segmap.specs.Build.{rangeTicks, rangesFault, segmentsIn}
-use Rattle.segmap.specs.Map.{rangesFor, keptCount, keptOf, snappedOf, mapNumber, mapAnswer, mapOf, made, madeOf}
+use Rattle.segmap.specs.Map.{rangesFor, keptCount, keptOf, snappedOf, cutNumber, mapNumber, mapWork, Map, mapAnswer, cutOf, mapOf, made, madeOf}
 
 -- ---- snapped ranges tested: f is the overlap's number and g that of the ranges
 pub ranges-kept : (a b f g : ℕ) → f ≡ a → f ≡ 0 → g ≡ b → g ≡ 0 → 0 ≡ a orElse b
@@ -53,65 +54,95 @@ answer-segments : (k t : ℕ) (xs : List Segment) → k ≡ 0 → mapAnswer k t 
 unfolding mapAnswer
 answer-segments k t xs e = rw e
 
-module _ (s list : List ℕ) (d lent : ℕ) where
-  -- k is the call's number, and not 0
-  module _ (k : ℕ) (e : k ≡ mapNumber s list d lent) (h : k ≡ 0 → ⊥) where
-    refused-made : (r : Made) → r ≡ made k 0 0 → r ≡ madeOf (mapOf s list d lent)
-    unfolding mapOf
-    refused-made r q = q ∙ ap (λ (x : ℕ). made x 0 0) e ∙ sym (answer-refused (mapNumber s list d lent) _ _ (λ z. h (e ∙ z)))
+-- k is the number j of an answer, and not 0
+module _ (j t : ℕ) (xs : List Segment) (k : ℕ) (e : k ≡ j) (h : k ≡ 0 → ⊥) where
+  refused-made : (r : Made) → r ≡ made k 0 0 → r ≡ madeOf (mapAnswer j t xs)
+  refused-made r q = q ∙ ap (λ (x : ℕ). made x 0 0) e ∙ sym (answer-refused j t xs (λ z. h (e ∙ z)))
 
-    refused-map : (m : List ℕ) → m ≡ put (flatOf (mapOf s list d lent .segments)) m
-    unfolding mapOf
-    refused-map m = sym (ap (λ (v : List ℕ). put v m) (refused-none (mapNumber s list d lent) _ _ (λ z. h (e ∙ z))) ∙ put-nil m)
+  refused-map : (m : List ℕ) → m ≡ put (flatOf (mapAnswer j t xs .segments)) m
+  refused-map m = sym (ap (λ (v : List ℕ). put v m) (refused-none j t xs (λ z. h (e ∙ z))) ∙ put-nil m)
 
-  -- ---- arguments
-  number-short : lent < 6 * mostSegments → 16 ≡ mapNumber s list d lent
+-- ---- the call: `w` are the work bytes
+module _ (s list : List ℕ) (d lent : ℕ) (w : List ℕ) where
+  number-short : lent < 6 * mostSegments → 16 ≡ mapNumber s list d lent (length w)
   unfolding mapNumber faultUnless _orElse_
   number-short h = rw (lt-leb (6 * mostSegments) lent h)
 
-  number-direction : 6 * mostSegments ≤ lent → 1 < d → 16 ≡ mapNumber s list d lent
+  number-direction : 6 * mostSegments ≤ lent → 1 < d → 16 ≡ mapNumber s list d lent (length w)
   unfolding mapNumber faultUnless _orElse_
   number-direction h k = rw (le-leb (6 * mostSegments) lent h, lt-leb d 1 k)
 
-  pub short-made : (r : Made) → lent < 6 * mostSegments → r ≡ made 16 0 0 → r ≡ madeOf (mapOf s list d lent)
-  short-made r h q = refused-made 16 (number-short h) (omega arith) r q
+  pub short-made : (r : Made) → lent < 6 * mostSegments → r ≡ made 16 0 0 → r ≡ madeOf (mapOf s list d lent (length w))
+  unfolding mapOf
+  short-made r h q = refused-made _ _ _ 16 (number-short h) (omega arith) r q
 
-  pub short-map : (m : List ℕ) → lent < 6 * mostSegments → m ≡ put (flatOf (mapOf s list d lent .segments)) m
-  short-map m h = refused-map 16 (number-short h) (omega arith) m
+  pub short-map : (m : List ℕ) → lent < 6 * mostSegments → m ≡ put (flatOf (mapOf s list d lent (length w) .segments)) m
+  unfolding mapOf
+  short-map m h = refused-map _ _ _ 16 (number-short h) (omega arith) m
 
-  pub direction-made : (r : Made) → 6 * mostSegments ≤ lent → 1 < d → r ≡ made 16 0 0 → r ≡ madeOf (mapOf s list d lent)
-  direction-made r h k q = refused-made 16 (number-direction h k) (omega arith) r q
+  pub short-work : lent < 6 * mostSegments → w ≡ mapWork s d lent w
+  unfolding mapWork
+  short-work h = no! _ (lt-leb (6 * mostSegments) lent h) refl
 
-  pub direction-map : (m : List ℕ) → 6 * mostSegments ≤ lent → 1 < d → m ≡ put (flatOf (mapOf s list d lent .segments)) m
-  direction-map m h k = refused-map 16 (number-direction h k) (omega arith) m
+  pub direction-made : (r : Made) → 6 * mostSegments ≤ lent → 1 < d → r ≡ made 16 0 0 → r ≡ madeOf (mapOf s list d lent (length w))
+  unfolding mapOf
+  direction-made r h k q = refused-made _ _ _ 16 (number-direction h k) (omega arith) r q
+
+  pub direction-map : (m : List ℕ) → 6 * mostSegments ≤ lent → 1 < d → m ≡ put (flatOf (mapOf s list d lent (length w) .segments)) m
+  unfolding mapOf
+  direction-map m h k = refused-map _ _ _ 16 (number-direction h k) (omega arith) m
+
+  pub direction-work : 6 * mostSegments ≤ lent → 1 < d → w ≡ mapWork s d lent w
+  unfolding mapWork
+  direction-work h k = yes! _ (le-leb (6 * mostSegments) lent h) (no! _ (lt-leb d 1 k) refl)
 
   module _ (room : 6 * mostSegments ≤ lent) (dir : d ≤ 1) where
-    past-arguments : mapNumber s list d lent ≡ sheetFault s orElse (listNumber list orElse (overlapsFault 0 (snappedOf s list d) orElse rangesFault s (framesOf s) (snappedOf s list d)))
+    pub checked-work : (v : List ℕ) → v ≡ workAfter s w → v ≡ mapWork s d lent w
+    unfolding mapWork
+    checked-work v e = yes! _ (le-leb (6 * mostSegments) lent room) (yes! _ (le-leb d 1 dir) e)
+
+    past-arguments : mapNumber s list d lent (length w) ≡ sheetNumber s (length w) orElse cutNumber s list d
     unfolding mapNumber faultUnless _orElse_
     past-arguments = rw (le-leb (6 * mostSegments) lent room, le-leb d 1 dir)
 
     -- ---- the sheet: a is the answer of its check
-    number-sheet : (a : Sheet) (k : ℕ) → a ≡ sheetOf s → a ≡ Refused k → k ≡ mapNumber s list d lent
+    number-sheet : (a : Sheet) (k : ℕ) → a ≡ sheetOf s (length w) → a ≡ Refused k → k ≡ mapNumber s list d lent (length w)
     number-sheet a k e f =
-        let p = refused-answer s k a e f in
+        let p = refused-answer s (length w) k a e f in
         else-here _ _ k (p .0) (p .1) ∙ sym past-arguments
 
-    pub sheet-made : (a : Sheet) (k : ℕ) (r : Made) → a ≡ sheetOf s → a ≡ Refused k → r ≡ made k 0 0 → r ≡ madeOf (mapOf s list d lent)
-    sheet-made a k r e f q = refused-made k (number-sheet a k e f) (refused-answer s k a e f .1) r q
+    pub sheet-made : (a : Sheet) (k : ℕ) (r : Made) → a ≡ sheetOf s (length w) → a ≡ Refused k → r ≡ made k 0 0 → r ≡ madeOf (mapOf s list d lent (length w))
+    unfolding mapOf
+    sheet-made a k r e f q = refused-made _ _ _ k (number-sheet a k e f) (refused-answer s (length w) k a e f .1) r q
 
-    pub sheet-map : (a : Sheet) (k : ℕ) (m : List ℕ) → a ≡ sheetOf s → a ≡ Refused k → m ≡ put (flatOf (mapOf s list d lent .segments)) m
-    sheet-map a k m e f = refused-map k (number-sheet a k e f) (refused-answer s k a e f .1) m
+    pub sheet-map : (a : Sheet) (k : ℕ) (m : List ℕ) → a ≡ sheetOf s (length w) → a ≡ Refused k → m ≡ put (flatOf (mapOf s list d lent (length w) .segments)) m
+    unfolding mapOf
+    sheet-map a k m e f = refused-map _ _ _ k (number-sheet a k e f) (refused-answer s (length w) k a e f .1) m
+
+    -- the sheet is sound: the call's map is that of its list
+    module _ (a : Sheet) (h : Head) (e : a ≡ sheetOf s (length w)) (f : a ≡ Sound h) where
+      cut-is : cutOf s list d ≡ mapOf s list d lent (length w)
+      unfolding cutOf mapOf
+      cut-is =
+          let z : sheetNumber s (length w) ≡ 0 = sound-answer s (length w) h a e f .number-zero in
+          ap (λ (k : ℕ). mapAnswer k (timescaleOf s) (segmentsIn s 0 (snappedOf s list d))) (else-next _ _ (sheetNumber s (length w)) (cutNumber s list d) refl z refl ∙ sym past-arguments)
+
+      pub cut-made : (r : Made) → r ≡ madeOf (cutOf s list d) → r ≡ madeOf (mapOf s list d lent (length w))
+      cut-made r q = q ∙ ap madeOf cut-is
+
+      pub cut-map : (x y : List ℕ) → y ≡ put (flatOf (cutOf s list d .segments)) x → y ≡ put (flatOf (mapOf s list d lent (length w) .segments)) x
+      cut-map x y q = q ∙ ap (λ (m : Map). put (flatOf (m .segments)) x) cut-is
 
 -- what a sound sheet's answer tells
-module _ (s : List ℕ) (a : Sheet) (h : Head) (e : a ≡ sheetOf s) (f : a ≡ Sound h) where
+module _ (s w : List ℕ) (a : Sheet) (h : Head) (e : a ≡ sheetOf s (length w)) (f : a ≡ Sound h) where
   pub sound-fault : sheetFault s ≡ 0
-  sound-fault = sound-answer s h a e f .fault
+  sound-fault = checked s (length w) (sound-answer s (length w) h a e f .number-zero) .fault
 
   pub sound-frames : h .frames ≡ framesOf s
-  sound-frames = sound-answer s h a e f .frames-is
+  sound-frames = sound-answer s (length w) h a e f .frames-is
 
   pub sound-timescale : h .timescale ≡ timescaleOf s
-  sound-timescale = sound-answer s h a e f .timescale-is
+  sound-timescale = sound-answer s (length w) h a e f .timescale-is
 
 pub frames-few : (s : List ℕ) (n : ℕ) → sheetFault s ≡ 0 → n ≡ framesOf s → n ≤ mostFrames
 frames-few s n z e = omega (arith, sound-head s z .frames-high)
@@ -253,21 +284,23 @@ unfolding snappedOf
 snapped-length s list d z = snap-length s (framesOf s) d (rangesFor (framesOf s) list) ∙ kept-length (framesOf s) list z
 
 -- ---- a sound sheet, and the list's answer p
-module _ (s list : List ℕ) (d n lent : ℕ) (p : Parsed) (sound : sheetFault s ≡ 0) (en : n ≡ framesOf s) (dir : d ≤ 1) (room : 6 * mostSegments ≤ lent)
-    (e : p ≡ keptOf list) where
-  past-sheet : (v : ℕ) → v ≡ listNumber list orElse (overlapsFault 0 (snappedOf s list d) orElse rangesFault s (framesOf s) (snappedOf s list d)) → v ≡ mapNumber s list d lent
-  past-sheet v q = else-next _ _ (sheetFault s) v refl sound q ∙ sym (past-arguments s list d lent room dir)
+module _ (s list : List ℕ) (d n : ℕ) (p : Parsed) (en : n ≡ framesOf s) (e : p ≡ keptOf list) where
+  past-sheet : (v : ℕ) → v ≡ listNumber list orElse (overlapsFault 0 (snappedOf s list d) orElse rangesFault s (framesOf s) (snappedOf s list d)) → v ≡ cutNumber s list d
+  unfolding cutNumber
+  past-sheet v q = q
 
   -- the list is refused
   module _ (h : p .number ≡ 0 → ⊥) where
-    number-list : p .number ≡ mapNumber s list d lent
+    number-list : p .number ≡ cutNumber s list d
     number-list = past-sheet (p .number) (else-here _ _ (p .number) (list-number list p e) h)
 
-    pub list-made : (r : Made) → r ≡ made (p .number) 0 0 → r ≡ madeOf (mapOf s list d lent)
-    list-made r q = refused-made s list d lent (p .number) number-list h r q
+    pub list-made : (r : Made) → r ≡ made (p .number) 0 0 → r ≡ madeOf (cutOf s list d)
+    unfolding cutOf
+    list-made r q = refused-made _ _ _ (p .number) number-list h r q
 
-    pub list-map : (x : List ℕ) → x ≡ put (flatOf (mapOf s list d lent .segments)) x
-    list-map x = refused-map s list d lent (p .number) number-list h x
+    pub list-map : (x : List ℕ) → x ≡ put (flatOf (cutOf s list d .segments)) x
+    unfolding cutOf
+    list-map x = refused-map _ _ _ (p .number) number-list h x
 
   -- the list is read; g is the number of its snapped ranges
   module _ (m w : List ℕ) (front : p .number ≡ 0 → take (2 * p .count) m ≡ rangesFor n list) (z : p .number ≡ 0) (ew : w ≡ put (snapAll s n d (take (2 * p .count) m)) m) (g : ℕ)
@@ -275,7 +308,7 @@ module _ (s list : List ℕ) (d n lent : ℕ) (p : Parsed) (sound : sheetFault s
     snapped : take (2 * p .count) w ≡ snappedOf s list d
     snapped = snapped-is list p e z s m n d w front en ew
 
-    number-ranges : g ≡ mapNumber s list d lent
+    number-ranges : g ≡ cutNumber s list d
     number-ranges =
         past-sheet g
         (else-next _ _ (p .number) g (list-number list p e) z
@@ -283,23 +316,25 @@ module _ (s list : List ℕ) (d n lent : ℕ) (p : Parsed) (sound : sheetFault s
         ∙ ap (λ (x : List ℕ). overlapsFault 0 x orElse rangesFault s n x) snapped
         ∙ ap (λ (k : ℕ). overlapsFault 0 (snappedOf s list d) orElse rangesFault s k (snappedOf s list d)) en))
 
-    pub ranges-made : (r : Made) → (g ≡ 0 → ⊥) → r ≡ made g 0 0 → r ≡ madeOf (mapOf s list d lent)
-    ranges-made r h q = refused-made s list d lent g number-ranges h r q
+    pub ranges-made : (r : Made) → (g ≡ 0 → ⊥) → r ≡ made g 0 0 → r ≡ madeOf (cutOf s list d)
+    unfolding cutOf
+    ranges-made r h q = refused-made _ _ _ g number-ranges h r q
 
-    pub ranges-map : (x y : List ℕ) → (g ≡ 0 → ⊥) → ((g ≡ 0 → ⊥) → y ≡ x) → y ≡ put (flatOf (mapOf s list d lent .segments)) x
-    ranges-map x y h q = q h ∙ refused-map s list d lent g number-ranges h x
+    pub ranges-map : (x y : List ℕ) → (g ≡ 0 → ⊥) → ((g ≡ 0 → ⊥) → y ≡ x) → y ≡ put (flatOf (cutOf s list d .segments)) x
+    unfolding cutOf
+    ranges-map x y h q = q h ∙ refused-map _ _ _ g number-ranges h x
 
-    pub whole-made : (t : ℕ) (r : Made) → t ≡ timescaleOf s → g ≡ 0 → r ≡ made 0 t (p .count) → r ≡ madeOf (mapOf s list d lent)
-    unfolding mapOf
+    pub whole-made : (t : ℕ) (r : Made) → t ≡ timescaleOf s → g ≡ 0 → r ≡ made 0 t (p .count) → r ≡ madeOf (cutOf s list d)
+    unfolding cutOf
     whole-made t r et h q =
         let c : p .count ≡ length (segmentsIn s 0 (snappedOf s list d)) =
         list-count list p e z ∙ sym (segments-count s 0 (keptCount list) (snappedOf s list d) (snapped-length s list d (list-zero list p e z))) in
         q ∙ ap (λ (x : ℕ). made 0 x (p .count)) et ∙ ap (made 0 (timescaleOf s)) c
-        ∙ sym (answer-made (mapNumber s list d lent) (timescaleOf s) (segmentsIn s 0 (snappedOf s list d)) (sym number-ranges ∙ h))
+        ∙ sym (answer-made (cutNumber s list d) (timescaleOf s) (segmentsIn s 0 (snappedOf s list d)) (sym number-ranges ∙ h))
 
-    pub whole-map : (x y : List ℕ) → g ≡ 0 → (g ≡ 0 → y ≡ put (flatOf (segmentsIn s 0 (take (2 * p .count) w))) x) → y ≡ put (flatOf (mapOf s list d lent .segments)) x
-    unfolding mapOf
+    pub whole-map : (x y : List ℕ) → g ≡ 0 → (g ≡ 0 → y ≡ put (flatOf (segmentsIn s 0 (take (2 * p .count) w))) x) → y ≡ put (flatOf (cutOf s list d .segments)) x
+    unfolding cutOf
     whole-map x y h q =
         q h
         ∙ ap (λ (v : List ℕ). put (flatOf (segmentsIn s 0 v)) x) snapped
-        ∙ sym (ap (λ (v : List Segment). put (flatOf v) x) (answer-segments (mapNumber s list d lent) (timescaleOf s) (segmentsIn s 0 (snappedOf s list d)) (sym number-ranges ∙ h)))
+        ∙ sym (ap (λ (v : List Segment). put (flatOf v) x) (answer-segments (cutNumber s list d) (timescaleOf s) (segmentsIn s 0 (snappedOf s list d)) (sym number-ranges ∙ h)))

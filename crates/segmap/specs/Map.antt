@@ -7,7 +7,7 @@ use lib.ListN.{length}
 use Rattle.base.specs.Limits.{mostSegments}
 use Rattle.base.specs.Refusal.{_orElse_, faultUnless}
 use Rattle.frames.specs.Frames.{framesOf, timescaleOf}
-use Rattle.sheet.specs.Sheet.{sheetFault}
+use Rattle.sheet.specs.Sheet.{sheetNumber, workAfter}
 use Rattle.text.specs.Line.{blank}
 use Rattle.trim.specs.TrimList.{listNumber, rangeCount, rangesOf, parsed}
 use Rattle.trim.specs.declared.list.Parsed.{Parsed}
@@ -31,16 +31,25 @@ keptOf list = parsed (listNumber list) (cond (eqb (listNumber list) 0) (keptCoun
 unfoldable pub snappedOf : (sheet list : List ℕ) (direction : ℕ) → List ℕ
 snappedOf sheet list d = snapAll sheet (framesOf sheet) d (rangesFor (framesOf sheet) list)
 
--- the number of the call, where `lent` places are lent for the map: 16 for a short map or another direction than 0 or 1, before all else; then
--- the sheet's, then the list's, then 8 for all pairs, then 9 and 10 range by range
-unfoldable pub mapNumber : (sheet list : List ℕ) (direction lent : ℕ) → ℕ
-mapNumber sheet list d lent =
-    faultUnless (leb (6 * mostSegments) lent) 16 orElse
-    faultUnless (leb d 1) 16 orElse
-    sheetFault sheet orElse
+-- past a sound sheet: the list's number, then 8 for all pairs, then 9 and 10 range by range
+unfoldable pub cutNumber : (sheet list : List ℕ) (direction : ℕ) → ℕ
+cutNumber sheet list d =
     listNumber list orElse
     overlapsFault 0 (snappedOf sheet list d) orElse
     rangesFault sheet (framesOf sheet) (snappedOf sheet list d)
+
+-- the number of the call, where `lent` places are lent for the map and `work` bytes for the sheet's check: 16 for a short map or another direction than
+-- 0 or 1, before all else; then the sheet's (16 again where the work bytes are too few), then the list's and its ranges'
+unfoldable pub mapNumber : (sheet list : List ℕ) (direction lent work : ℕ) → ℕ
+mapNumber sheet list d lent work =
+    faultUnless (leb (6 * mostSegments) lent) 16 orElse
+    faultUnless (leb d 1) 16 orElse
+    sheetNumber sheet work orElse
+    cutNumber sheet list d
+
+-- the work bytes afterwards: as the sheet's check leaves them, where it is asked
+unfoldable pub mapWork : (sheet : List ℕ) (direction lent : ℕ) → List ℕ → List ℕ
+mapWork sheet d lent work = cond (leb (6 * mostSegments) lent) (cond (leb d 1) (workAfter sheet work) work) work
 
 -- ---- the answer
 pub record Map : Type 0 where
@@ -54,8 +63,12 @@ unfoldable pub mapAnswer : (number timescale : ℕ) → List Segment → Map
 mapAnswer zero t xs = record { number = 0; timescale = t; count = length xs; segments = xs }
 mapAnswer (suc k) t xs = record { number = suc k; timescale = 0; count = 0; segments = [] }
 
-unfoldable pub mapOf : (sheet list : List ℕ) (direction lent : ℕ) → Map
-mapOf sheet list d lent = mapAnswer (mapNumber sheet list d lent) (timescaleOf sheet) (segmentsIn sheet 0 (snappedOf sheet list d))
+-- of a sound sheet, and of the whole call
+unfoldable pub cutOf : (sheet list : List ℕ) (direction : ℕ) → Map
+cutOf sheet list d = mapAnswer (cutNumber sheet list d) (timescaleOf sheet) (segmentsIn sheet 0 (snappedOf sheet list d))
+
+unfoldable pub mapOf : (sheet list : List ℕ) (direction lent work : ℕ) → Map
+mapOf sheet list d lent work = mapAnswer (mapNumber sheet list d lent work) (timescaleOf sheet) (segmentsIn sheet 0 (snappedOf sheet list d))
 
 -- what the call returns of it
 abbrev pub made : (number timescale count : ℕ) → Made

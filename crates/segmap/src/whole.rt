@@ -14,7 +14,7 @@ ghost use Rattle.sheet.specs.Sheet.{sheetFault};
 ghost use Rattle.plan.specs.Snap.{overlapsFault};
 ghost use Rattle.segment.specs.Segment.{flatOf};
 ghost use Rattle.segmap.specs.Build.{rangesFault, segmentsIn};
-ghost use Rattle.segmap.specs.Map.{rangesFor, keptOf, made, madeOf, mapOf};
+ghost use Rattle.segmap.specs.Map.{rangesFor, keptOf, made, madeOf, cutOf, mapOf, mapWork};
 
 // What a call gives: 0 with the sheet's timescale and how many segments were written, or the number of the refusal and zeros.
 pub struct Made {
@@ -87,8 +87,8 @@ fn map_ranges(
 ) -> Made
     requires { ⌜ (sheetFault (now s) ≡ 0) × (n ≡ framesOf (now s)) × (timescale ≡ timescaleOf (now s)) ⌝ }
     requires { ⌜ (direction ≤ 1) × (mostPlaces ≤ length (now ranges)) × (6 * mostSegments ≤ length (now map)) ⌝ }
-    ensures { λ r. ⌜ r ≡ madeOf (mapOf (now (s .entry)) (now (list .entry)) direction (length (now (map .entry)))) ⌝ }
-    ensures { λ _. ⌜ now (map .exit) ≡ put (flatOf (mapOf (now (s .entry)) (now (list .entry)) direction (length (now (map .entry))) .segments)) (now (map .entry)) ⌝ }
+    ensures { λ r. ⌜ r ≡ madeOf (cutOf (now (s .entry)) (now (list .entry)) direction) ⌝ }
+    ensures { λ _. ⌜ now (map .exit) ≡ put (flatOf (cutOf (now (s .entry)) (now (list .entry)) direction .segments)) (now (map .entry)) ⌝ }
 {
     let parsed = ranges_of(list, n, ranges);
     let f = parsed.number;
@@ -108,10 +108,12 @@ fn map_ranges(
     }
 }
 
-// Makes the map of a sheet and a trim list, and writes it from the start of `map`, six numbers to a segment. A refusal writes nothing.
-pub fn make(sheet: &[u8], list: &[u8], direction: u32, map: &mut [u64]) -> Made
-    ensures { λ r. ⌜ r ≡ madeOf (mapOf (now (sheet .entry)) (now (list .entry)) direction (length (now (map .entry)))) ⌝ }
-    ensures { λ _. ⌜ now (map .exit) ≡ put (flatOf (mapOf (now (sheet .entry)) (now (list .entry)) direction (length (now (map .entry))) .segments)) (now (map .entry)) ⌝ }
+// Makes the map of a sheet and a trim list, and writes it from the start of `map`, six numbers to a segment. A refusal writes nothing there.
+// The work bytes are for the sheet's check.
+pub fn make(sheet: &[u8], list: &[u8], direction: u32, work: &mut [u8], map: &mut [u64]) -> Made
+    ensures { λ r. ⌜ r ≡ madeOf (mapOf (now (sheet .entry)) (now (list .entry)) direction (length (now (map .entry))) (length (now (work .entry)))) ⌝ }
+    ensures { λ _. ⌜ now (work .exit) ≡ mapWork (now (sheet .entry)) direction (length (now (map .entry))) (now (work .entry)) ⌝ }
+    ensures { λ _. ⌜ now (map .exit) ≡ put (flatOf (mapOf (now (sheet .entry)) (now (list .entry)) direction (length (now (map .entry))) (length (now (work .entry))) .segments)) (now (map .entry)) ⌝ }
 {
     if map.len() < 6 * base::MOST_SEGMENTS {
         return refused(16);
@@ -119,7 +121,7 @@ pub fn make(sheet: &[u8], list: &[u8], direction: u32, map: &mut [u64]) -> Made
     if 1 < direction {
         return refused(16);
     }
-    let a = sheet::check(sheet);
+    let a = sheet::check(sheet, work);
     match a {
         Sheet::Refused(k) => refused(k),
         Sheet::Sound(h) => {

@@ -14,9 +14,9 @@ use Rattle.segment.specs.declared.segment.Segment.{Segment}
 use Rattle.segmap.specs.declared.whole.Made.{Made}
 use Rattle.segment.specs.Segment.{flatOf, segmentsOf}
 use Rattle.segmap.specs.Build.{rangeTicks, segmentIn, segmentsIn}
-use Rattle.segmap.specs.Map.{snappedOf, mapNumber, Map, mapOf, made, madeOf}
+use Rattle.segmap.specs.Map.{snappedOf, mapNumber, mapWork, Map, mapOf, made, madeOf}
 use Rattle.segment.proofs.SegmentLaws.{flat-back}
-use Rattle.segmap.proofs.MapLaws.{short-made}
+use Rattle.segmap.proofs.MapLaws.{short-made, short-work}
 use Rattle.segmap.proofs.Built.{map-count, map-front, told-number, told-count, map-refused, made-parts, made-segments, made-few, made-bounded}
 use Rattle.segments.specs.Records.{recorded, mapInto, narrowed}
 
@@ -40,55 +40,64 @@ narrowed-none = refl
 
 module _ (s list : List ℕ) (d : ℕ) where
   -- the places that are lent count only as enough
-  pub map-lent : (lent lent′ : ℕ) → 6 * mostSegments ≤ lent → 6 * mostSegments ≤ lent′ → mapOf s list d lent ≡ mapOf s list d lent′
+  pub map-lent : (lent lent′ w : ℕ) → 6 * mostSegments ≤ lent → 6 * mostSegments ≤ lent′ → mapOf s list d lent w ≡ mapOf s list d lent′ w
   unfolding mapOf mapNumber
-  map-lent lent lent′ h k = rw (le-leb (6 * mostSegments) lent h, le-leb (6 * mostSegments) lent′ k)
+  map-lent lent lent′ w h k = rw (le-leb (6 * mostSegments) lent h, le-leb (6 * mostSegments) lent′ k)
 
-  module _ (lent : ℕ) where
-    map-narrow : narrowed (mapOf s list d lent .segments) ≡ mapOf s list d lent .segments
-    map-narrow = go (mapNumber s list d lent) refl
+  module _ (lent w : ℕ) where
+    map-narrow : narrowed (mapOf s list d lent w .segments) ≡ mapOf s list d lent w .segments
+    map-narrow = go (mapNumber s list d lent w) refl
       where
-        go : (k : ℕ) → mapNumber s list d lent ≡ k → narrowed (mapOf s list d lent .segments) ≡ mapOf s list d lent .segments
+        go : (k : ℕ) → mapNumber s list d lent w ≡ k → narrowed (mapOf s list d lent w .segments) ≡ mapOf s list d lent w .segments
         go zero e =
-            ap narrowed (made-segments s list d lent e)
-            ∙ narrow-in s (framesOf s) 0 (snappedOf s list d) (sound-head s (made-parts s list d lent e .sheet-sound) .frames-high) (made-bounded s list d lent e)
-            ∙ sym (made-segments s list d lent e)
-        go (suc k) e = let none = map-refused s list d lent (omega arith) in ap narrowed none ∙ narrowed-none ∙ sym none
+            ap narrowed (made-segments s list d lent w e)
+            ∙ narrow-in s (framesOf s) 0 (snappedOf s list d) (sound-head s (made-parts s list d lent w e .sheet-sound) .frames-high) (made-bounded s list d lent w e)
+            ∙ sym (made-segments s list d lent w e)
+        go (suc k) e = let none = map-refused s list d lent w (omega arith) in ap narrowed none ∙ narrowed-none ∙ sym none
 
     -- at most 1,024 are written
-    pub count-few : (r : Made) → r ≡ madeOf (mapOf s list d lent) → r .count ≤ mostSegments
-    count-few r q = go (mapNumber s list d lent) refl
+    pub count-few : (r : Made) → r ≡ madeOf (mapOf s list d lent w) → r .count ≤ mostSegments
+    count-few r q = go (mapNumber s list d lent w) refl
       where
-        go : (k : ℕ) → mapNumber s list d lent ≡ k → r .count ≤ mostSegments
-        go zero e = omega (arith, told-count s list d lent r q, made-few s list d lent e)
+        go : (k : ℕ) → mapNumber s list d lent w ≡ k → r .count ≤ mostSegments
+        go zero e = omega (arith, told-count s list d lent w r q, made-few s list d lent w e)
         go (suc k) e =
-            let none : length (mapOf s list d lent .segments) ≡ 0 = ap length (map-refused s list d lent (omega arith)) in
-            omega (arith, told-count s list d lent r q, map-count s list d lent)
+            let none : length (mapOf s list d lent w .segments) ≡ 0 = ap length (map-refused s list d lent w (omega arith)) in
+            omega (arith, told-count s list d lent w r q, map-count s list d lent w)
 
-  -- ---- fewer than 1,024 records are lent
-  pub short-number : (m : List Segment) → length m < mostSegments → made 16 0 0 ≡ madeOf (mapInto s list d m)
-  short-number m h = short-made s list d (6 * length m) (made 16 0 0) (omega arith) refl
+  -- ---- the work bytes are wk
+  module _ (wk : List ℕ) where
+    -- fewer than 1,024 records are lent
+    pub short-number : (m : List Segment) → length m < mostSegments → made 16 0 0 ≡ madeOf (mapInto s list d m (length wk))
+    short-number m h = short-made s list d (6 * length m) wk (made 16 0 0) (omega arith) refl
 
-  pub short-records : (m : List Segment) → length m < mostSegments → m ≡ recorded (mapInto s list d m .segments) m
-  unfolding recorded
-  short-records m h =
-      let e : 16 ≡ mapNumber s list d (6 * length m) = told-number s list d (6 * length m) (made 16 0 0) (short-number m h) in
-      sym (ap (λ (v : List Segment). recorded v m) (map-refused s list d (6 * length m) (omega arith)))
+    pub short-bytes : (m : List Segment) → length m < mostSegments → wk ≡ mapWork s d (6 * length m) wk
+    short-bytes m h = short-work s list d (6 * length m) wk (omega arith)
 
-  -- ---- the flat map z, made in 6,144 places, is read back into the records m
-  module _ (m : List Segment) (h : mostSegments ≤ length m) (r : Made) (e : r ≡ madeOf (mapOf s list d 6144)) where
-    same-map : mapOf s list d 6144 ≡ mapInto s list d m
-    same-map = map-lent 6144 (6 * length m) (omega arith) (omega arith)
+    pub short-records : (m : List Segment) → length m < mostSegments → m ≡ recorded (mapInto s list d m (length wk) .segments) m
+    unfolding recorded
+    short-records m h =
+        let e : 16 ≡ mapNumber s list d (6 * length m) (length wk) = told-number s list d (6 * length m) (length wk) (made 16 0 0) (short-number m h) in
+        sym (ap (λ (v : List Segment). recorded v m) (map-refused s list d (6 * length m) (length wk) (omega arith)))
 
-    pub built-number : r ≡ madeOf (mapInto s list d m)
-    built-number = e ∙ ap madeOf same-map
+    -- the flat map z, made in 6,144 places, is read back into the records m
+    module _ (m : List Segment) (h : mostSegments ≤ length m) (r : Made) (e : r ≡ madeOf (mapOf s list d 6144 (length wk))) where
+      same-map : mapOf s list d 6144 (length wk) ≡ mapInto s list d m (length wk)
+      same-map = map-lent 6144 (6 * length m) (length wk) (omega arith) (omega arith)
 
-    pub built-records : (z z₀ : List ℕ) (w : List Segment) → z ≡ put (flatOf (mapOf s list d 6144 .segments)) z₀ → w ≡ recorded (narrowed (segmentsOf (take (6 * r .count) z))) m
-        → w ≡ recorded (mapInto s list d m .segments) m
-    built-records z z₀ w q g =
-        let front : take (6 * r .count) z ≡ flatOf (mapOf s list d 6144 .segments) =
-        ap (λ (k : ℕ). take (6 * k) z) (told-count s list d 6144 r e) ∙ ap (take (6 * mapOf s list d 6144 .count)) q ∙ map-front s list d 6144 z₀ in
-        g ∙ ap (λ (l : List ℕ). recorded (narrowed (segmentsOf l)) m) front
-        ∙ ap (λ (xs : List Segment). recorded (narrowed xs) m) (flat-back (mapOf s list d 6144 .segments))
-        ∙ ap (λ (xs : List Segment). recorded xs m) (map-narrow 6144)
-        ∙ ap (λ (x : Map). recorded (x .segments) m) same-map
+      pub built-number : r ≡ madeOf (mapInto s list d m (length wk))
+      built-number = e ∙ ap madeOf same-map
+
+      pub built-bytes : (v : List ℕ) → v ≡ mapWork s d 6144 wk → v ≡ mapWork s d (6 * length m) wk
+      unfolding mapWork
+      built-bytes v q = q ∙ rw (le-leb (6 * mostSegments) (6 * length m) (omega arith))
+
+      pub built-records : (z z₀ : List ℕ) (w : List Segment) → z ≡ put (flatOf (mapOf s list d 6144 (length wk) .segments)) z₀ → w ≡ recorded (narrowed (segmentsOf (take (6 * r .count) z))) m
+          → w ≡ recorded (mapInto s list d m (length wk) .segments) m
+      built-records z z₀ w q g =
+          let front : take (6 * r .count) z ≡ flatOf (mapOf s list d 6144 (length wk) .segments) =
+          ap (λ (k : ℕ). take (6 * k) z) (told-count s list d 6144 (length wk) r e) ∙ ap (take (6 * mapOf s list d 6144 (length wk) .count)) q ∙ map-front s list d 6144 (length wk) z₀ in
+          g ∙ ap (λ (l : List ℕ). recorded (narrowed (segmentsOf l)) m) front
+          ∙ ap (λ (xs : List Segment). recorded (narrowed xs) m) (flat-back (mapOf s list d 6144 (length wk) .segments))
+          ∙ ap (λ (xs : List Segment). recorded xs m) (map-narrow 6144 (length wk))
+          ∙ ap (λ (x : Map). recorded (x .segments) m) same-map

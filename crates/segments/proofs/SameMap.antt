@@ -38,10 +38,10 @@ pub handed-segments : (xs : List Segment) (f : List ℕ) → flatNumber xs (leng
 handed-segments xs f e = ap segmentsOf (handed xs f e) ∙ flat-back xs
 
 -- the records that `build` writes, as flat numbers, are those that `make` writes
-pub same-records : (s list : List ℕ) (d lent : ℕ) (m : List Segment) (f : List ℕ)
-    → flatOf (take (mapOf s list d lent .count) (recorded (mapOf s list d lent .segments) m)) ≡ take (6 * mapOf s list d lent .count) (put (flatOf (mapOf s list d lent .segments)) f)
+pub same-records : (s list : List ℕ) (d lent w : ℕ) (m : List Segment) (f : List ℕ)
+    → flatOf (take (mapOf s list d lent w .count) (recorded (mapOf s list d lent w .segments) m)) ≡ take (6 * mapOf s list d lent w .count) (put (flatOf (mapOf s list d lent w .segments)) f)
 unfolding recorded
-same-records s list d lent m f =
-    ap (λ (k : ℕ). flatOf (take k (recorded (mapOf s list d lent .segments) m))) (map-count s list d lent)
-    ∙ ap flatOf (take-append-seam (mapOf s list d lent .segments) (drop (length (mapOf s list d lent .segments)) m))
-    ∙ sym (map-front s list d lent f)
+same-records s list d lent w m f =
+    ap (λ (k : ℕ). flatOf (take k (recorded (mapOf s list d lent w .segments) m))) (map-count s list d lent w)
+    ∙ ap flatOf (take-append-seam (mapOf s list d lent w .segments) (drop (length (mapOf s list d lent w .segments)) m))
+    ∙ sym (map-front s list d lent w f)

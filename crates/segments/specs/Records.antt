@@ -6,7 +6,7 @@ use lib.ListN.{length, drop, getD}
 use Rattle.base.specs.Refusal.{faultUnless}
 use Rattle.segment.specs.declared.segment.Segment.{Segment}
 use Rattle.segment.specs.Segment.{sourceOf, outputStartOf, segment}
-use Rattle.segmap.specs.Map.{Map, mapOf}
+use Rattle.segmap.specs.Map.{Map, mapOf, mapWork}
 use Rattle.event.specs.declared.meeting.Hit.{Hit}
 use Rattle.event.specs.declared.meeting.Hit.the-variants.{At}
 
@@ -14,9 +14,13 @@ use Rattle.event.specs.declared.meeting.Hit.the-variants.{At}
 unfoldable pub recorded : List Segment → List Segment → List Segment
 recorded v l = v ++ drop (length v) l
 
--- the map that a sheet and a list give, where the records m are lent for it: fewer than 1,024 are 16
-abbrev pub mapInto : (sheet list : List ℕ) (direction : ℕ) → List Segment → Map
-mapInto sheet list d m = mapOf sheet list d (6 * length m)
+-- the map that a sheet and a list give, where the records m are lent for it, fewer than 1,024 being 16, and `work` bytes for the sheet's check
+abbrev pub mapInto : (sheet list : List ℕ) (direction : ℕ) → List Segment → (work : ℕ) → Map
+mapInto sheet list d m work = mapOf sheet list d (6 * length m) work
+
+-- the work bytes afterwards
+abbrev pub bytesInto : (sheet : List ℕ) (direction : ℕ) → List Segment → (work : List ℕ) → List ℕ
+bytesInto sheet d m work = mapWork sheet d (6 * length m) work
 
 -- the number of a map of records that is handed to `lent` places, six to a record: 16 where it does not fit
 unfoldable pub flatNumber : List Segment → (lent : ℕ) → ℕ

@@ -6,7 +6,7 @@ ghost use Prim.Native.Nat.{_+_, _*_, _≤_};
 ghost use lib.ListN.{length, take};
 ghost use Rattle.segment.specs.Segment.{segmentsOf};
 ghost use Rattle.segmap.specs.Map.{madeOf};
-ghost use Rattle.segments.specs.Records.{recorded, mapInto, segmentAt, narrowed};
+ghost use Rattle.segments.specs.Records.{recorded, mapInto, bytesInto, segmentAt, narrowed};
 
 // The segment whose six numbers stand from the place `at` on.
 fn segment_of(flat: &[u64], at: usize) -> Segment
@@ -36,10 +36,18 @@ fn fill(flat: &[u64], count: usize, map: &mut [Segment])
     }
 }
 
-// Makes the map of a sheet and a trim list, and writes it to the first records of `map`. A refusal writes nothing.
-pub fn build(sheet: &[u8], list: &[u8], direction: u32, map: &mut [Segment]) -> Made
-    ensures { λ r. ⌜ (r ≡ madeOf (mapInto (now (sheet .entry)) (now (list .entry)) direction (now (map .entry))))
-        × (now (map .exit) ≡ recorded (mapInto (now (sheet .entry)) (now (list .entry)) direction (now (map .entry)) .segments) (now (map .entry))) ⌝ }
+// Makes the map of a sheet and a trim list, and writes it to the first records of `map`. A refusal writes nothing there. The work bytes are for the
+// sheet's check.
+pub fn build(
+    sheet: &[u8],
+    list: &[u8],
+    direction: u32,
+    work: &mut [u8],
+    map: &mut [Segment],
+) -> Made
+    ensures { λ r. ⌜ (r ≡ madeOf (mapInto (now (sheet .entry)) (now (list .entry)) direction (now (map .entry)) (length (now (work .entry)))))
+        × (now (work .exit) ≡ bytesInto (now (sheet .entry)) direction (now (map .entry)) (now (work .entry)))
+        × (now (map .exit) ≡ recorded (mapInto (now (sheet .entry)) (now (list .entry)) direction (now (map .entry)) (length (now (work .entry))) .segments) (now (map .entry))) ⌝ }
 {
     if map.len() < base::MOST_SEGMENTS {
         return Made {
@@ -49,7 +57,7 @@ pub fn build(sheet: &[u8], list: &[u8], direction: u32, map: &mut [Segment]) -> 
         };
     }
     let mut flat = [0; 6144];
-    let made = segmap::make(sheet, list, direction, &mut flat);
+    let made = segmap::make(sheet, list, direction, work, &mut flat);
     fill(&flat, made.count, map);
     made
 }

@@ -1,4 +1,4 @@
--- The values of the check's answer, case by case: the head's where there is no fault, else none.
+-- The values of the check's answer, case by case: the head's where its number is 0, else none.
 use Prim.Native.Nat.{ℕ, zero, suc}
 use mathlib.Core.Bool.{cond}
 use mathlib.Core.List.{List, [], _∷_}
@@ -9,13 +9,13 @@ use lib.Dec.{eqb}
 use Rattle.base.proofs.Laws.{no! }
 use Rattle.frames.specs.Frames.{timescaleOf, framesOf, rateNumOf, rateDenOf}
 use Rattle.sheet.specs.declared.answer.Head.{Head}
-use Rattle.sheet.specs.Sheet.{sheetFault, headOf, sheetAnswer, sheetOf, valuesOf}
+use Rattle.sheet.specs.Sheet.{sheetNumber, headOf, sheetAnswer, sheetOf, valuesOf}
 
 values-by : (k : ℕ) (h : Head) → valuesOf (sheetAnswer k h) ≡ cond (eqb k 0) (h .timescale ∷ h .frames ∷ h .«rate_num» ∷ h .«rate_den» ∷ []) []
 unfolding sheetAnswer
 values-by zero h = refl
 values-by (suc k) h = no! _ (ne-eqb (suc k) 0 (λ e. omega arith)) refl
 
-pub sheet-values : (s : List ℕ) → valuesOf (sheetOf s) ≡ cond (eqb (sheetFault s) 0) (timescaleOf s ∷ framesOf s ∷ rateNumOf s ∷ rateDenOf s ∷ []) []
+pub sheet-values : (s : List ℕ) (lent : ℕ) → valuesOf (sheetOf s lent) ≡ cond (eqb (sheetNumber s lent) 0) (timescaleOf s ∷ framesOf s ∷ rateNumOf s ∷ rateDenOf s ∷ []) []
 unfolding sheetOf headOf
-sheet-values s = values-by (sheetFault s) (headOf s)
+sheet-values s lent = values-by (sheetNumber s lent) (headOf s)

@@ -2,7 +2,7 @@
 use Prim.Native.Nat.{ℕ, zero, suc, _+_, _-_, _*_, _%_, _≤_, _<_}
 use mathlib.Core.Bool.{Bool, true, false}
 use mathlib.Core.List.{List}
-use mathlib.Core.Path.{_≡_, sym, ap, _∙_}
+use mathlib.Core.Path.{_≡_, refl, sym, ap, _∙_}
 use native.Mathlib.Omega.{arith}
 use lib.Dec.{ltb, leb, eqb}
 use lib.ListN.{length}
@@ -10,11 +10,12 @@ use borrow.Author.Tests.{lt-ltb, le-ltb, le-leb, lt-leb, eq-eqb, ne-eqb}
 use Rattle.base.specs.Limits.{mostSheetTimescale, mostFrames}
 use Rattle.base.specs.Refusal.{_orElse_, faultUnless, firstOf}
 use Rattle.base.proofs.RefusalLaws.{unless-held, unless-failed, else-none, else-here, else-next, left-here, left-next}
-use Rattle.base.proofs.Laws.{lt-via, le-via, yes!, no! }
+use Rattle.base.proofs.Laws.{lt-via, le-via, via-eq, via-ne, yes!, no! }
 use Rattle.blocks.specs.Block.{wordAt, blockHolds}
 use Rattle.frames.specs.Frames.{timescaleOf, framesOf, rateNumOf, rateDenOf, recordWord, decodeOf}
 use Rattle.sheet.specs.Sheet.{spareFault, headFault, recordFault, checkFault, blockFault, recordBlocks, sheetFault}
-use Rattle.sheet.specs.Sheet.{headOf, sheetAnswer, sheetOf}
+use Rattle.once.specs.Once.{onceNumber, workOnce}
+use Rattle.sheet.specs.Sheet.{sheetNumber, workAfter, headOf, sheetAnswer, sheetOf}
 use Rattle.sheet.specs.declared.answer.Head.{Head}
 use Rattle.sheet.specs.declared.answer.Sheet.the-variants.{Sound, Refused}
 
@@ -172,15 +173,35 @@ unfolding sheetAnswer
 refused-by zero r h e n = absurd (n e)
 refused-by (suc k) r h e n = ap Refused e
 
-pub answer-refused : (s : List ℕ) (r : ℕ) → r ≡ sheetFault s → (r ≡ 0 → ⊥) → Refused r ≡ sheetOf s
-unfolding sheetOf
-answer-refused s r e n = refused-by _ r _ e n
-
 sound-by : (k r : ℕ) (h : Head) → r ≡ k → r ≡ 0 → Sound h ≡ sheetAnswer k h
 unfolding sheetAnswer
 sound-by k r h e z = rw (← e, z)
 
-pub answer-sound : (s : List ℕ) (r t n a b : ℕ) → r ≡ sheetFault s → r ≡ 0 → t ≡ timescaleOf s → n ≡ framesOf s → a ≡ rateNumOf s → b ≡ rateDenOf s
-    → Sound (record { timescale = t; frames = n; «rate_num» = a; «rate_den» = b }) ≡ sheetOf s
-unfolding sheetOf headOf
-answer-sound s r t n a b e z et en ea eb = rw (et, en, ea, eb) (sound-by _ r _ e z)
+-- f is the fault in the sheet's bytes
+module _ (s work : List ℕ) (f : ℕ) (ef : f ≡ sheetFault s) where
+  pub fault-answer : (f ≡ 0 → ⊥) → Refused f ≡ sheetOf s (length work)
+  unfolding sheetOf sheetNumber
+  fault-answer n = refused-by _ f _ (else-here _ _ f ef n) n
+
+  pub fault-work : (f ≡ 0 → ⊥) → work ≡ workAfter s work
+  unfolding workAfter
+  fault-work n = no! _ (via-ne 0 f _ ef n) refl
+
+  -- there is none; g is the number of its n records
+  module _ (z : f ≡ 0) (n g : ℕ) (en : n ≡ framesOf s) (eg : g ≡ onceNumber s n (length work)) where
+    number : g ≡ sheetNumber s (length work)
+    unfolding sheetNumber
+    number = else-next _ _ f g ef z (eg ∙ ap (λ (k : ℕ). onceNumber s k (length work)) en)
+
+    pub once-answer : (g ≡ 0 → ⊥) → Refused g ≡ sheetOf s (length work)
+    unfolding sheetOf
+    once-answer m = refused-by _ g _ number m
+
+    pub once-work : (after : List ℕ) → after ≡ workOnce n work → after ≡ workAfter s work
+    unfolding workAfter
+    once-work after e = yes! _ (via-eq 0 f _ ef z) (e ∙ ap (λ (k : ℕ). workOnce k work) en)
+
+    pub sound-answer : (t a b : ℕ) → g ≡ 0 → t ≡ timescaleOf s → a ≡ rateNumOf s → b ≡ rateDenOf s
+        → Sound (record { timescale = t; frames = n; «rate_num» = a; «rate_den» = b }) ≡ sheetOf s (length work)
+    unfolding sheetOf headOf
+    sound-answer t a b m et ea eb = rw (et, en, ea, eb) (sound-by _ g _ number m)

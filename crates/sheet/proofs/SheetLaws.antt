@@ -7,13 +7,15 @@ use mathlib.Core.Path.{_≡_, refl, sym, ap, _∙_}
 use native.Mathlib.Omega.{arith}
 use lib.Dec.{ltb}
 use lib.ListN.{getD}
-use borrow.Author.Tests.{lt-ltb, ltb-true, leb-true}
-use Rattle.base.specs.Limits.{mostSheetTimescale, mostFrames}
+use borrow.Author.Tests.{le-leb, lt-ltb, ltb-true, leb-true}
+use Rattle.base.specs.Limits.{mostSheetTimescale, mostFrames, mostWork}
 use Rattle.base.specs.Refusal.{_orElse_, faultUnless, firstOf}
-use Rattle.base.proofs.RefusalLaws.{held, else-zero, first-zero}
+use Rattle.base.proofs.RefusalLaws.{held, else-none, else-zero, first-zero}
 use Rattle.blocks.proofs.WordLaws.{word-below}
 use Rattle.frames.specs.Frames.{timescaleOf, framesOf, rateNumOf, rateDenOf, decodeOf, durationOf}
-use Rattle.sheet.specs.Sheet.{sheetFault, sheetOf, numberOf, valuesOf}
+use Rattle.once.specs.Once.{repeatFault, workBytes, onceNumber, EachOnce}
+use Rattle.once.proofs.NamedLaws.{number-once, once-number}
+use Rattle.sheet.specs.Sheet.{sheetFault, sheetNumber, sheetOf, numberOf, valuesOf}
 use Rattle.frames.specs.Frames.{recordWord}
 use Rattle.sheet.specs.Sheet.{spareFault, headFault, recordFault, checkFault, blockFault, recordBlocks, headOf, sheetAnswer}
 use Rattle.sheet.specs.declared.answer.Head.{Head}
@@ -88,15 +90,15 @@ pub decode-word : (s : List ℕ) (i : ℕ) → decodeOf s i < 2 ^ 31
 unfolding decodeOf
 decode-word s i = omega arith
 
--- ---- the numbers of document 01's table: 0 and 11 to 14
+-- ---- the numbers of the table: 0, 11 to 14, 16 and 25
 abbrev pub SheetNumber : ℕ → Type 0
-SheetNumber k = (k ≡ 0) ⊎ ((11 ≤ k) × (k ≤ 14))
+SheetNumber k = (k ≡ 0) ⊎ (((11 ≤ k) × (k ≤ 14)) ⊎ ((k ≡ 16) ⊎ (k ≡ 25)))
 
 none : SheetNumber 0
 none = inl refl
 
 within : (k : ℕ) → 11 ≤ k → k ≤ 14 → SheetNumber k
-within k a b = inr (a, b)
+within k a b = inr (inl (a, b))
 
 spare-number : (s : List ℕ) (k i : ℕ) → SheetNumber k → SheetNumber (spareFault s k i)
 unfolding spareFault
@@ -133,15 +135,34 @@ block-number : (s : List ℕ) (n b : ℕ) → SheetNumber (blockFault s n b)
 unfolding blockFault
 block-number s n b = or-else (check-number s b) (first-numbers SheetNumber none _ (record-number s n) _ 63)
 
-pub sheet-numbers : (s : List ℕ) → SheetNumber (sheetFault s)
+fault-numbers : (s : List ℕ) → SheetNumber (sheetFault s)
 unfolding sheetFault
-sheet-numbers s =
+fault-numbers s =
     or-else (test _ 11 (omega arith) (omega arith))
     (or-else (test _ 11 (omega arith) (omega arith))
     (or-else (check-number s 0)
     (or-else (head-number s)
     (or-else (test _ 11 (omega arith) (omega arith))
     (first-numbers SheetNumber none _ (block-number s (framesOf s)) 1 _)))))
+
+once-numbers : (s : List ℕ) (n lent : ℕ) → SheetNumber (onceNumber s n lent)
+unfolding onceNumber repeatFault
+once-numbers s n lent =
+    or-else (unless-numbers SheetNumber none _ 16 (inr (inr (inl refl))))
+    (first-numbers SheetNumber none _ (λ i. unless-numbers SheetNumber none _ 25 (inr (inr (inr refl)))) 0 n)
+
+pub sheet-numbers : (s : List ℕ) (lent : ℕ) → SheetNumber (sheetNumber s lent)
+unfolding sheetNumber
+sheet-numbers s lent = or-else (fault-numbers s) (once-numbers s (framesOf s) lent)
+
+-- ---- the work bytes: 131,072 are always enough, and more than are needed change nothing
+pub work-enough : (s : List ℕ) → sheetFault s ≡ 0 → workBytes (framesOf s) ≤ mostWork
+unfolding workBytes
+work-enough s e = omega (arith, sound-head s e .frames-high)
+
+pub work-counts : (s : List ℕ) (lent lent′ : ℕ) → workBytes (framesOf s) ≤ lent → workBytes (framesOf s) ≤ lent′ → sheetNumber s lent ≡ sheetNumber s lent′
+unfolding sheetNumber onceNumber
+work-counts s lent lent′ h k = rw (le-leb (workBytes (framesOf s)) lent h, le-leb (workBytes (framesOf s)) lent′ k)
 
 -- ---- the answer of `check`
 -- its number is the first fault
@@ -150,22 +171,41 @@ unfolding sheetAnswer
 number-by zero h = refl
 number-by (suc k) h = refl
 
-pub number-is : (s : List ℕ) → numberOf (sheetOf s) ≡ sheetFault s
+pub number-is : (s : List ℕ) (lent : ℕ) → numberOf (sheetOf s lent) ≡ sheetNumber s lent
 unfolding sheetOf
-number-is s = number-by _ _
+number-is s lent = number-by _ _
 
 -- its values are the head's where it is 0
-pub values-are : (s : List ℕ) → sheetFault s ≡ 0 → valuesOf (sheetOf s) ≡ timescaleOf s ∷ framesOf s ∷ rateNumOf s ∷ rateDenOf s ∷ []
+pub values-are : (s : List ℕ) (lent : ℕ) → sheetNumber s lent ≡ 0 → valuesOf (sheetOf s lent) ≡ timescaleOf s ∷ framesOf s ∷ rateNumOf s ∷ rateDenOf s ∷ []
 unfolding sheetOf headOf sheetAnswer
-values-are s e = rw e
+values-are s lent e = rw e
+
+-- ---- the number 0: no fault in the bytes, enough work bytes, and each sample named exactly once
+pub record Checked (s : List ℕ) (lent : ℕ) : Type 0 where
+  pub fault : sheetFault s ≡ 0
+  pub room : workBytes (framesOf s) ≤ lent
+  pub once : EachOnce s (framesOf s)
+
+pub checked : (s : List ℕ) (lent : ℕ) → sheetNumber s lent ≡ 0 → Checked s lent
+unfolding sheetNumber
+checked s lent e =
+    let p = else-zero _ _ e in
+    let q = number-once s (framesOf s) lent (p .1) in
+    record { fault = p .0; room = q .0; once = q .1 }
+
+-- and the way back: 25 is given to no such sheet
+pub sound-number : (s : List ℕ) (lent : ℕ) → Checked s lent → sheetNumber s lent ≡ 0
+unfolding sheetNumber
+sound-number s lent c = else-none _ (c .fault) ∙ once-number s (framesOf s) lent (c .room) (c .once)
 
 -- what a caller learns from `Sound h`
-pub record Answered (s : List ℕ) (h : Head) : Type 0 where
-  pub fault : sheetFault s ≡ 0
+pub record Answered (s : List ℕ) (lent : ℕ) (h : Head) : Type 0 where
+  pub number-zero : sheetNumber s lent ≡ 0
   pub timescale-is : h .timescale ≡ timescaleOf s
   pub frames-is : h .frames ≡ framesOf s
   pub num-is : h .«rate_num» ≡ rateNumOf s
   pub den-is : h .«rate_den» ≡ rateDenOf s
+  pub once : EachOnce s (framesOf s)
 
 sound-by : (k : ℕ) (g h : Head) → sheetAnswer k g ≡ Sound h → (k ≡ 0) × (h ≡ g)
 unfolding sheetAnswer
@@ -174,16 +214,17 @@ sound-by (suc k) g h e =
     let z : _≡_ {A = ℕ} 0 1 = cc in
     absurd (omega arith)
 
-pub sound-answer : (s : List ℕ) (h : Head) (a : Sheet) → a ≡ sheetOf s → a ≡ Sound h → Answered s h
+pub sound-answer : (s : List ℕ) (lent : ℕ) (h : Head) (a : Sheet) → a ≡ sheetOf s lent → a ≡ Sound h → Answered s lent h
 unfolding sheetOf headOf
-sound-answer s h a e f =
-    let p = sound-by (sheetFault s) (headOf s) h (sym e ∙ f) in
+sound-answer s lent h a e f =
+    let p = sound-by (sheetNumber s lent) (headOf s) h (sym e ∙ f) in
     record {
-      fault = p .0;
+      number-zero = p .0;
       timescale-is = ap (λ (x : Head). x .timescale) (p .1);
       frames-is = ap (λ (x : Head). x .frames) (p .1);
       num-is = ap (λ (x : Head). x .«rate_num») (p .1);
       den-is = ap (λ (x : Head). x .«rate_den») (p .1);
+      once = checked s lent (p .0) .once;
     }
 
 -- and from `Refused j`
@@ -196,6 +237,6 @@ refused-by (suc k) j g e =
     let q : j ≡ suc k = cc in
     (q, omega arith)
 
-pub refused-answer : (s : List ℕ) (j : ℕ) (a : Sheet) → a ≡ sheetOf s → a ≡ Refused j → (j ≡ sheetFault s) × (j ≡ 0 → ⊥)
+pub refused-answer : (s : List ℕ) (lent j : ℕ) (a : Sheet) → a ≡ sheetOf s lent → a ≡ Refused j → (j ≡ sheetNumber s lent) × (j ≡ 0 → ⊥)
 unfolding sheetOf
-refused-answer s j a e f = refused-by _ _ _ (sym e ∙ f)
+refused-answer s lent j a e f = refused-by _ _ _ (sym e ∙ f)

@@ -1,5 +1,5 @@
--- The faults of a frame sheet (document 01, "The frame sheet"), and the answer of its check. s is the sheet's bytes.
--- Crates above name the sheet by sheetFault, and by timescaleOf, framesOf, rateNumOf, rateDenOf, decodeOf, syncOf and durationOf of frames.
+-- The faults of a frame sheet (document 01, "The frame sheet"; request 2.6), and the answer of its check. s is the sheet's bytes.
+-- Crates above name the sheet by sheetNumber, and by timescaleOf, framesOf, rateNumOf, rateDenOf, decodeOf, syncOf and durationOf of frames.
 use Prim.Native.Nat.{ℕ, zero, suc, _+_, _-_, _*_, _/_, _%_}
 use mathlib.Core.Bool.{cond}
 use mathlib.Core.List.{List, [], _∷_}
@@ -9,6 +9,7 @@ use Rattle.base.specs.Limits.{mostSheetTimescale, mostFrames}
 use Rattle.base.specs.Refusal.{_orElse_, faultUnless, firstOf}
 use Rattle.blocks.specs.Block.{wordAt, blockHolds}
 use Rattle.frames.specs.Frames.{timescaleOf, framesOf, rateNumOf, rateDenOf, recordWord, decodeOf}
+use Rattle.once.specs.Once.{onceNumber, workOnce}
 use Rattle.sheet.specs.declared.answer.Head.{Head}
 use Rattle.sheet.specs.declared.answer.Sheet.{Sheet}
 use Rattle.sheet.specs.declared.answer.Sheet.the-variants.{Sound, Refused}
@@ -53,7 +54,7 @@ recordBlocks n = (n + 62) / 63
 
 -- ---- the sheet
 
--- the first fault, in document 01's order; 0 is none
+-- the first fault in its bytes (11 to 14), in document 01's order; 0 is none
 unfoldable pub sheetFault : List ℕ → ℕ
 sheetFault s =
     faultUnless (ltb 0 (length s)) 11 orElse
@@ -62,6 +63,14 @@ sheetFault s =
     headFault s orElse
     faultUnless (eqb (length s) (512 * (1 + recordBlocks (framesOf s)))) 11 orElse
     firstOf (blockFault s (framesOf s)) 1 (recordBlocks (framesOf s))
+
+-- the number, where `lent` work bytes are lent: after 14 comes 16 where these are too few, then 25
+unfoldable pub sheetNumber : List ℕ → (lent : ℕ) → ℕ
+sheetNumber s lent = sheetFault s orElse onceNumber s (framesOf s) lent
+
+-- the work bytes afterwards: past 14 and 16 those needed are zero, whatever the number, and any others stay
+unfoldable pub workAfter : List ℕ → List ℕ → List ℕ
+workAfter s work = cond (eqb (sheetFault s) 0) (workOnce (framesOf s) work) work
 
 -- block 0's values
 unfoldable pub headOf : List ℕ → Head
@@ -72,8 +81,8 @@ unfoldable pub sheetAnswer : ℕ → Head → Sheet
 sheetAnswer zero h = Sound h
 sheetAnswer (suc k) h = Refused (suc k)
 
-unfoldable pub sheetOf : List ℕ → Sheet
-sheetOf s = sheetAnswer (sheetFault s) (headOf s)
+unfoldable pub sheetOf : List ℕ → (lent : ℕ) → Sheet
+sheetOf s lent = sheetAnswer (sheetNumber s lent) (headOf s)
 
 -- an answer's number in document 01's table, and its values
 abbrev pub numberOf : Sheet → ℕ

@@ -4,8 +4,10 @@ use frames::frames;
 use frames::rate_den;
 use frames::rate_num;
 use frames::timescale;
+use once::once_fault;
 ghost use mathlib.Core.Path.{_≡_};
-ghost use Rattle.sheet.specs.Sheet.{sheetOf, numberOf};
+ghost use lib.ListN.{length};
+ghost use Rattle.sheet.specs.Sheet.{sheetOf, workAfter, numberOf};
 
 // Block 0's values.
 pub struct Head {
@@ -21,17 +23,23 @@ pub enum Sheet {
     Refused(u32),
 }
 
-// The whole check.
-pub fn check(s: &[u8]) -> Sheet
-    ensures { λ r. ⌜ r ≡ sheetOf (now (s .entry)) ⌝ }
+// The whole check. The work bytes that are lent are n / 8, rounded up, or more: those needed end zero.
+pub fn check(s: &[u8], work: &mut [u8]) -> Sheet
+    ensures { λ r. ⌜ r ≡ sheetOf (now (s .entry)) (length (now (work .entry))) ⌝ }
+    ensures { λ _. ⌜ now (work .exit) ≡ workAfter (now (s .entry)) (now (work .entry)) ⌝ }
 {
     let f = fault(s);
     if f != 0 {
         return Sheet::Refused(f);
     }
+    let n = frames(s);
+    let g = once_fault(s, n, work);
+    if g != 0 {
+        return Sheet::Refused(g);
+    }
     Sheet::Sound(Head {
         timescale: timescale(s),
-        frames: frames(s),
+        frames: n,
         rate_num: rate_num(s),
         rate_den: rate_den(s),
     })

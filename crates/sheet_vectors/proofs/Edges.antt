@@ -8,7 +8,7 @@ use Rattle.base.specs.Refusal.{_orElse_, faultUnless, firstOf}
 use Rattle.base.proofs.Laws.{no! }
 use Rattle.blocks.specs.Block.{wordAt, sumWords, blockHolds}
 use Rattle.frames.specs.Frames.{timescaleOf, framesOf, recordWord, decodeOf}
-use Rattle.sheet.specs.Sheet.{spareFault, headFault, recordFault, checkFault, blockFault, recordBlocks, sheetFault, sheetOf, valuesOf}
+use Rattle.sheet.specs.Sheet.{spareFault, headFault, recordFault, checkFault, blockFault, recordBlocks, sheetFault, sheetNumber, sheetOf, valuesOf}
 use Rattle.sheet.proofs.AnswerLaws.{sheet-values}
 use Rattle.sheet_vectors.specs.Small.{smallRecords, sheetWith, smallSheet}
 use Rattle.sheet_vectors.proofs.Vectors.{small-sound}
@@ -26,8 +26,8 @@ unfolding sheetFault checkFault blockHolds headFault blockFault recordFault reco
 head-limits = refl
 
 -- the values of an answer: the head's of the small sheet, none of a sheet with a fault
-pub small-values : valuesOf (sheetOf smallSheet) ≡ 30000 ∷ 10 ∷ 30000 ∷ 1001 ∷ []
+pub small-values : valuesOf (sheetOf smallSheet 2) ≡ 30000 ∷ 10 ∷ 30000 ∷ 1001 ∷ []
 small-values = ap valuesOf small-sound
 
-pub damaged-values : (s : List ℕ) (k : ℕ) → sheetFault s ≡ suc k → valuesOf (sheetOf s) ≡ []
-damaged-values s k e = sheet-values s ∙ sym (no! _ (ne-eqb (sheetFault s) 0 (λ z. omega arith)) refl)
+pub damaged-values : (s : List ℕ) (lent k : ℕ) → sheetNumber s lent ≡ suc k → valuesOf (sheetOf s lent) ≡ []
+damaged-values s lent k e = sheet-values s lent ∙ sym (no! _ (ne-eqb (sheetNumber s lent) 0 (λ z. omega arith)) refl)

@@ -3,23 +3,32 @@ use Prim.Native.Nat.{ℕ}
 use mathlib.Core.Bool.{true, false}
 use mathlib.Core.List.{List, [], _∷_, _++_, map}
 use mathlib.Core.Path.{_≡_, refl, sym, ap, _∙_}
-use lib.ListN.{set, take}
+use lib.ListN.{getD, set, take}
+use Rattle.base.specs.Limits.{mostWork}
+use Rattle.base.specs.Put.{put, placed}
 use Rattle.base.specs.Refusal.{_orElse_, faultUnless, firstOf}
 use Rattle.blocks.specs.Block.{wordAt, sumWords, blockHolds}
 use Rattle.frames.specs.Frames.{timescaleOf, framesOf, rateNumOf, rateDenOf, recordWord, decodeOf, syncOf, durationOf}
+use Rattle.once.specs.Once.{timesNamed, repeatFault, workBytes, onceNumber, workOnce}
 use Rattle.sheet.specs.Sheet.{spareFault, headFault}
-use Rattle.sheet.specs.Sheet.{recordFault, checkFault, blockFault, recordBlocks, sheetFault, headOf, sheetAnswer, sheetOf, numberOf}
-use Rattle.sheet.proofs.SheetLaws.{number-is}
+use Rattle.sheet.specs.Sheet.{recordFault, checkFault, blockFault, recordBlocks, sheetFault, sheetNumber, workAfter, headOf, sheetAnswer, sheetOf, numberOf}
+use Rattle.sheet.proofs.SheetLaws.{Checked, checked, number-is, sound-number, work-enough}
 use Rattle.sheet.specs.declared.answer.Sheet.the-variants.{Sound}
-use Rattle.sheet_vectors.specs.Small.{checkedBlock, syncFrame, smallRecords, sheetWith, smallSheet}
+use Rattle.sheet_vectors.specs.Small.{checkedBlock, syncFrame, frame, smallRecords, sheetWith, smallSheet}
 
--- the small sheet is sound, with its head
-pub small-sound : sheetOf smallSheet ≡ Sound (record { timescale = 30000; frames = 10; «rate_num» = 30000; «rate_den» = 1001 })
-unfolding smallSheet sheetOf sheetAnswer headOf sheetFault checkFault blockHolds headFault blockFault recordFault recordWord decodeOf recordBlocks spareFault timescaleOf framesOf rateNumOf rateDenOf sumWords wordAt firstOf faultUnless _orElse_
+-- the small sheet is sound, with its head; two work bytes are enough for ten frames, and so are more
+pub small-sound : sheetOf smallSheet 2 ≡ Sound (record { timescale = 30000; frames = 10; «rate_num» = 30000; «rate_den» = 1001 })
+unfolding smallSheet sheetOf sheetAnswer headOf sheetNumber onceNumber workBytes repeatFault timesNamed sheetFault checkFault blockHolds headFault blockFault recordFault recordWord decodeOf recordBlocks spareFault timescaleOf framesOf rateNumOf rateDenOf sumWords wordAt firstOf faultUnless _orElse_
 small-sound = refl
 
+small-checked : Checked smallSheet 2
+small-checked = checked smallSheet 2 (sym (number-is smallSheet 2) ∙ ap numberOf small-sound)
+
 pub small-fault : sheetFault smallSheet ≡ 0
-small-fault = sym (number-is smallSheet) ∙ ap numberOf small-sound
+small-fault = small-checked .fault
+
+pub small-number : sheetNumber smallSheet mostWork ≡ 0
+small-number = sound-number smallSheet mostWork (record { fault = small-fault; room = work-enough smallSheet small-fault; once = small-checked .once })
 
 pub small-timescale : timescaleOf smallSheet ≡ 30000
 unfolding smallSheet timescaleOf wordAt
@@ -70,3 +79,28 @@ refused-head = refl
 pub refused-record : map sheetFault (sheetWith 30000 10 (syncFrame 10) ∷ sheetWith 30000 9 smallRecords ∷ []) ≡ 14 ∷ 14 ∷ []
 unfolding smallSheet sheetFault checkFault blockHolds headFault blockFault recordFault recordWord decodeOf recordBlocks spareFault timescaleOf framesOf sumWords wordAt firstOf faultUnless _orElse_
 refused-record = refl
+
+-- 16 and 25: the third of three records has the index of the first. No work byte is too few, and comes before 25; an index that is n is 14 before both
+abbrev three : List ℕ → List ℕ
+three r = sheetWith 30000 3 (syncFrame 0 ++ frame 1 ++ r)
+
+repeat-fault : map sheetFault (three (frame 0) ∷ three (frame 3) ∷ []) ≡ 0 ∷ 14 ∷ []
+unfolding sheetFault checkFault blockHolds headFault blockFault recordFault recordWord decodeOf recordBlocks spareFault timescaleOf framesOf sumWords wordAt firstOf faultUnless _orElse_
+repeat-fault = refl
+
+repeat-once : map (onceNumber (three (frame 0)) 3) (1 ∷ 0 ∷ []) ≡ 25 ∷ 16 ∷ []
+unfolding onceNumber workBytes repeatFault timesNamed recordWord decodeOf wordAt firstOf faultUnless _orElse_
+repeat-once = refl
+
+repeat-frames : framesOf (three (frame 0)) ≡ 3
+unfolding framesOf wordAt
+repeat-frames = refl
+
+pub refused-repeat : map (sheetNumber (three (frame 0))) (1 ∷ 0 ∷ []) ≡ 25 ∷ 16 ∷ []
+unfolding sheetNumber _orElse_
+refused-repeat = rw (ap (λ (x : List ℕ). getD x 0 7) repeat-fault, repeat-frames) repeat-once
+
+-- the work bytes afterwards: the one needed is zero and the other stays; where none is lent, none is written
+pub work-left : map (workAfter (three (frame 0))) ((7 ∷ 8 ∷ []) ∷ [] ∷ []) ≡ (0 ∷ 8 ∷ []) ∷ [] ∷ []
+unfolding workAfter workOnce placed put workBytes
+work-left = rw (ap (λ (x : List ℕ). getD x 0 7) repeat-fault, repeat-frames)

@@ -3,6 +3,7 @@ use mathlib.Core.Path.{_≡_, refl, ap, _∙_}
 use mathlib.Core.Bool.{true, false, cond}
 use mathlib.Core.List.{List, [], _∷_}
 use Prim.Native.Nat.{ℕ}
+use Rattle.base.specs.Limits.{mostWork}
 use Rattle.base.specs.Refusal.{_orElse_, faultUnless}
 use Rattle.base.specs.Width.{byWidth}
 use Rattle.base.specs.Part.{last}
@@ -15,14 +16,14 @@ use Rattle.text.specs.Line.{blank}
 use Rattle.blocks.specs.Block.{wordAt}
 use Rattle.frames.specs.Frames.{recordWord, decodeOf, syncOf, durationOf, framesOf, timescaleOf}
 use Rattle.sheet_vectors.specs.Small.{smallSheet}
-use Rattle.sheet_vectors.proofs.Vectors.{small-fault, small-timescale, small-frames}
+use Rattle.sheet_vectors.proofs.Vectors.{small-number, small-timescale, small-frames}
 use Rattle.trim.specs.Token.{rangeOf, boundsOf, pairOf, closedOf, tokenOf, behindEnd, stepOf, tokenNumber, tokenRange, tokenEnd}
 use Rattle.trim.specs.TrimList.{tokensOf, listTokens, tokensNumber, rangesIn, headNumber, listNumber, rangesOf}
 use Rattle.plan.specs.Snap.{lastBelow, firstFrom, floorSync, ceilSync, snapStart, snapEnd, snapAll, overlapsFault}
 use Rattle.segment.specs.declared.segment.Segment.{Segment}
 use Rattle.segment.specs.Segment.{segment}
 use Rattle.segmap.specs.Build.{ticksFrom, sourceStart, rangeTicks, rangeFault, rangesFault, segmentIn, segmentsIn}
-use Rattle.segmap.specs.Map.{rangesFor, snappedOf, mapNumber, Map, mapAnswer, mapOf}
+use Rattle.segmap.specs.Map.{rangesFor, snappedOf, cutNumber, mapNumber, Map, mapAnswer, mapOf}
 use Rattle.table.specs.Example.{theList, theMap, theSegments}
 
 list-number : listNumber theList ≡ 0
@@ -60,9 +61,9 @@ segments-are : segmentsIn smallSheet 0 snapped ≡ segment 0 3 0 3 0 3003 ∷ se
 unfolding segmentsIn segmentIn sourceStart rangeTicks ticksFrom smallSheet decodeOf durationOf recordWord wordAt
 segments-are = refl
 
-number-is : mapNumber smallSheet theList 0 6144 ≡ 0
-unfolding mapNumber faultUnless _orElse_
-number-is = rw (small-fault, list-number, snapped-is, small-frames, overlap-none, ranges-good)
+number-is : mapNumber smallSheet theList 0 6144 mostWork ≡ 0
+unfolding mapNumber cutNumber faultUnless _orElse_
+number-is = rw (small-number, list-number, snapped-is, small-frames, overlap-none, ranges-good)
 
 -- all that `mapper` prints
 pub map-is : theMap ≡ record { number = 0; timescale = 30000; count = 2; segments = segment 0 3 0 3 0 3003 ∷ segment 6 10 6006 4 3003 4004 ∷ [] }

@@ -3,6 +3,7 @@ use mathlib.Core.Path.{_≡_, refl, sym, ap, _∙_}
 use mathlib.Core.List.{List}
 use Prim.Native.Nat.{ℕ, _*_, _<_, _≤_}
 use native.Mathlib.Omega.{arith}
+use borrow.Author.Tests.{le-leb}
 use lib.ListN.{length, take, drop}
 use lib.Seq.{take-append-seam}
 use Rattle.base.specs.Limits.{mostSegments}
@@ -11,8 +12,8 @@ use Rattle.base.proofs.PutLaws.{placed-yes}
 use Rattle.segment.specs.declared.segment.Segment.{Segment}
 use Rattle.segment.specs.Segment.{flatOf}
 use Rattle.segmap.specs.declared.whole.Made.{Made}
-use Rattle.segmap.specs.Map.{mapNumber, Map, mapOf, made, madeOf}
-use Rattle.segmap.proofs.MapLaws.{short-made}
+use Rattle.segmap.specs.Map.{mapNumber, Map, mapOf, mapWork, made, madeOf}
+use Rattle.segmap.proofs.MapLaws.{short-made, short-work}
 use Rattle.segmap.proofs.Built.{flat-length, map-count, told-number, told-count, map-refused}
 use Rattle.event.specs.declared.meeting.Hit.{Hit}
 use Rattle.event.specs.declared.meeting.Hit.the-variants.{Miss}
@@ -22,24 +23,25 @@ use Rattle.segments.specs.Records.{recorded, mapInto}
 use Rattle.through.specs.Through.{throughOf}
 use Rattle.segments.proofs.BuildLaws.{map-lent, count-few}
 
--- the map m was built in the 1,024 records l, as z; r is what the call told
-module _ (s list : List ℕ) (d : ℕ) (l z : List Segment) (n : length l ≡ 1024) (r : Made) (e : r ≡ madeOf (mapInto s list d l)) (w : z ≡ recorded (mapInto s list d l .segments) l) where
+-- the map m was built in the 1,024 records l, as z, with the work bytes wk; r is what the call told
+module _ (s list : List ℕ) (d : ℕ) (wk : List ℕ) (l z : List Segment) (n : length l ≡ 1024) (r : Made) (e : r ≡ madeOf (mapInto s list d l (length wk)))
+    (w : z ≡ recorded (mapInto s list d l (length wk) .segments) l) where
   abbrev m : Map
-  m = mapOf s list d 6144
+  m = mapOf s list d 6144 (length wk)
 
-  same : mapInto s list d l ≡ m
-  same = ap (λ (k : ℕ). mapOf s list d (6 * k)) n
+  same : mapInto s list d l (length wk) ≡ m
+  same = ap (λ (k : ℕ). mapOf s list d (6 * k) (length wk)) n
 
   told : r ≡ madeOf m
   told = e ∙ ap madeOf same
 
   pub in-records : r .count ≤ 1024
-  in-records = count-few s list d 6144 r told
+  in-records = count-few s list d 6144 (length wk) r told
 
   front : take (r .count) z ≡ m .segments
   unfolding recorded
   front =
-      let k : r .count ≡ length (m .segments) = told-count s list d 6144 r told ∙ map-count s list d 6144 in
+      let k : r .count ≡ length (m .segments) = told-count s list d 6144 (length wk) r told ∙ map-count s list d 6144 (length wk) in
       ap (λ (j : ℕ). take j z) k
       ∙ ap (take (length (m .segments))) (w ∙ ap (λ (x : Map). recorded (x .segments) l) same)
       ∙ take-append-seam (m .segments) (drop (length (m .segments)) l)
@@ -50,35 +52,42 @@ module _ (s list : List ℕ) (d : ℕ) (l z : List Segment) (n : length l ≡ 10
       let met : h ≡ hitOf (findHit (m .segments) a b) = q ∙ ap (λ (xs : List Segment). hitOf (findHit xs a b)) front in
       λ i. record { made = told i; hit = met i }
 
+  pub through-bytes : (v : List ℕ) → v ≡ mapWork s d (6 * length l) wk → v ≡ mapWork s d 6144 wk
+  through-bytes v q = q ∙ ap (λ (k : ℕ). mapWork s d (6 * k) wk) n
+
   pub through-flat : (f f′ : List ℕ) → 6144 ≤ length f → f′ ≡ placed (flatOf (take (r .count) z)) f → f′ ≡ put (flatOf (m .segments)) f
   through-flat f f′ room q =
-      let few : length (m .segments) ≤ mostSegments = omega (arith, in-records, told-count s list d 6144 r told, map-count s list d 6144) in
+      let few : length (m .segments) ≤ mostSegments = omega (arith, in-records, told-count s list d 6144 (length wk) r told, map-count s list d 6144 (length wk)) in
       let fits : length (flatOf (m .segments)) ≤ length f = omega (arith, flat-length (m .segments), few) in
       q ∙ ap (λ (xs : List Segment). placed (flatOf xs) f) front ∙ placed-yes (flatOf (m .segments)) f fits
 
 -- ---- the numbers f that are lent: fewer than 6,144 are 16, and more count only as enough
-module _ (s list : List ℕ) (d a b : ℕ) (f : List ℕ) where
+module _ (s list : List ℕ) (d : ℕ) (wk : List ℕ) (a b : ℕ) (f : List ℕ) where
   abbrev lent : Map
-  lent = mapOf s list d (length f)
+  lent = mapOf s list d (length f) (length wk)
 
   short-hit : length f < 6 * mostSegments → Miss ≡ hitOf (findHit (lent .segments) a b)
   unfolding findFrom
   short-hit h =
-      let e : 16 ≡ mapNumber s list d (length f) = told-number s list d (length f) (made 16 0 0) (short-made s list d (length f) (made 16 0 0) h refl) in
-      sym (ap (λ (xs : List Segment). hitOf (findHit xs a b)) (map-refused s list d (length f) (omega arith)))
+      let e : 16 ≡ mapNumber s list d (length f) (length wk) = told-number s list d (length f) (length wk) (made 16 0 0) (short-made s list d (length f) wk (made 16 0 0) h refl) in
+      sym (ap (λ (xs : List Segment). hitOf (findHit xs a b)) (map-refused s list d (length f) (length wk) (omega arith)))
 
   pub short-through : length f < 6 * mostSegments → _≡_ {A = Through} (record { made = made 16 0 0; hit = Miss }) (throughOf lent a b)
   unfolding throughOf
   short-through h =
-      let t : made 16 0 0 ≡ madeOf lent = short-made s list d (length f) (made 16 0 0) h refl in
+      let t : made 16 0 0 ≡ madeOf lent = short-made s list d (length f) wk (made 16 0 0) h refl in
       let m : Miss ≡ hitOf (findHit (lent .segments) a b) = short-hit h in
       λ i. record { made = t i; hit = m i }
 
-  same-lent : 6 * mostSegments ≤ length f → mapOf s list d 6144 ≡ lent
-  same-lent h = map-lent s list d 6144 (length f) (omega arith) h
+  same-lent : 6 * mostSegments ≤ length f → mapOf s list d 6144 (length wk) ≡ lent
+  same-lent h = map-lent s list d 6144 (length f) (length wk) (omega arith) h
 
-  pub enough-through : (r : Through) → 6 * mostSegments ≤ length f → r ≡ throughOf (mapOf s list d 6144) a b → r ≡ throughOf lent a b
+  pub enough-through : (r : Through) → 6 * mostSegments ≤ length f → r ≡ throughOf (mapOf s list d 6144 (length wk)) a b → r ≡ throughOf lent a b
   enough-through r h e = e ∙ ap (λ (m : Map). throughOf m a b) (same-lent h)
 
-  pub enough-flat : (f′ : List ℕ) → 6 * mostSegments ≤ length f → f′ ≡ put (flatOf (mapOf s list d 6144 .segments)) f → f′ ≡ put (flatOf (lent .segments)) f
+  pub enough-bytes : (v : List ℕ) → 6 * mostSegments ≤ length f → v ≡ mapWork s d 6144 wk → v ≡ mapWork s d (length f) wk
+  unfolding mapWork
+  enough-bytes v h e = e ∙ rw (le-leb (6 * mostSegments) (length f) h)
+
+  pub enough-flat : (f′ : List ℕ) → 6 * mostSegments ≤ length f → f′ ≡ put (flatOf (mapOf s list d 6144 (length wk) .segments)) f → f′ ≡ put (flatOf (lent .segments)) f
   enough-flat f′ h e = e ∙ ap (λ (m : Map). put (flatOf (m .segments)) f) (same-lent h)

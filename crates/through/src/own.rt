@@ -7,7 +7,7 @@ ghost use Prim.Native.Nat.{_≤_};
 ghost use lib.ListN.{length};
 ghost use Rattle.base.specs.Put.{put};
 ghost use Rattle.segment.specs.Segment.{flatOf};
-ghost use Rattle.segmap.specs.Map.{mapOf};
+ghost use Rattle.segmap.specs.Map.{mapOf, mapWork};
 ghost use Rattle.through.specs.Through.{throughOf};
 
 // What the map call answers, and the segment that a caption meets.
@@ -21,13 +21,15 @@ fn through_own(
     sheet: &[u8],
     list: &[u8],
     direction: u32,
+    work: &mut [u8],
     start: u64,
     end: u64,
     flat: &mut [u64],
 ) -> Through
     requires { ⌜ 6144 ≤ length (now flat) ⌝ }
-    ensures { λ r. ⌜ (r ≡ throughOf (mapOf (now (sheet .entry)) (now (list .entry)) direction 6144) start end)
-        × (now (flat .exit) ≡ put (flatOf (mapOf (now (sheet .entry)) (now (list .entry)) direction 6144 .segments)) (now (flat .entry))) ⌝ }
+    ensures { λ r. ⌜ (r ≡ throughOf (mapOf (now (sheet .entry)) (now (list .entry)) direction 6144 (length (now (work .entry)))) start end)
+        × (now (work .exit) ≡ mapWork (now (sheet .entry)) direction 6144 (now (work .entry)))
+        × (now (flat .exit) ≡ put (flatOf (mapOf (now (sheet .entry)) (now (list .entry)) direction 6144 (length (now (work .entry))) .segments)) (now (flat .entry))) ⌝ }
 {
     let none = Segment {
         source_start_frame: 0,
@@ -38,24 +40,26 @@ fn through_own(
         duration: 0,
     };
     let mut map = [none; 1024];
-    let made = segments::build(sheet, list, direction, &mut map);
+    let made = segments::build(sheet, list, direction, work, &mut map);
     let hit = segments::find_hit(&map[..made.count], start, end);
     segments::flatten(&map[..made.count], flat);
     Through { made, hit }
 }
 
 // Makes the map of a sheet and a trim list in records, and writes it as flat numbers from the start of `flat`; with it the segment that the ticks
-// start to end meet. Fewer than 6,144 places are 16. A refusal writes nothing and meets no segment.
+// start to end meet. Fewer than 6,144 places are 16. A refusal writes nothing there and meets no segment. The work bytes are for the sheet's check.
 pub fn through_records(
     sheet: &[u8],
     list: &[u8],
     direction: u32,
+    work: &mut [u8],
     start: u64,
     end: u64,
     flat: &mut [u64],
 ) -> Through
-    ensures { λ r. ⌜ r ≡ throughOf (mapOf (now (sheet .entry)) (now (list .entry)) direction (length (now (flat .entry)))) start end ⌝ }
-    ensures { λ _. ⌜ now (flat .exit) ≡ put (flatOf (mapOf (now (sheet .entry)) (now (list .entry)) direction (length (now (flat .entry))) .segments)) (now (flat .entry)) ⌝ }
+    ensures { λ r. ⌜ r ≡ throughOf (mapOf (now (sheet .entry)) (now (list .entry)) direction (length (now (flat .entry))) (length (now (work .entry)))) start end ⌝ }
+    ensures { λ _. ⌜ now (work .exit) ≡ mapWork (now (sheet .entry)) direction (length (now (flat .entry))) (now (work .entry)) ⌝ }
+    ensures { λ _. ⌜ now (flat .exit) ≡ put (flatOf (mapOf (now (sheet .entry)) (now (list .entry)) direction (length (now (flat .entry))) (length (now (work .entry))) .segments)) (now (flat .entry)) ⌝ }
 {
     if flat.len() < 6 * base::MOST_SEGMENTS {
         return Through {
@@ -67,5 +71,5 @@ pub fn through_records(
             hit: Hit::Miss,
         };
     }
-    through_own(sheet, list, direction, start, end, flat)
+    through_own(sheet, list, direction, work, start, end, flat)
 }

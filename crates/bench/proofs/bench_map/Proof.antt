@@ -16,7 +16,16 @@ make-requires c κs = search needs
 
 returns : tie.Need-returns
 unfolding madeOf
-returns c = ap (λ (x : Made). x .number) (c .before .make .ensures .0)
+returns c = ap (λ (x : Made). x .number) (c .before .before .make .ensures .0)
+
+slice-aggregate-make-2 : tie.Need-slice-aggregate-make-2
+slice-aggregate-make-2 c = search needs
 
 pub bench-map-spec : {M : Type 1} → statement M
-bench-map-spec = tie.close (tie.spec slice-aggregate-make make-requires returns)
+bench-map-spec =
+    tie.close
+    (tie.spec
+    slice-aggregate-make
+    slice-aggregate-make-2
+    make-requires
+    returns)

@@ -14,8 +14,11 @@ check-requires c κs = search needs
 number-requires : tie.Need-number-requires
 number-requires c κs = search needs
 
+same-length : tie.Need-same-length
+same-length c = search needs
+
 returns : tie.Need-returns
-returns c = c .number .ensures ∙ ap numberOf (c .before .check .ensures)
+returns c = (c .number .ensures ∙ ap numberOf (c .before .before .before .check .ensures .0), c .before .before .before .check .ensures .1)
 
 pub retimer-sheet-check-spec : {M : Type 1} → statement M
-retimer-sheet-check-spec = tie.close (tie.spec check-requires number-requires returns)
+retimer-sheet-check-spec = tie.close (tie.spec check-requires number-requires same-length returns)

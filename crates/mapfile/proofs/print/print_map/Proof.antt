@@ -1,4 +1,5 @@
 use Rattle.mapfile.proofs.NumberLaws.{too-large, within}
+use mathlib.Core.Path.{refl}
 use borrow.Author.Needs.{needs}
 use Rattle.mapfile.proofs.print.print_map.Statement.{statement}
 use Rattle.mapfile.proofs.print.print_map.Tie as tie
@@ -16,11 +17,14 @@ print-number-requires c κs = search needs
 returns : tie.Need-returns
 returns c = search too-large
 
+slice-aggregate-print-map-of : tie.Need-slice-aggregate-print-map-of
+slice-aggregate-print-map-of c = search needs
+
 print-map-of-requires : tie.Need-print-map-of-requires
 print-map-of-requires c κs = search needs
 
 returns-2 : tie.Need-returns-2
-returns-2 c = search within
+returns-2 c = within _ _ _ _ (search needs) (c .before .print-map-of .ensures .0) refl
 
 pub print-map-spec : {M : Type 1} → statement M
 print-map-spec =
@@ -29,5 +33,6 @@ print-map-spec =
     slice-aggregate-print-number
     print-number-requires
     returns
+    slice-aggregate-print-map-of
     print-map-of-requires
     returns-2)

@@ -21,8 +21,12 @@ slice-aggregate-print-number c = search needs
 print-number-requires : tie.Need-print-number-requires
 print-number-requires c κs = search needs
 
+same-length : tie.Need-same-length
+same-length c = search needs
+
 returns : tie.Need-returns
-returns c = c .print-number .ensures ∙ number-told _ _ _ _ _ (c .before .before .before .before .make .ensures .0) refl
+returns c =
+    (c .print-number .ensures ∙ number-told _ _ _ _ _ _ (c .before .before .before .before .before .before .make .ensures .0) refl, search needs)
 
 slice-aggregate-print-number-2 : tie.Need-slice-aggregate-print-number-2
 slice-aggregate-print-number-2 c = search needs
@@ -36,8 +40,12 @@ slice-aggregate-print-segments c = search needs
 print-segments-requires : tie.Need-print-segments-requires
 print-segments-requires c κs = search needs
 
+same-length-2 : tie.Need-same-length-2
+same-length-2 c = search needs
+
 returns-2 : tie.Need-returns-2
-returns-2 c = number-zero _ _ _ _ _ (c .before .before .before .before .before .before .make .ensures .0) refl (c .before .before .before .before .if1 .left)
+returns-2 c =
+    (number-zero _ _ _ _ _ _ (c .before .before .before .before .before .before .before .before .make .ensures .0) refl (c .before .before .before .before .if1 .left), search needs)
 
 pub print-map-of-spec : {M : Type 1} → statement M
 print-map-of-spec =
@@ -47,9 +55,11 @@ print-map-of-spec =
     make-requires
     slice-aggregate-print-number
     print-number-requires
+    same-length
     returns
     slice-aggregate-print-number-2
     print-number-requires-2
     slice-aggregate-print-segments
     print-segments-requires
+    same-length-2
     returns-2)

@@ -19,7 +19,7 @@ make-requires : tie.Need-make-requires
 make-requires c κs = search needs
 
 returns-2 : tie.Need-returns-2
-returns-2 c = retimes-refused _ _ _ _ (c .before .before .before .make .ensures .0) refl (c .before .before .before .before .before .if1 .left) (c .if2 .taken)
+returns-2 c = retimes-refused _ _ _ _ _ (c .before .before .before .before .make .ensures .0) refl refl (c .before .before .before .before .before .before .before .if1 .left) (c .if2 .taken)
 
 slice-aggregate-first-segments : tie.Need-slice-aggregate-first-segments
 slice-aggregate-first-segments c = search needs
@@ -35,11 +35,14 @@ run-requires-2 c κs = search needs
 
 returns-3 : tie.Need-returns-3
 returns-3 c =
-    retimes-run _ _ _ _ (c .before .before .before .before .before .before .before .before .make .ensures .0) refl (c .before .before .before .before .before .before .before .before .before .before .if1 .left) (c .before .before .before .before .before .if2 .left) _ _ _ (c .before .before .before .before .before .before .before .before .make .ensures .1) (c .before .before .before .first-segments .ensures) _ (c .before .before .run .ensures)
+    retimes-run _ _ _ _ _ (c .before .before .before .before .before .before .before .before .before .make .ensures .0) refl refl (c .before .before .before .before .before .before .before .before .before .before .before .before .if1 .left) (c .before .before .before .before .before .if2 .left) _ _ _ (c .before .before .before .before .before .before .before .before .before .make .ensures .1 .1) (c .before .before .before .first-segments .ensures) _ (c .before .before .run .ensures)
 
 returns-4 : tie.Need-returns-4
 returns-4 c =
-    retimes-run _ _ _ _ (c .before .before .before .before .before .before .before .make .ensures .0) refl (c .before .before .before .before .before .before .before .before .before .if1 .left) (c .before .before .before .before .if2 .left) _ _ _ (c .before .before .before .before .before .before .before .make .ensures .1) (c .before .before .first-segments .ensures) _ (c .before .run .ensures)
+    retimes-run _ _ _ _ _ (c .before .before .before .before .before .before .before .before .make .ensures .0) refl refl (c .before .before .before .before .before .before .before .before .before .before .before .if1 .left) (c .before .before .before .before .if2 .left) _ _ _ (c .before .before .before .before .before .before .before .before .make .ensures .1 .1) (c .before .before .first-segments .ensures) _ (c .before .run .ensures)
+
+slice-aggregate-make-2 : tie.Need-slice-aggregate-make-2
+slice-aggregate-make-2 c = search needs
 
 pub retimed-spec : {M : Type 1} → statement M
 retimed-spec =
@@ -47,6 +50,7 @@ retimed-spec =
     (tie.spec
     returns
     slice-aggregate-make
+    slice-aggregate-make-2
     make-requires
     returns-2
     slice-aggregate-first-segments

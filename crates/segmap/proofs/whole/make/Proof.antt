@@ -1,5 +1,5 @@
 use native.Mathlib.Omega.{arith}
-use Rattle.segmap.proofs.MapLaws.{short-made, short-map, direction-made, direction-map, sheet-made, sheet-map, sound-fault, sound-frames, sound-timescale}
+use Rattle.segmap.proofs.MapLaws.{short-made, short-work, short-map, direction-made, direction-work, direction-map, checked-work, sheet-made, sheet-map, cut-made, cut-map, sound-fault, sound-frames, sound-timescale}
 use borrow.Author.Needs.{needs}
 use Rattle.segmap.proofs.whole.make.Statement.{statement}
 use Rattle.segmap.proofs.whole.make.Tie as tie
@@ -11,13 +11,13 @@ refused-requires : tie.Need-refused-requires
 refused-requires c κs = search needs
 
 returns : tie.Need-returns
-returns c = (search short-made, search short-map)
+returns c = (search short-made, (search short-work, search short-map))
 
 refused-requires-2 : tie.Need-refused-requires-2
 refused-requires-2 c κs = search needs
 
 returns-2 : tie.Need-returns-2
-returns-2 c = (search direction-made, search direction-map)
+returns-2 c = (search direction-made, (search direction-work, search direction-map))
 
 check-requires : tie.Need-check-requires
 check-requires c κs = search needs
@@ -38,13 +38,19 @@ map-ranges-requires : tie.Need-map-ranges-requires
 map-ranges-requires c κs = ((search sound-fault, search sound-frames, search sound-timescale), (omega arith, omega arith, omega arith))
 
 returns-3 : tie.Need-returns-3
-returns-3 c = (search sheet-made, search sheet-map)
+returns-3 c = (search sheet-made, (search checked-work, search sheet-map))
 
 same-length : tie.Need-same-length
 same-length c = search needs
 
 returns-4 : tie.Need-returns-4
-returns-4 c = search needs
+returns-4 c = (search cut-made, (search checked-work, search cut-map))
+
+same-length-2 : tie.Need-same-length-2
+same-length-2 c = search needs
+
+same-length-3 : tie.Need-same-length-3
+same-length-3 c = search needs
 
 pub make-spec : {M : Type 1} → statement M
 make-spec =
@@ -61,6 +67,8 @@ make-spec =
     enum-known-a-2
     slice-aggregate-map-ranges
     map-ranges-requires
-    returns-3
     same-length
+    returns-3
+    same-length-2
+    same-length-3
     returns-4)

@@ -1,4 +1,4 @@
-use Rattle.sheet.proofs.FaultLaws.{answer-refused, answer-sound}
+use Rattle.sheet.proofs.FaultLaws.{fault-answer, fault-work, once-answer, once-work, sound-answer}
 use borrow.Author.Needs.{needs}
 use Rattle.sheet.proofs.answer.check.Statement.{statement}
 use Rattle.sheet.proofs.answer.check.Tie as tie
@@ -8,19 +8,29 @@ use Rattle.frames.proofs.frames.Reads as frames-reads
 use Rattle.frames.proofs.rate_den.Reads as rate-den-reads
 use Rattle.frames.proofs.rate_num.Reads as rate-num-reads
 use Rattle.frames.proofs.timescale.Reads as timescale-reads
+use Rattle.once.proofs.once_fault.Reads as once-fault-reads
 use Rattle.sheet.proofs.faults.fault.Reads as fault-reads
 
 fault-requires : tie.Need-fault-requires
 fault-requires c κs = search needs
 
 returns : tie.Need-returns
-returns c = search answer-refused
-
-timescale-requires : tie.Need-timescale-requires
-timescale-requires c κs = search needs
+returns c = (search fault-answer, search fault-work)
 
 frames-requires : tie.Need-frames-requires
 frames-requires c κs = search needs
+
+once-fault-requires : tie.Need-once-fault-requires
+once-fault-requires c κs = search needs
+
+same-length : tie.Need-same-length
+same-length c = search needs
+
+returns-2 : tie.Need-returns-2
+returns-2 c = (search once-answer, search once-work)
+
+timescale-requires : tie.Need-timescale-requires
+timescale-requires c κs = search needs
 
 rate-num-requires : tie.Need-rate-num-requires
 rate-num-requires c κs = search needs
@@ -28,8 +38,11 @@ rate-num-requires c κs = search needs
 rate-den-requires : tie.Need-rate-den-requires
 rate-den-requires c κs = search needs
 
-returns-2 : tie.Need-returns-2
-returns-2 c = search answer-sound
+same-length-2 : tie.Need-same-length-2
+same-length-2 c = search needs
+
+returns-3 : tie.Need-returns-3
+returns-3 c = (search sound-answer, search once-work)
 
 pub check-spec : {M : Type 1} → statement M
 check-spec =
@@ -37,8 +50,12 @@ check-spec =
     (tie.spec
     fault-requires
     returns
-    timescale-requires
     frames-requires
+    once-fault-requires
+    same-length
+    returns-2
+    timescale-requires
     rate-num-requires
     rate-den-requires
-    returns-2)
+    same-length-2
+    returns-3)

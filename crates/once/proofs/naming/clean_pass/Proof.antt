@@ -1,0 +1,28 @@
+use native.Mathlib.Omega.{arith}
+use Rattle.once.proofs.NamingLaws.{clear-now, clear-all}
+use borrow.Author.Needs.{needs}
+use Rattle.once.proofs.naming.clean_pass.Statement.{statement}
+use Rattle.once.proofs.naming.clean_pass.Tie as tie
+use Rattle.once.proofs.naming.clean_pass.Reads as reads
+use Rattle.once.proofs.naming.clean_pass.Lts as lts
+use Rattle.once.proofs.marks.clear.Reads as clear-reads
+use Rattle.once.proofs.naming.pass.Reads as pass-reads
+
+clear-requires : tie.Need-clear-requires
+clear-requires c κs = search needs
+
+pass-requires : tie.Need-pass-requires
+pass-requires c κs = (omega arith, search clear-now)
+
+clear-requires-2 : tie.Need-clear-requires-2
+clear-requires-2 c κs = search needs
+
+same-length : tie.Need-same-length
+same-length c = search needs
+
+returns : tie.Need-returns
+returns c = (search needs, search clear-all)
+
+pub clean-pass-spec : {M : Type 1} → statement M
+clean-pass-spec =
+    tie.close (tie.spec clear-requires pass-requires clear-requires-2 same-length returns)

@@ -1,0 +1,2 @@
+-- Each sample named once.
+pub mod Once

@@ -1,0 +1,5 @@
+// Each sample named once. No exported function has a `requires`.
+mod marks;
+mod naming;
+
+pub use naming::once_fault;

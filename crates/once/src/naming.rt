@@ -1,0 +1,58 @@
+// The decode indices of a sheet's records, each met once.
+use crate::marks::clear;
+use crate::marks::mark;
+use order::DisplayIdx;
+ghost use mathlib.Core.Path.{_≡_};
+ghost use Prim.Native.Nat.{_*_, _^_, _≤_, _<_};
+ghost use lib.ListN.{length, replicate};
+ghost use Rattle.base.specs.Refusal.{firstOf};
+ghost use Rattle.once.specs.Once.{repeatFault, workBytes, onceNumber, workOnce};
+
+// How many work bytes n frames need.
+fn work_bytes(n: u32) -> usize
+    ensures { λ r. ⌜ (r ≡ workBytes n) × (r < 2 ^ 30) ⌝ }
+{
+    (n as usize + 7) / 8
+}
+
+// The first of n records whose decode index is not below n, or was met before (25); 0 for none. The bits are clear at first.
+fn pass(s: &[u8], n: u32, bits: &mut [u8]) -> u32
+    requires { ⌜ (n ≤ 8 * length (now bits)) × (now bits ≡ replicate (length (now bits)) 0) ⌝ }
+    ensures { λ r. ⌜ r ≡ firstOf (repeatFault (now (s .entry)) n) 0 n ⌝ }
+{
+    let mut i: u32 = 0;
+    while i < n {
+        let d = frames::decode_at(s, DisplayIdx(i)).0;
+        if n <= d {
+            return 25;
+        }
+        if mark(bits, d as usize) {
+            return 25;
+        }
+        i += 1;
+    }
+    0
+}
+
+// The pass over bytes of any value, which end zero.
+fn clean_pass(s: &[u8], n: u32, bits: &mut [u8]) -> u32
+    requires { ⌜ n ≤ 8 * length (now bits) ⌝ }
+    ensures { λ r. ⌜ (r ≡ firstOf (repeatFault (now (s .entry)) n) 0 n) × (now (bits .exit) ≡ replicate (length (now (bits .entry))) 0) ⌝ }
+{
+    clear(bits);
+    let f = pass(s, n, bits);
+    clear(bits);
+    f
+}
+
+// Whether the first n records of a sheet name each number below n: 0, or 16 where too few work bytes are lent, or 25.
+pub fn once_fault(s: &[u8], n: u32, work: &mut [u8]) -> u32
+    ensures { λ r. ⌜ r ≡ onceNumber (now (s .entry)) n (length (now (work .entry))) ⌝ }
+    ensures { λ _. ⌜ now (work .exit) ≡ workOnce n (now (work .entry)) ⌝ }
+{
+    let need = work_bytes(n);
+    if work.len() < need {
+        return 16;
+    }
+    clean_pass(s, n, &mut work[..need])
+}
