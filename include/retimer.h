@@ -15,16 +15,17 @@ extern "C" {
 /* Work bytes that are enough for the check of every sheet. */
 #define RETIMER_MOST_WORK 131072
 
-/* 0 for a sound frame sheet, else 11, 12, 13 or 14; 16 where too few work bytes are lent; 25 where two frames name the same sample.
+/* 0 for a sound frame sheet, else 11, 12, 13 or 14; 16 where too few work bytes are lent; 25 where two frames name the same sample; 26 where its
+ * durations are more than 2^53 ticks together.
  * The work bytes, of any value, are n / 8, rounded up, for n frames, or more. They must not overlap the sheet.
- * With 0 and 25 those needed end zero; else all stay as they were, and bytes past those needed always do. */
+ * With 0, 25 and 26 those needed end zero; else all stay as they were, and bytes past those needed always do. */
 uint32_t retimer_sheet_check(const uint8_t *sheet, size_t length, uint8_t *work, size_t work_length);
 
 /* 0 for a good trim list, or a blank one, which keeps the whole play; else 2 to 7, or 20 for bytes that are not UTF-8. */
 uint32_t retimer_list_check(const uint8_t *list, size_t length);
 
-/* Conversions. kind: 0 ASS (hundredths), 1 SRT (thousandths); timescale: ticks a second, 1 to 1000000.
- * A value of units is at most 2^36, one of ticks at most 2^52. Refused, they return 0; the number says so. */
+/* Conversions. kind: 0 ASS (hundredths), 1 SRT (thousandths); timescale: ticks a second, 1 to 1000000000.
+ * A value of units is at most 2^36, one of ticks at most 2^53. Refused, they return 0; the number says so. */
 uint64_t retimer_units_to_ticks(uint64_t value, uint32_t timescale, uint32_t kind);
 uint64_t retimer_ticks_to_units_floor(uint64_t value, uint32_t timescale, uint32_t kind);
 uint64_t retimer_ticks_to_units_ceil(uint64_t value, uint32_t timescale, uint32_t kind);

@@ -20,9 +20,13 @@ WHITE = [' ', '\t', '\u3000', '\u00a0', '\u2003', '\u0085', '\u1680', '\u205f', 
 def sheet_words(r, n=None):
     if n is None:
         n = r.choice([1, 2, 3, 10, 10, 12, 62, 63, 64, 126, 127, r.randint(1, 40), r.randint(1, 200)])
-    blocks = 1 + -(-n // 63)
+    long = r.random() < 0.33
+    blocks = 1 + -(-n // (42 if long else 63))
     w = [0] * (128 * blocks)
     w[1] = r.choice([1, 2, 1000, 24000, 30000, 90000, 1000000, r.randint(1, 1000000)])
+    w[5] = int(long)
+    if long and r.random() < 0.5:
+        w[1] = r.choice([1000000000, 999999999, 1000001, r.randint(1, 1000000000)])
     w[2], w[3], w[4] = n, r.choice([24000, 30000, r.getrandbits(32)]), r.choice([1001, r.getrandbits(32)])
     decode = list(range(n))
     style = 3 if r.random() < 0.05 else r.choice([0, 1, 2, 4, 5])
@@ -35,14 +39,35 @@ def sheet_words(r, n=None):
         decode = [r.randrange(n) for _ in range(n)]
     gap = r.choice([1, 2, 3, 3, 5, 8, 15])
     kind = r.randrange(5)
+    lasting = durations(r, n, w[1]) if long else [1001 if style < 2 else r.choice([0, 1, 1001, 1001, 3003, r.randint(0, 5000), r.getrandbits(32)]) for _ in range(n)]
     for i in range(n):
-        at = place(i)
+        at = place(i, long)
         sync = (i % gap == 0) if kind < 3 else r.random() < (0.3 if kind == 3 else 0.03)
         w[at] = decode[i] | (1 << 31 if sync else 0)
-        w[at + 1] = 1001 if style < 2 else r.choice([0, 1, 1001, 1001, 3003, r.randint(0, 5000), r.getrandbits(32)])
+        w[at + 1] = lasting[i] & 0xFFFFFFFF
+        if long:
+            w[at + 2] = lasting[i] >> 32
     for b in range(blocks):
         seal(w, b)
     return w
+
+
+def durations(r, n, t):
+    """Durations of n samples in the second layout: of 32 bits or of more, at times close to 2^53 together (26 above)."""
+    if r.random() < 0.4:
+        return [r.choice([0, 1, 1001, 3003, r.getrandbits(32)]) for _ in range(n)]
+    d = [r.choice([0, 1, 1001, (1 << 32) - 1, 1 << 32, (1 << 32) + 1, t, t * r.randint(1, 600)]) for _ in range(n)]
+    if r.random() < 0.5:  # all together, or two samples that ranges may share, near 2^53
+        i = r.randrange(n)
+        d[i] = max(0, (1 << 53) - sum(d) + d[i] + r.choice([0, 0, -1, 1, -5, 5, -(1 << 51)]))
+    if r.random() < 0.2:
+        d[r.randrange(n)] = r.choice([1 << 52, (1 << 52) - 100, 1 << 53, (1 << 64) - 1])
+    return d
+
+
+def at_record(w, i):
+    """Where the record of frame i stands in a sheet's words."""
+    return place(i, w[5] == 1)
 
 
 def work_lent(r, n):
@@ -71,17 +96,17 @@ def sheet(r, damaged=0.5, n=None):
         w[128 * b + 127] = sum(w[128 * b:128 * b + 127]) & 0xFFFFFFFF
         return as_bytes(w)
     if how == 4:
-        w[1] = r.choice([0, 1000000, 1000001, 0xFFFFFFFF])
+        w[1] = r.choice([0, 1000000, 1000001, 1000000000, 1000000001, 0xFFFFFFFF])
         seal(w, 0)
     if how == 5:
         n = w[2]
         w[2] = r.choice([0, max(n - 1, 0), n + 1, n + 63, 1048576, 1048577, 0xFFFFFFFF])
         seal(w, 0)
     if how == 6:
-        w[r.choice([5, 6, 126, r.randint(5, 126)])] = r.choice([1, r.getrandbits(32)])
+        w[r.choice([5, 5, 6, 126, r.randint(5, 126)])] = r.choice([0, 1, 2, 1 << 31, r.getrandbits(32)])
         seal(w, 0)
     if how == 7 and count > 1:  # a decode index
-        at = place(r.randrange(w[2]))
+        at = at_record(w, r.randrange(w[2]))
         w[at] = (w[at] & (1 << 31)) | r.choice([w[2], w[2] - 1, w[2] + 1, 0x7FFFFFFF])
         seal(w, at // 128)
     if how == 8:  # past n, or anywhere
@@ -91,8 +116,9 @@ def sheet(r, damaged=0.5, n=None):
             seal(w, at // 128)
     if how == 10 and w[2] > 1:  # an index named twice, at times with a fault in a later block
         i, j = r.sample(range(w[2]), 2)
-        w[place(i)] = w[place(i)] & (1 << 31) | w[place(j)] & 0x7FFFFFFF
-        seal(w, place(i) // 128)
+        i, j = at_record(w, i), at_record(w, j)
+        w[i] = w[i] & (1 << 31) | w[j] & 0x7FFFFFFF
+        seal(w, i // 128)
         if r.random() < 0.2:
             at = 128 * (count - 1) + r.choice([1, 2, 125, 127])
             w[at] = r.getrandbits(32)
@@ -179,11 +205,11 @@ def trim_list(r, n=None, damaged=0.4):
 # ---- conversions
 def conversion(r):
     way = r.randrange(3)
-    t = r.choice([1, 2, 24, 1000, 24000, 30000, 90000, 999999, 1000000, r.randint(1, 1000000)])
+    t = r.choice([1, 2, 24, 1000, 24000, 30000, 90000, 999999, 1000000, 999999999, 1000000000, r.randint(1, 1000000), r.randint(1, 1000000000)])
     if r.random() < 0.02:
-        t = r.choice([0, 1000001, 0xFFFFFFFF])
+        t = r.choice([0, 1000000001, 0xFFFFFFFF])
     u = r.choice([100, 1000]) if r.random() < 0.97 else r.choice([0, 1, 99, 101, 999, 1001])
-    limit = 1 << 36 if way == 0 else 1 << 52
+    limit = 1 << 36 if way == 0 else 1 << 53
     v = r.choice([r.randint(0, 5000), r.randint(0, 1 << 30), r.randint(0, limit), r.randint(0, limit), limit - r.randint(0, 3)])
     if r.random() < 0.04:
         v = r.choice([limit + r.randint(1, 3), r.getrandbits(64)])
@@ -196,7 +222,7 @@ def conversion(r):
 TAGS = [r'{\move(1,2,3,4)}', r'{\t(0,5,\fs1)}', r'{\fad(1,2)}', r'{\fade(255,0,0,1,2,3,4)}', r'{\k20}', r'{\kf20}', r'{\K20}', r'{\mov(}', r'\fa',
         r'\t', r'\\k', '\\', r'{\pos(1,2)}', r'\fade', r'\move (']
 WORDS = ['Hello', 'a', '本編', 'é', '字幕、テスト', '😀', ',', ', ', '-->', ' --> ', '0:00:01.00', '00:00:01,000', 'x' * 40, '\ufeff', '\r', '[Events]', '\u3000', '']
-TIMESCALES = [1, 2, 24, 100, 999, 1000, 1001, 24000, 30000, 30000, 30000, 60000, 90000, 1000000]
+TIMESCALES = [1, 2, 24, 100, 999, 1000, 1001, 24000, 30000, 30000, 30000, 60000, 90000, 1000000, 999999999, 1000000000]
 MOST = {100: 9999 * 360000 + 359999, 1000: 9999 * 3600000 + 3599999}
 
 
@@ -417,9 +443,9 @@ def given_map(r, t):
         r.shuffle(rows)
     if rows and r.random() < 0.05:
         k = r.randrange(len(rows))
-        rows[k][r.choice([0, 1, 2, 3, 4, 5])] = r.choice([0, 1, 4294967295, 4294967296, (1 << 52) - 1, 1 << 52, (1 << 52) + 1, (1 << 64) - 1])
+        rows[k][r.choice([0, 1, 2, 3, 4, 5])] = r.choice([0, 1, 4294967295, 4294967296, (1 << 53) - 1, 1 << 53, (1 << 53) + 1, (1 << 64) - 1])
     if rows and r.random() < 0.05:  # output far behind
-        o = (1 << 52) - at - r.choice([0, 0, 1, 5, 1000])
+        o = max(0, (1 << 53) - at - r.choice([0, 0, 1, 5, 1000]))
         for row in rows:
             row[4] = min(row[4] + o, (1 << 64) - 1)
     edges = [x for row in rows for x in (row[2], row[2] + row[5])]
@@ -428,12 +454,12 @@ def given_map(r, t):
 
 def through_given(r):
     kind = r.randrange(2)
-    t = r.choice(TIMESCALES + [r.randint(1, 1000000)])
+    t = r.choice(TIMESCALES + [r.randint(1, 1000000000)])
     numbers, edges, span = given_map(r, t)
     x = struct.pack('<%dQ' % len(numbers), *numbers)
     if r.random() < 0.005:
         x = x[:r.randrange(len(x) + 1)]
-    a = t if r.random() < 0.998 else r.choice([0, 1000001, 0xFFFFFFFF])
+    a = t if r.random() < 0.998 else r.choice([0, 1000000001, 0xFFFFFFFF])
     return case(5, a, kind if r.random() < 0.998 else 2, 0, plan(r), x, b'', caption_text(r, kind, t, edges, span))
 
 
@@ -456,13 +482,14 @@ def through_made(r):
         n, gap = r.randint(1, 150), r.choice([1, 1, 2, 3, 5])
         w = sheet_words(r, n)
         for i in range(n):
-            w[place(i)] = i | (1 << 31 if i % gap == 0 else 0)
+            w[at_record(w, i)] = i | (1 << 31 if i % gap == 0 else 0)
         for b in range(len(w) // 128):
             seal(w, b)
     n, t = w[2], w[1]
     sums = [0]
     for i in range(n):
-        sums.append(sums[-1] + w[place(i) + 1])
+        at = at_record(w, i)
+        sums.append(sums[-1] + w[at + 1] + (w[at + 2] << 32 if w[5] == 1 else 0))
     x = as_bytes(w) if r.random() < 0.98 else sheet(r, 1.0)
     return case(3, r.randrange(2) if r.random() < 0.995 else 2, kind, work_lent(r, n) if r.random() < 0.1 else 0, plan(r), x, fitting_list(r, n, gap) if gap else trim_list(r, n, 0.03),
                 caption_text(r, kind, t, sums, sums[-1]))
@@ -581,9 +608,9 @@ def number_of(case):
     if op == 5:
         w = struct.unpack('<%dQ' % (n // 8), case[32:32 + n // 8 * 8])
         rows = [w[i:i + 6] for i in range(0, len(w), 6)]
-        if not 1 <= a <= 1000000 or len(w) % 6 or len(rows) > 1024:
+        if not 1 <= a <= 1000000000 or len(w) % 6 or len(rows) > 1024:
             return 15
-        if any(max(x[0], x[1], x[3]) > 0xFFFFFFFF or x[2] + x[5] > 1 << 52 or x[4] + x[5] > 1 << 52 for x in rows):
+        if any(max(x[0], x[1], x[3]) > 0xFFFFFFFF or x[2] + x[5] > 1 << 53 or x[4] + x[5] > 1 << 53 for x in rows):
             return 15
         if b > 1:
             return 16

@@ -104,10 +104,11 @@ fn conversions() {
     assert_eq!(ticks_to_units_ceil(end - 3003, 30000, Kind::Ass), Ok(15));
     assert_eq!(units_to_ticks(1 << 36, 1, Kind::Srt), Ok((1u64 << 36) / 1000));
     assert_eq!(units_to_ticks((1 << 36) + 1, 1, Kind::Srt), Err(Refused(16)));
-    assert_eq!(ticks_to_units_floor(1 << 52, 1_000_000, Kind::Ass), Ok((1u64 << 52) / 10_000));
-    assert_eq!(ticks_to_units_ceil((1 << 52) + 1, 1, Kind::Ass), Err(Refused(16)));
+    assert_eq!(ticks_to_units_floor(1 << 53, 1_000_000, Kind::Ass), Ok((1u64 << 53) / 10_000));
+    assert_eq!(ticks_to_units_ceil((1 << 53) + 1, 1, Kind::Ass), Err(Refused(16)));
+    assert_eq!(units_to_ticks(1 << 36, 1_000_000_000, Kind::Ass), Ok(687194767360000000));
     assert_eq!(units_to_ticks(1, 0, Kind::Ass), Err(Refused(15)));
-    assert_eq!(units_to_ticks(1, 1_000_001, Kind::Ass), Err(Refused(15)));
+    assert_eq!(units_to_ticks(1, 1_000_000_001, Kind::Ass), Err(Refused(15)));
     // a bad timescale comes before a bad kind, and the value of a refusal is 0
     assert_eq!(raw::units_number(u64::MAX, 0, 2), 15);
     assert_eq!(raw::units_number(5, 1, 2), 16);

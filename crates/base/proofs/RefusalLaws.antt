@@ -5,7 +5,7 @@ use mathlib.Core.Path.{_≡_, refl, sym, ap, subst, _∙_}
 use native.Mathlib.Omega.{arith}
 use native.Mathlib.Numerals.{add-one}
 use native.Mathlib.Nat.{eq-or-lt-of-le}
-use mathlib.Core.Logic.{⊎-elim}
+use mathlib.Core.Logic.{_⊎_, inl, inr, ⊎-elim}
 use Rattle.base.specs.Refusal.{_orElse_, faultUnless, firstOf}
 
 -- a test that held, and one that failed
@@ -39,6 +39,12 @@ pub else-zero : (a b : ℕ) → a orElse b ≡ 0 → (a ≡ 0) × (b ≡ 0)
 unfolding _orElse_
 else-zero zero b e = (refl, e)
 else-zero (suc a) b e = absurd (omega arith)
+
+-- where an answer comes from
+pub else-either : (a b v : ℕ) → a orElse b ≡ v → (a ≡ v) ⊎ ((a ≡ 0) × (b ≡ v))
+unfolding _orElse_
+else-either zero b v e = inr (refl, e)
+else-either (suc a) b v e = inl e
 
 -- the first is the result r of a call: r has a fault and is returned; r has none and v, the answer of the rest, is returned
 pub else-here : (a b r : ℕ) → r ≡ a → (r ≡ 0 → ⊥) → r ≡ a orElse b

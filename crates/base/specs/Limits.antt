@@ -2,7 +2,7 @@
 use Prim.Native.Nat.{ℕ, _*_, _^_}
 
 -- ---- the frame sheet (13)
--- T, ticks a second, in a sheet
+-- T, ticks a second, in a sheet of the first layout
 abbrev pub mostSheetTimescale : ℕ
 mostSheetTimescale = 1000000
 
@@ -30,15 +30,16 @@ abbrev pub mostFrame : ℕ
 mostFrame = 4294967295
 
 -- ---- conversions (15 for T, 16 for the value)
--- T in conversions and sessions
+-- T in conversions and sessions, and in a sheet of the second layout (13)
 abbrev pub mostTimescale : ℕ
-mostTimescale = 1000000
+mostTimescale = 1000000000
 
 abbrev pub mostUnits : ℕ
 mostUnits = 2 ^ 36
 
+-- also the ends of a map (15), and what the durations of a sheet or a map have together (26)
 abbrev pub mostTicks : ℕ
-mostTicks = 2 ^ 52
+mostTicks = 2 ^ 53
 
 -- ---- the map (15, and 16 for the lent records)
 abbrev pub mostSegments : ℕ

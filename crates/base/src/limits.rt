@@ -1,6 +1,6 @@
 // The limits of document 01; specs/Limits has the same as definitions.
 
-// Ticks a second in a frame sheet.
+// Ticks a second in a frame sheet of the first layout.
 pub const MOST_SHEET_TIMESCALE: u32 = 1000000;
 
 // Frames of a sheet.
@@ -18,12 +18,12 @@ pub const MOST_PLACES: usize = 2048;
 
 pub const MOST_FRAME: u32 = 4294967295;
 
-// Ticks a second in conversions and sessions, and the values that a lone conversion takes.
-pub const MOST_TIMESCALE: u32 = 1000000;
+// Ticks a second in conversions, sessions and sheets of the second layout, and the values that a lone conversion takes.
+pub const MOST_TIMESCALE: u32 = 1000000000;
 
 pub const MOST_UNITS: u64 = 68719476736;
 
-pub const MOST_TICKS: u64 = 4503599627370496;
+pub const MOST_TICKS: u64 = 9007199254740992;
 
 // Segments of a map.
 pub const MOST_SEGMENTS: usize = 1024;

@@ -26,7 +26,7 @@ use Rattle.event.specs.Emit.{cueEmit, emitBy, emitOf}
 use Rattle.event.specs.Told.{answered, cueIn, partIn}
 use Rattle.event.proofs.DecideLaws.{Fits, fits}
 
--- ---- a setting within the limits: a known kind, and T from 1 to 1,000,000
+-- ---- a setting within the limits: a known kind, and T from 1 to 1,000,000,000
 pub record Set (c : Config) : Type 0 where
   pub kind-known : kindBad (c .kind) ≡ false
   pub timescale-good : timescaleBad (c .timescale) ≡ false

@@ -1,13 +1,10 @@
 -- The four calls through demand 3: what they told is what the plain reader tells, for both kinds, any two pieces and any buffers of these lengths.
 use mathlib.Core.Path.{_≡_, refl, sym, ap, subst, _∙_}
 use mathlib.Core.Logic.{inl}
-use mathlib.Core.Bool.{Bool, true, false, cond, true≢false}
-use mathlib.Core.List.{List, [], _∷_}
-use Prim.Native.Nat.{ℕ, zero, suc, _<_}
-use native.Mathlib.Omega.{arith}
-use lib.Dec.{ltb}
-use lib.ListN.{length, getD}
-use borrow.Author.Tests.{ltb-true}
+use mathlib.Core.Bool.{false}
+use mathlib.Core.List.{List, []}
+use Prim.Native.Nat.{ℕ}
+use lib.ListN.{length}
 use Rattle.base.specs.Limits.{mostWork}
 use Rattle.sheet_vectors.specs.Small.{smallSheet}
 use Rattle.time.specs.Kind.{kindBad}
@@ -31,35 +28,13 @@ use Rattle.promise.proofs.ThePromise.{built-opens, promise}
 use Rattle.example.specs.Worked.{lentMap, plainMap, openAnswer, four, fourCalls, madeCalls, toldBy, readBy, plainFour}
 use Rattle.example.proofs.RunsExist.{made-ran}
 
--- ---- the sheet's bytes
-abbrev allBytes : List ℕ → Bool
-allBytes [] = true
-allBytes (b ∷ l) = cond (ltb b 256) (allBytes l) false
-
-byte-onto : (b : ℕ) (l : List ℕ) (t : Bool) → ltb b 256 ≡ t → cond t (allBytes l) false ≡ true → (allBytes l ≡ true → (j : ℕ) → getD l j 0 < 256)
-    → (j : ℕ) → getD (b ∷ l) j 0 < 256
-byte-onto b l true p e h zero = ltb-true b 256 p
-byte-onto b l true p e h (suc j) = h e j
-byte-onto b l false p e h j = absurd (true≢false (sym e))
-
-byte-at : (l : List ℕ) → allBytes l ≡ true → (j : ℕ) → getD l j 0 < 256
-byte-at [] e j = omega arith
-byte-at (b ∷ l) e j = byte-onto b l (ltb b 256) refl e (byte-at l) j
-
-all-bytes : allBytes smallSheet ≡ true
-unfolding smallSheet
-all-bytes = refl
-
-sheet-bytes : (j : ℕ) → getD smallSheet j 0 < 256
-sheet-bytes j = byte-at smallSheet all-bytes j
-
 map-number : theMap .number ≡ 0
 map-number = ap (λ (x : Map). x .number) map-is
 
 -- ---- the session
 module _ (kind : ℕ) (k : kindBad kind ≡ false) where
   opens-0 : openSession kit (configOf kind (theMap .timescale)) lentMap .number ≡ 0
-  opens-0 = built-opens smallSheet theList 0 6144 mostWork sheet-bytes map-number kind k
+  opens-0 = built-opens smallSheet theList 0 6144 mostWork map-number kind k
 
   open-is : openSession kit (configOf kind (theMap .timescale)) lentMap ≡ record { number = 0; session = fresh kit (setting kind); emits = [] }
   open-is =
@@ -82,7 +57,7 @@ module _ (kind : ℕ) (k : kindBad kind ≡ false) (first rest out short places 
   -- the premises are met, and demand 3 holds of the list
   pub demanded : Demand (configOf kind (theMap .timescale)) lentMap (callsOf calls) (outcome (openAnswer kind .session) calls)
   demanded =
-      promise smallSheet theList 0 6144 mostWork kind sheet-bytes map-number k (openAnswer kind) (opens kind k) .kept calls
+      promise smallSheet theList 0 6144 mostWork kind map-number k (openAnswer kind) (opens kind k) .kept calls
       (inl refl, (inl refl, (inl refl, (inl refl, tt))))
       (made-ran (openAnswer kind .session) (four lentMap first rest out short places))
 

@@ -3,7 +3,7 @@ use order::DecodeIdx;
 use order::DisplayIdx;
 ghost use mathlib.Core.Path.{_≡_};
 ghost use Prim.Native.Nat.{_<_, _^_};
-ghost use Rattle.frames.specs.Frames.{timescaleOf, framesOf, rateNumOf, rateDenOf, recordWord, decodeIn, decodeOf, syncOf, durationOf};
+ghost use Rattle.frames.specs.Frames.{timescaleOf, framesOf, rateNumOf, rateDenOf, longOf, recordWord, decodeIn, decodeBy, decodeOf, syncOf, durationOf};
 
 // T, ticks a second.
 pub fn timescale(s: &[u8]) -> u32
@@ -33,11 +33,21 @@ pub fn rate_den(s: &[u8]) -> u32
     blocks::word(s, 4)
 }
 
-// Where record i starts, in words: 128 to each block from block 1 on, of which its 63 records take 126.
-fn record_word(i: u32) -> usize
-    ensures { λ r. ⌜ (r ≡ recordWord i) × (r < 2 ^ 39) ⌝ }
+// Whether a record's duration has two words.
+pub fn long(s: &[u8]) -> bool
+    ensures { λ r. ⌜ r ≡ longOf (now (s .entry)) ⌝ }
+{
+    blocks::word(s, 5) == 1
+}
+
+// Where record i starts, in words: 128 to each block from block 1 on, of which its records, 63 of two words or 42 of three, take 126.
+fn record_word(long: bool, i: u32) -> usize
+    ensures { λ r. ⌜ (r ≡ recordWord long i) × (r < 2 ^ 39) ⌝ }
 {
     let k = i as usize;
+    if long {
+        return 129 + 2 * (k / 42) + 3 * k;
+    }
     129 + 2 * (k / 63 + k)
 }
 
@@ -48,19 +58,26 @@ pub fn decode_in(first: u32) -> DecodeIdx
     DecodeIdx(first % 2147483648)
 }
 
+// The decode index of a display frame, by a layout that is told: for a pass over all records.
+pub fn decode_by(s: &[u8], long: bool, i: DisplayIdx) -> DecodeIdx
+    ensures { λ r. ⌜ r .0 ≡ decodeBy long (now (s .entry)) (i .0) ⌝ }
+{
+    let w = record_word(long, i.0);
+    decode_in(blocks::word(s, w))
+}
+
 // The decode index of a display frame.
 pub fn decode_at(s: &[u8], i: DisplayIdx) -> DecodeIdx
     ensures { λ r. ⌜ r .0 ≡ decodeOf (now (s .entry)) (i .0) ⌝ }
 {
-    let w = record_word(i.0);
-    decode_in(blocks::word(s, w))
+    decode_by(s, long(s), i)
 }
 
 // Whether a display frame is a sync frame.
 pub fn sync_at(s: &[u8], i: DisplayIdx) -> bool
     ensures { λ r. ⌜ r ≡ syncOf (now (s .entry)) (i .0) ⌝ }
 {
-    let w = record_word(i.0);
+    let w = record_word(long(s), i.0);
     2147483648 <= blocks::word(s, w)
 }
 
@@ -68,6 +85,11 @@ pub fn sync_at(s: &[u8], i: DisplayIdx) -> bool
 pub fn duration_at(s: &[u8], i: DecodeIdx) -> u64
     ensures { λ r. ⌜ r ≡ durationOf (now (s .entry)) (i .0) ⌝ }
 {
-    let w = record_word(i.0);
-    blocks::word(s, w + 1) as u64
+    let two = long(s);
+    let w = record_word(two, i.0);
+    let low = blocks::word(s, w + 1) as u64;
+    if two {
+        return low + 4294967296 * (blocks::word(s, w + 2) as u64);
+    }
+    low
 }

@@ -55,7 +55,7 @@ map-over : (m : List ℕ) → length m ≡ 6150 → mapBad m ≡ true
 unfolding mapBad
 map-over m e = rw e
 
-timescales : (timescaleBad 0 ≡ true) × (timescaleBad 1 ≡ false) × (timescaleBad 1000000 ≡ false) × (timescaleBad 1000001 ≡ true)
+timescales : (timescaleBad 0 ≡ true) × (timescaleBad 1 ≡ false) × (timescaleBad 1000000000 ≡ false) × (timescaleBad 1000000001 ≡ true)
 unfolding timescaleBad
 timescales = (refl, refl, refl, refl)
 

@@ -2,9 +2,9 @@
 use mathlib.Core.Path.{_≡_, refl, sym, ap, subst, _∙_}
 use mathlib.Core.Bool.{Bool, true, false, _||_}
 use mathlib.Core.List.{List}
-use Prim.Native.Nat.{ℕ, _≤_, _<_}
+use Prim.Native.Nat.{ℕ, _≤_}
 use native.Mathlib.Omega.{arith}
-use lib.ListN.{length, getD}
+use lib.ListN.{length}
 use Rattle.base.specs.Limits.{mostHeld}
 use Rattle.sheet.proofs.SheetLaws.{sound-head}
 use Rattle.time.specs.Kind.{kindBad}
@@ -76,7 +76,7 @@ promise-records kind T xs o a z cs p r =
     (d, subst (λ (m : List Segment). AllRight (configOf kind T) m (saidIn (configOf kind T) (callsOf cs) .parts)) (flat-back xs) (d .fates))
 
 -- ---- the map that is built opens with 0
-module _ (sheet list : List ℕ) (d l w : ℕ) (bytes : (j : ℕ) → getD sheet j 0 < 256) (e : mapOf sheet list d l w .number ≡ 0) where
+module _ (sheet list : List ℕ) (d l w : ℕ) (e : mapOf sheet list d l w .number ≡ 0) where
   built-number : mapNumber sheet list d l w ≡ 0
   built-number = sym (map-number sheet list d l w) ∙ e
 
@@ -89,12 +89,12 @@ module _ (sheet list : List ℕ) (d l w : ℕ) (bytes : (j : ℕ) → getD sheet
   built-opens kind k =
       ap (λ (x : model.Answer Columns). x .number)
       (opens-fresh kit (configOf kind (mapOf sheet list d l w .timescale)) (flatOf (mapOf sheet list d l w .segments))
-      (record { timescale-good = built-timescale; map-good = made-good sheet list d l w built-number bytes; kind-known = k }))
+      (record { timescale-good = built-timescale; map-good = made-good sheet list d l w built-number; kind-known = k }))
 
 -- DEMAND 3 from the bytes of a sheet and a trim list
 pub promise : Promise
-promise sheet list d l w kind bytes e k o a =
-    let z = open-number kind (mapOf sheet list d l w .timescale) (flatOf (mapOf sheet list d l w .segments)) o a ∙ built-opens sheet list d l w bytes e kind k in
+promise sheet list d l w kind e k o a =
+    let z = open-number kind (mapOf sheet list d l w .timescale) (flatOf (mapOf sheet list d l w .segments)) o a ∙ built-opens sheet list d l w e kind k in
     record {
       opens = z;
       kept = promise-opened kind (mapOf sheet list d l w .timescale) (flatOf (mapOf sheet list d l w .segments)) o a z;

@@ -32,13 +32,13 @@ pub record Bounds : Type 0 where
       → readerRefusal (having t) (feed (lending m 32768 4096) p) ≡ 0
   pub taken-next : (m t p : List ℕ) → mapBad m ≡ false → length p ≡ 1024 → length t + length p ≡ 1073741825
       → readerRefusal (having t) (feed (lending m 32768 4096) p) ≡ 16
-  -- 15: at most 1,024 segments, six numbers to each; T from 1 to 1,000,000
+  -- 15: at most 1,024 segments, six numbers to each; T from 1 to 1,000,000,000
   pub segments-most : (m : List ℕ) → length m ≡ 6144 → anyBad (segmentsOf m) ≡ false → readerRefusal (having []) (finish (lending m 32768 4096)) ≡ 0
   pub segments-next : (m : List ℕ) → length m ≡ 6150 → readerRefusal (having []) (finish (lending m 32768 4096)) ≡ 15
   pub timescale-none : timescaleBad 0 ≡ true
   pub timescale-least : timescaleBad 1 ≡ false
-  pub timescale-most : timescaleBad 1000000 ≡ false
-  pub timescale-next : timescaleBad 1000001 ≡ true
+  pub timescale-most : timescaleBad 1000000000 ≡ false
+  pub timescale-next : timescaleBad 1000000001 ≡ true
   -- 19: a line of at most 4,096 bytes, the three of a BOM before it counted
   pub line-most : (l : List ℕ) → length l ≡ 4096 → utf8 l ≡ true → lineFault 0 l ≡ 0
   pub line-next : (l : List ℕ) → length l ≡ 4097 → lineFault 0 l ≡ 19

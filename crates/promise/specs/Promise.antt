@@ -16,8 +16,7 @@
 -- Beside its words: a caption that is written, read again, gives the times written (Demand: `again`), and open answers 0 (`opens`).
 use mathlib.Core.Path.{_≡_}
 use mathlib.Core.List.{List}
-use Prim.Native.Nat.{ℕ, _<_}
-use lib.ListN.{getD}
+use Prim.Native.Nat.{ℕ}
 use Rattle.time.specs.Kind.{kindBad}
 use mathlib.Core.Bool.{false}
 use Rattle.segment.specs.declared.segment.Segment.{Segment}
@@ -57,6 +56,6 @@ pub record Holds (sheet list : List ℕ) (direction lent work kind : ℕ) (o : O
 
 abbrev pub Promise : Type 0
 Promise =
-    (sheet list : List ℕ) (direction lent work kind : ℕ) → ((j : ℕ) → getD sheet j 0 < 256) → mapOf sheet list direction lent work .number ≡ 0 → kindBad kind ≡ false
+    (sheet list : List ℕ) (direction lent work kind : ℕ) → mapOf sheet list direction lent work .number ≡ 0 → kindBad kind ≡ false
     → (o : Opened) → OpenAnswered kind (mapOf sheet list direction lent work .timescale) (flatOf (mapOf sheet list direction lent work .segments)) o
     → Holds sheet list direction lent work kind o

@@ -8,13 +8,13 @@ use native.Mathlib.Omega.{arith}
 use borrow.Author.Tests.{le-leb, lt-leb}
 use lib.Dec.{leb}
 use Rattle.base.specs.Refusal.{_orElse_, faultUnless}
-use Rattle.frames.specs.Frames.{framesOf, decodeOf, syncOf}
+use Rattle.frames.specs.Frames.{framesOf, decodeOf, syncOf, ticksFrom}
 use Rattle.text.specs.Line.{blank}
 use Rattle.plan.specs.Snap.{lastBelow, firstFrom, floorSync, ceilSync, snapStart, snapEnd, snapAll, overlapsFault}
 use Rattle.plan.proofs.SnapMeaning.{NoSync, LastSync, FirstSync, floor-only, ceil-only}
 use Rattle.segment.specs.declared.segment.Segment.{Segment}
 use Rattle.segment.specs.Segment.{segment}
-use Rattle.segmap.specs.Build.{ticksFrom, sourceStart, rangeTicks, rangeFault, rangesFault, segmentIn, segmentsIn}
+use Rattle.segmap.specs.Build.{sourceStart, rangeTicks, rangeFault, rangesFault, segmentIn, segmentsIn}
 use Rattle.segmap.specs.Map.{rangesFor, snappedOf}
 
 below-one : (s : List ℕ) (k : ℕ) → k ≤ 1 → lastBelow s k ≡ 0

@@ -6,17 +6,17 @@ use native.Mathlib.Omega.{arith}
 use borrow.Author.Tests.{le-leb, lt-leb, leb-true}
 use lib.ListN.{length, take, getD, length-take}
 use lib.Seq.{sets}
-use Rattle.base.specs.Limits.{mostFrames}
+use Rattle.base.specs.Limits.{mostFrames, mostTicks}
 use Rattle.base.specs.Put.{put}
 use Rattle.base.specs.Refusal.{_orElse_, faultUnless}
 use Rattle.base.proofs.PutLaws.{sets-put}
 use Rattle.base.proofs.RefusalLaws.{held, else-zero, else-none, else-found}
-use Rattle.frames.specs.Frames.{decodeOf}
+use Rattle.frames.specs.Frames.{decodeOf, ticksFrom}
 use Rattle.plan.proofs.PairLaws.{leftOf, pairs-start, left-cut, left-short, pairs-done}
 use Rattle.segment.specs.declared.segment.Segment.{Segment}
 use Rattle.segment.specs.Segment.{segment, numbersOf, flatOf}
-use Rattle.segmap.specs.Build.{ticksFrom, sourceStart, rangeTicks, rangeFault, rangesFault, segmentIn, segmentsIn}
-use Rattle.segmap.proofs.TicksLaws.{ticks-split}
+use Rattle.segmap.specs.Build.{sourceStart, rangeTicks, keptTicks, rangeFault, rangesFault, segmentIn, segmentsIn}
+use Rattle.frames.proofs.TicksLaws.{ticks-split, ticks-more}
 
 -- ---- one range: k its frame count and x the decode index of its start
 module _ (s : List ℕ) (n a e : ℕ) where
@@ -143,6 +143,32 @@ module _ (s : List ℕ) where
       ∙ ap (λ (u : List ℕ). sets m (6 * i) (flatOf (segmentsIn s o u))) (pairs-done l count i h)
       ∙ ap (sets m (6 * i)) (flat-none o))
 
+  -- their durations together: o those of the segments written
+  kept-cut : (a e : ℕ) (r : List ℕ) → keptTicks s (a ∷ e ∷ r) ≡ rangeTicks s a e + keptTicks s r
+  unfolding keptTicks
+  kept-cut a e r = refl
+
+  kept-none : keptTicks s [] ≡ 0
+  unfolding keptTicks
+  kept-none = refl
+
+  abbrev pub Adding : (l : List ℕ) (count i o : ℕ) → Type 0
+  Adding l count i o = o + keptTicks s (leftOf l count i) ≡ keptTicks s (take (2 * count) l)
+
+  pub adding-start : (l : List ℕ) (count : ℕ) → Adding l count 0 0
+  adding-start l count = omega (arith, ap (keptTicks s) (pairs-start l count))
+
+  pub adding-next : (l : List ℕ) (count i o : ℕ) (t : Segment) → Adding l count i o → i < count → 2 * count ≤ length l
+      → t ≡ segmentIn s o (getD l (2 * i) 0) (getD l (2 * i + 1) 0) → Adding l count (i + 1) (o + t .duration)
+  adding-next l count i o t inv h k e =
+      let a : ℕ = getD l (2 * i) 0 in
+      let b : ℕ = getD l (2 * i + 1) 0 in
+      let d : rangeTicks s a b ≡ t .duration = sym (segment-duration o a b) ∙ ap (λ (x : Segment). x .duration) (sym e) in
+      omega (arith, d, ap (keptTicks s) (left-cut l count i h (omega arith)), kept-cut a b (leftOf l count (i + 1)))
+
+  pub adding-done : (l : List ℕ) (count i o : ℕ) → Adding l count i o → count ≤ i → o ≡ keptTicks s (take (2 * count) l)
+  adding-done l count i o inv h = omega (arith, ap (keptTicks s) (pairs-done l count i h), kept-none)
+
 -- the ranges that are left have no fault: neither has the next one, nor have those after it
 module _ (s : List ℕ) (n : ℕ) (l : List ℕ) (count i : ℕ) (z : rangesFault s n (leftOf l count i) ≡ 0) (h : i < count) (k : 2 * count ≤ length l) where
   free : (rangeFault s n (getD l (2 * i) 0) (getD l (2 * i + 1) 0) ≡ 0) × (rangesFault s n (leftOf l count (i + 1)) ≡ 0)
@@ -156,3 +182,12 @@ module _ (s : List ℕ) (n : ℕ) (l : List ℕ) (count i : ℕ) (z : rangesFaul
 
   pub free-within : n ≤ mostFrames → decodeOf s (getD l (2 * i) 0) + (getD l (2 * i + 1) 0 - getD l (2 * i) 0) ≤ mostFrames
   free-within m = omega (arith, fault-free s n (getD l (2 * i) 0) (getD l (2 * i + 1) 0) (free .0) .1)
+
+  pub free-summed : ticksFrom s 0 n ≤ mostTicks
+      → ticksFrom s 0 (decodeOf s (getD l (2 * i) 0) + (getD l (2 * i + 1) 0 - getD l (2 * i) 0)) ≤ mostTicks
+  free-summed m =
+      omega (
+        arith,
+        ticks-more s (decodeOf s (getD l (2 * i) 0) + (getD l (2 * i + 1) 0 - getD l (2 * i) 0)) n
+            (fault-free s n (getD l (2 * i) 0) (getD l (2 * i + 1) 0) (free .0) .1),
+      )

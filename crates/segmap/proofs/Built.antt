@@ -6,7 +6,7 @@ use mathlib.Core.List.{List, [], _∷_}
 use Prim.Native.Nat.{ℕ, zero, suc, _+_, _-_, _*_, _%_, _≤_, _<_}
 use native.Mathlib.Omega.{arith}
 use native.Mathlib.Nat.{zero-add}
-use borrow.Author.Tests.{le-ltb, eq-eqb, leb-true}
+use borrow.Author.Tests.{le-ltb, le-leb, eq-eqb, leb-true}
 use lib.Dec.{leb}
 use lib.ListN.{length, getD, take}
 use Rattle.base.specs.Limits.{mostFrames, mostFrame, mostTicks, mostSegments}
@@ -14,13 +14,13 @@ use Rattle.base.specs.Put.{put}
 use Rattle.base.specs.Refusal.{_orElse_, faultUnless}
 use Rattle.base.proofs.Laws.{yes!, no! }
 use Rattle.base.proofs.PutLaws.{put-nil, take-put}
-use Rattle.base.proofs.RefusalLaws.{else-zero, held}
-use Rattle.frames.specs.Frames.{framesOf, timescaleOf, decodeOf, durationOf}
+use Rattle.base.proofs.RefusalLaws.{else-zero, else-either, held, unless-held}
+use Rattle.frames.specs.Frames.{framesOf, timescaleOf, longOf, decodeOf, durationOf, ticksFrom}
 use Rattle.once.specs.Once.{EachOnce}
 use Rattle.once.proofs.NamedLaws.{sum, display-sum}
 use Rattle.sheet.specs.Sheet.{sheetFault, sheetNumber}
 use Rattle.base.proofs.RefusalNumbers.{else-numbers, unless-numbers}
-use Rattle.sheet.proofs.SheetLaws.{SheetNumber, sheet-numbers, checked, sound-head}
+use Rattle.sheet.proofs.SheetLaws.{SheetNumber, sheet-numbers, sheet-short, checked, sound-head}
 use Rattle.trim.specs.TrimList.{listNumber}
 use Rattle.trim.proofs.RangeLaws.{OfList, list-number-table}
 use Rattle.plan.specs.Snap.{overlapsFault}
@@ -28,20 +28,21 @@ use Rattle.plan.proofs.SnapMeaning.{Bounded, snap-bounded, overlap-numbers, ove
 use Rattle.segment.specs.declared.segment.Segment.{Segment}
 use Rattle.segmap.specs.declared.whole.Made.{Made}
 use Rattle.segment.specs.Segment.{segment, flatOf, endBad, segmentBad, anyBad, mapBad}
-use Rattle.segmap.specs.Build.{ticksFrom, sourceStart, rangeTicks, rangeFault, rangesFault, segmentIn, segmentsIn}
+use Rattle.segmap.specs.Build.{sourceStart, rangeTicks, keptTicks, rangeFault, rangesFault, keptNumber, segmentIn, segmentsIn}
 use Rattle.segmap.specs.Map.{rangesFor, keptCount, snappedOf, cutNumber, mapNumber, Map, mapAnswer, mapOf, madeOf}
 use Rattle.segment.proofs.SegmentLaws.{flat-back}
-use Rattle.segmap.proofs.TicksLaws.{ticks-none, ticks-split, ticks-more, ticks-most, ticks-within}
+use Rattle.frames.proofs.TicksLaws.{ticks-none, ticks-split, ticks-more, ticks-most, ticks-within}
+use Rattle.segmap.proofs.KeptLaws.{segments-count, flat-length}
 use Rattle.segmap.proofs.BuildLaws.{fault-free, faults-cut}
-use Rattle.segmap.proofs.MapLaws.{kept-few, kept-length, segments-count, snapped-length}
+use Rattle.segmap.proofs.MapLaws.{kept-few, kept-length, snapped-length}
 
--- ---- the numbers of the table: 0, 2 to 14, 16, 20 and 25
+-- ---- the numbers of the table: 0, 2 to 14, 16, 20, 25 and 26
 -- 0, or one of 2 to 14
 abbrev Told : ℕ → Type 0
 Told k = (k ≡ 0) ⊎ ((2 ≤ k) × (k ≤ 14))
 
 abbrev pub MapNumber : ℕ → Type 0
-MapNumber k = Told k ⊎ ((k ≡ 16) ⊎ ((k ≡ 20) ⊎ (k ≡ 25)))
+MapNumber k = Told k ⊎ ((k ≡ 16) ⊎ ((k ≡ 20) ⊎ ((k ≡ 25) ⊎ (k ≡ 26))))
 
 range-number : (s : List ℕ) (n a e : ℕ) → Told (rangeFault s n a e)
 unfolding rangeFault
@@ -68,9 +69,18 @@ of-list k (inr (inl h)) = inl (inr (h .0, omega (arith, h .1)))
 of-list k (inr (inr e)) = inr (inr (inl e))
 
 checked-number : (k : ℕ) → SheetNumber k → MapNumber k
-checked-number k n =
-    ⊎-elim (λ (e : k ≡ 0). inl (inl e))
-    (⊎-elim (λ (h : (11 ≤ k) × (k ≤ 14)). inl (inr (omega (arith, h .0), h .1))) (⊎-elim (λ (e : k ≡ 16). inr (inl e)) (λ (e : k ≡ 25). inr (inr (inr e))))) n
+checked-number k (inl e) = inl (inl e)
+checked-number k (inr (inl h)) = inl (inr (omega (arith, h .0), h .1))
+checked-number k (inr (inr (inl e))) = inr (inl e)
+checked-number k (inr (inr (inr (inl e)))) = inr (inr (inr (inl e)))
+checked-number k (inr (inr (inr (inr e)))) = inr (inr (inr (inr e)))
+
+kept-number : (s : List ℕ) (n : ℕ) (l : List ℕ) → MapNumber (keptNumber s n l)
+unfolding keptNumber
+kept-number s n l =
+    or-else (⊎-elim (λ e. inl (inl e)) (λ e. inl (inr (omega (arith, e), omega (arith, e)))) (overlap-numbers 0 l))
+    (or-else (inl (ranges-number s n l))
+    (unless-numbers MapNumber (inl (inl refl)) (leb (keptTicks s l) mostTicks) 26 (inr (inr (inr (inr refl))))))
 
 pub map-numbers : (sheet list : List ℕ) (d lent work : ℕ) → MapNumber (mapNumber sheet list d lent work)
 unfolding mapNumber cutNumber
@@ -79,8 +89,7 @@ map-numbers sheet list d lent work =
     (or-else (argument (leb d 1))
     (or-else (checked-number _ (sheet-numbers sheet work))
     (or-else (of-list (listNumber list) (list-number-table list))
-    (or-else (⊎-elim (λ e. inl (inl e)) (λ e. inl (inr (omega (arith, e), omega (arith, e)))) (overlap-numbers 0 (snappedOf sheet list d)))
-    (inl (ranges-number sheet (framesOf sheet) (snappedOf sheet list d)))))))
+    (kept-number sheet (framesOf sheet) (snappedOf sheet list d)))))
 
 -- no map has 1, which a blank list had in document 01
 never-of : (k : ℕ) → MapNumber k → k ≡ 1 → ⊥
@@ -88,18 +97,13 @@ never-of k (inl (inl z)) e = omega arith
 never-of k (inl (inr h)) e = omega (arith, h .0)
 never-of k (inr (inl z)) e = omega arith
 never-of k (inr (inr (inl z))) e = omega arith
-never-of k (inr (inr (inr z))) e = omega arith
+never-of k (inr (inr (inr (inl z)))) e = omega arith
+never-of k (inr (inr (inr (inr z)))) e = omega arith
 
 pub map-never-1 : (sheet list : List ℕ) (d lent work : ℕ) → mapNumber sheet list d lent work ≡ 1 → ⊥
 map-never-1 sheet list d lent work e = never-of (mapNumber sheet list d lent work) (map-numbers sheet list d lent work) e
 
 -- ---- segments of ranges that have passed 8, 9 and 10
--- their durations together
-unfoldable pub keptTicks : List ℕ → List ℕ → ℕ
-keptTicks s [] = 0
-keptTicks s (a ∷ []) = 0
-keptTicks s (a ∷ e ∷ r) = rangeTicks s a e + keptTicks s r
-
 -- source start and duration end where the sum of the samples up to there ends
 pub source-end : (s : List ℕ) (a e : ℕ) → sourceStart s a + rangeTicks s a e ≡ ticksFrom s 0 (decodeOf s a + (e - a))
 unfolding sourceStart rangeTicks
@@ -134,11 +138,11 @@ none-bad s n o (a ∷ e ∷ r) f b z t k =
     (segment-good a e (sourceStart s a) (e - a) o (rangeTicks s a e) (omega (arith, b .0)) (omega (arith, b .1 .0)) (omega (arith, b .1 .0)) p (omega arith))
     (none-bad s n (o + rangeTicks s a e) r f (b .1 .1) (h .1) t (omega arith))
 
--- ---- 32-bit durations give both sums
-module _ (s : List ℕ) (bytes : (j : ℕ) → getD s j 0 < 256) (n : ℕ) where
+-- ---- in the first layout, with durations of 32 bits, neither sum is above the limit: 26 does not occur
+module _ (s : List ℕ) (bytes : (j : ℕ) → getD s j 0 < 256) (short : longOf s ≡ false) (n : ℕ) where
   range-most : (a e : ℕ) → rangeTicks s a e ≤ 4294967295 * (e - a)
   unfolding rangeTicks
-  range-most a e = ticks-most s bytes (decodeOf s a) (e - a)
+  range-most a e = ticks-most s bytes short (decodeOf s a) (e - a)
 
   -- ranges that come one after the other from p on take no more than the frames from there
   kept-most : (p : ℕ) (l : List ℕ) → p ≤ n → Bounded n l → overlapsFault p l ≡ 0 → rangesFault s n l ≡ 0 → keptTicks s l ≤ 4294967295 * (n - p)
@@ -152,17 +156,12 @@ module _ (s : List ℕ) (bytes : (j : ℕ) → getD s j 0 < 256) (n : ℕ) where
       omega (arith, g .0, u .0, b .1 .0, range-most a e, kept-most e r (b .1 .0) (b .1 .1) (u .1) (w .1))
 
   pub samples-within : n ≤ mostFrames → ticksFrom s 0 n ≤ mostTicks
-  samples-within h = ticks-within s bytes 0 n h
+  samples-within h = ticks-within s bytes short 0 n h
 
   pub kept-within : (l : List ℕ) → n ≤ mostFrames → Bounded n l → overlapsFault 0 l ≡ 0 → rangesFault s n l ≡ 0 → keptTicks s l ≤ mostTicks
   kept-within l h b v z = omega (arith, kept-most 0 l (omega arith) b v z)
 
 -- ---- the flat numbers of segments
-pub flat-length : (xs : List Segment) → length (flatOf xs) ≡ 6 * length xs
-unfolding flatOf
-flat-length [] = refl
-flat-length (x ∷ xs) = omega (arith, flat-length xs)
-
 pub flat-good : (xs : List Segment) → length xs ≤ mostSegments → anyBad xs ≡ false → mapBad (flatOf xs) ≡ false
 unfolding mapBad
 flat-good xs h g =
@@ -285,9 +284,18 @@ pub record MadeParts (sheet list : List ℕ) (d lent work : ℕ) : Type 0 where
   pub direction : d ≤ 1
   pub sheet-sound : sheetFault sheet ≡ 0
   pub once : EachOnce sheet (framesOf sheet)
+  pub within : ticksFrom sheet 0 (framesOf sheet) ≤ mostTicks
   pub list-sound : listNumber list ≡ 0
   pub apart : overlapsFault 0 (snappedOf sheet list d) ≡ 0
   pub ranges : rangesFault sheet (framesOf sheet) (snappedOf sheet list d) ≡ 0
+  pub kept : keptTicks sheet (snappedOf sheet list d) ≤ mostTicks
+
+kept-parts : (s : List ℕ) (n : ℕ) (l : List ℕ) → keptNumber s n l ≡ 0 → (overlapsFault 0 l ≡ 0) × (rangesFault s n l ≡ 0) × (keptTicks s l ≤ mostTicks)
+unfolding keptNumber
+kept-parts s n l z =
+    let a = else-zero _ _ z in
+    let b = else-zero _ _ (a .1) in
+    (a .0, b .0, leb-true _ _ (held _ 26 (omega arith) (b .1)))
 
 module _ (sheet list : List ℕ) (d lent work : ℕ) (made : mapNumber sheet list d lent work ≡ 0) where
   -- it has passed every test
@@ -298,15 +306,17 @@ module _ (sheet list : List ℕ) (d lent work : ℕ) (made : mapNumber sheet lis
       let b = else-zero _ _ (a .1) in
       let c = else-zero _ _ (b .1) in
       let e = else-zero _ _ (c .1) in
-      let f = else-zero _ _ (e .1) in
+      let f = kept-parts sheet (framesOf sheet) (snappedOf sheet list d) (e .1) in
       record {
         room = leb-true _ _ (held _ 16 (omega arith) (a .0));
         direction = leb-true _ _ (held _ 16 (omega arith) (b .0));
         sheet-sound = checked sheet work (c .0) .fault;
         once = checked sheet work (c .0) .once;
+        within = checked sheet work (c .0) .within;
         list-sound = e .0;
         apart = f .0;
         ranges = f .1;
+        kept = f .2;
       }
 
   -- no sample of its sheet is played twice, and none is left out
@@ -353,17 +363,58 @@ module _ (sheet list : List ℕ) (d lent work : ℕ) (made : mapNumber sheet lis
   pub made-still : Still (mapOf sheet list d lent work .segments)
   made-still = subst Still (sym made-segments) (segments-still sheet 0 (snappedOf sheet list d))
 
-  -- where the sums of all samples and of what is kept are within the limit, open does not refuse it (15)
-  pub made-within : ticksFrom sheet 0 (framesOf sheet) ≤ mostTicks → keptTicks sheet (snappedOf sheet list d) ≤ mostTicks → mapBad (flatOf (mapOf sheet list d lent work .segments)) ≡ false
-  made-within t k =
+  -- the sums of all samples and of what is kept are within the limit, so open does not refuse it (15)
+  pub made-good : mapBad (flatOf (mapOf sheet list d lent work .segments)) ≡ false
+  made-good =
       let few : length (mapOf sheet list d lent work .segments) ≤ mostSegments = omega (arith, map-count sheet list d lent work, made-few) in
       flat-good (mapOf sheet list d lent work .segments) few
       (ap anyBad made-segments
-      ∙ none-bad sheet (framesOf sheet) 0 (snappedOf sheet list d) (sound-head sheet (made-parts .sheet-sound) .frames-high) made-bounded (made-parts .ranges) t (omega arith))
+      ∙ none-bad sheet (framesOf sheet) 0 (snappedOf sheet list d) (sound-head sheet (made-parts .sheet-sound) .frames-high) made-bounded (made-parts .ranges)
+      (made-parts .within) (omega (arith, made-parts .kept)))
 
-  -- and they are, since a sheet's durations are of 32 bits
-  pub made-good : ((j : ℕ) → getD sheet j 0 < 256) → mapBad (flatOf (mapOf sheet list d lent work .segments)) ≡ false
-  made-good bytes =
-      let few : framesOf sheet ≤ mostFrames = sound-head sheet (made-parts .sheet-sound) .frames-high in
-      made-within (samples-within sheet bytes (framesOf sheet) few)
-      (kept-within sheet bytes (framesOf sheet) (snappedOf sheet list d) few made-bounded (made-parts .apart) (made-parts .ranges))
+-- ---- in the first layout 26 does not occur
+told-other : (k : ℕ) → Told k → k ≡ 26 → ⊥
+told-other k (inl z) e = omega arith
+told-other k (inr h) e = omega (arith, h .1)
+
+argument-other : (t : Bool) → faultUnless t 16 ≡ 26 → ⊥
+argument-other t e =
+    ⊎-elim (λ (z : faultUnless t 16 ≡ 0). omega arith) (λ (z : faultUnless t 16 ≡ 16). omega arith)
+    (unless-numbers (λ (k : ℕ). (k ≡ 0) ⊎ (k ≡ 16)) (inl refl) t 16 (inr refl))
+
+list-other : (k : ℕ) → OfList k → k ≡ 26 → ⊥
+list-other k (inl z) e = omega arith
+list-other k (inr (inl h)) e = omega (arith, h .1)
+list-other k (inr (inr z)) e = omega arith
+
+module _ (sheet list : List ℕ) (d lent work : ℕ) (bytes : (j : ℕ) → getD sheet j 0 < 256) (short : longOf sheet ≡ false) where
+  abbrev l : List ℕ
+  l = snappedOf sheet list d
+
+  abbrev n : ℕ
+  n = framesOf sheet
+
+  -- the sheet and the list are sound
+  kept-other : sheetNumber sheet work ≡ 0 → listNumber list ≡ 0 → keptNumber sheet n l ≡ 26 → ⊥
+  unfolding keptNumber snappedOf
+  kept-other zs zl e =
+      let few : n ≤ mostFrames = sound-head sheet (checked sheet work zs .fault) .frames-high in
+      let b : Bounded n l = snap-bounded sheet n d (keptCount list) (rangesFor n list) (kept-length n list zl) in
+      ⊎-elim (λ o. ⊎-elim (λ z. omega (arith, z, o)) (λ z. omega (arith, z, o)) (overlap-numbers 0 l))
+      (λ o. ⊎-elim (told-other (rangesFault sheet n l) (ranges-number sheet n l))
+      (λ r.
+      let k : keptTicks sheet l ≤ mostTicks = kept-within sheet bytes short n l few b (o .0) (r .0) in
+      omega (arith, unless-held 26 (le-leb (keptTicks sheet l) mostTicks k), r .1))
+      (else-either _ _ 26 (o .1)))
+      (else-either _ _ 26 e)
+
+  pub map-short : mapNumber sheet list d lent work ≡ 26 → ⊥
+  unfolding mapNumber cutNumber
+  map-short e =
+      ⊎-elim (argument-other (leb (6 * mostSegments) lent))
+      (λ a. ⊎-elim (argument-other (leb d 1))
+      (λ b. ⊎-elim (sheet-short sheet work bytes short)
+      (λ c. ⊎-elim (list-other (listNumber list) (list-number-table list)) (λ f. kept-other (c .0) (f .0) (f .1)) (else-either _ _ 26 (c .1)))
+      (else-either _ _ 26 (b .1)))
+      (else-either _ _ 26 (a .1)))
+      (else-either _ _ 26 e)

@@ -8,13 +8,13 @@ use borrow.Author.Tests.{le-leb, lt-leb, eq-eqb, ne-eqb}
 use lib.Dec.{eqb}
 use Rattle.text.specs.Line.{blank}
 use lib.ListN.{length, take, set}
-use Rattle.base.specs.Limits.{mostFrames, mostPlaces, mostSegments}
+use Rattle.base.specs.Limits.{mostFrames, mostTicks, mostPlaces, mostSegments}
 use Rattle.base.specs.Put.{put}
 use Rattle.base.specs.Refusal.{_orElse_, faultUnless}
 use Rattle.base.proofs.Laws.{yes!, no! }
 use Rattle.base.proofs.PutLaws.{put-nil, take-put}
 use Rattle.base.proofs.RefusalLaws.{else-here, else-next}
-use Rattle.frames.specs.Frames.{framesOf, timescaleOf}
+use Rattle.frames.specs.Frames.{framesOf, timescaleOf, ticksFrom}
 use Rattle.sheet.specs.Sheet.{sheetFault, sheetNumber, workAfter, sheetOf}
 use Rattle.sheet.specs.declared.answer.Head.{Head}
 use Rattle.sheet.specs.declared.answer.Sheet.{Sheet}
@@ -23,17 +23,14 @@ use Rattle.sheet.proofs.SheetLaws.{sound-head, checked, sound-answer, refused-a
 use Rattle.trim.specs.TrimList.{rangesIn, listNumber, rangesOf, rangeCount, parsed, listAnswer, parseOf, rangePlaces}
 use Rattle.trim.specs.declared.list.Parsed.{Parsed}
 use Rattle.trim.proofs.RangeLaws.{parse-number, parse-lent, range-count-most, ranges-length, answered-count, places-front, places-written, none-blank, list-none}
-use Rattle.plan.specs.Snap.{snapAll, overlapsFault}
+use Rattle.plan.specs.Snap.{snapAll}
 use Rattle.plan.proofs.SnapLaws.{snap-length}
 use Rattle.segment.specs.declared.segment.Segment.{Segment}
 use Rattle.segmap.specs.declared.whole.Made.{Made}
 use Rattle.segment.specs.Segment.{flatOf}
-use Rattle.segmap.specs.Build.{rangeTicks, rangesFault, segmentsIn}
+use Rattle.segmap.specs.Build.{keptNumber, segmentsIn}
+use Rattle.segmap.proofs.KeptLaws.{segments-count}
 use Rattle.segmap.specs.Map.{rangesFor, keptCount, keptOf, snappedOf, cutNumber, mapNumber, mapWork, Map, mapAnswer, cutOf, mapOf, made, madeOf}
-
--- ---- snapped ranges tested: f is the overlap's number and g that of the ranges
-pub ranges-kept : (a b f g : ℕ) → f ≡ a → f ≡ 0 → g ≡ b → g ≡ 0 → 0 ≡ a orElse b
-ranges-kept a b f g e z q y = else-next a b f 0 e z (sym y ∙ q)
 
 -- ---- an answer by its number
 answer-refused : (k t : ℕ) (xs : List Segment) → (k ≡ 0 → ⊥) → madeOf (mapAnswer k t xs) ≡ made k 0 0
@@ -137,6 +134,11 @@ module _ (s list : List ℕ) (d lent : ℕ) (w : List ℕ) where
 module _ (s w : List ℕ) (a : Sheet) (h : Head) (e : a ≡ sheetOf s (length w)) (f : a ≡ Sound h) where
   pub sound-fault : sheetFault s ≡ 0
   sound-fault = checked s (length w) (sound-answer s (length w) h a e f .number-zero) .fault
+
+  pub sound-within : ticksFrom s 0 (h .frames) ≤ mostTicks
+  sound-within =
+      let c = sound-answer s (length w) h a e f in
+      omega (arith, checked s (length w) (c .number-zero) .within, ap (ticksFrom s 0) (c .frames-is))
 
   pub sound-frames : h .frames ≡ framesOf s
   sound-frames = sound-answer s (length w) h a e f .frames-is
@@ -272,20 +274,13 @@ module _ (list : List ℕ) (p : Parsed) (e : p ≡ keptOf list) where
         ∙ ap (snapAll s n d) f
         ∙ ap (λ (k : ℕ). snapAll s k d (rangesFor k list)) en
 
--- as many segments as ranges
-pub segments-count : (s : List ℕ) (o k : ℕ) (l : List ℕ) → length l ≡ 2 * k → length (segmentsIn s o l) ≡ k
-unfolding segmentsIn
-segments-count s o k [] h = omega arith
-segments-count s o k (a ∷ []) h = absurd (omega arith)
-segments-count s o k (a ∷ e ∷ r) h = omega (arith, segments-count s (o + rangeTicks s a e) (k - 1) r (omega arith))
-
 pub snapped-length : (s list : List ℕ) (d : ℕ) → listNumber list ≡ 0 → length (snappedOf s list d) ≡ 2 * keptCount list
 unfolding snappedOf
 snapped-length s list d z = snap-length s (framesOf s) d (rangesFor (framesOf s) list) ∙ kept-length (framesOf s) list z
 
 -- ---- a sound sheet, and the list's answer p
 module _ (s list : List ℕ) (d n : ℕ) (p : Parsed) (en : n ≡ framesOf s) (e : p ≡ keptOf list) where
-  past-sheet : (v : ℕ) → v ≡ listNumber list orElse (overlapsFault 0 (snappedOf s list d) orElse rangesFault s (framesOf s) (snappedOf s list d)) → v ≡ cutNumber s list d
+  past-sheet : (v : ℕ) → v ≡ listNumber list orElse (keptNumber s (framesOf s) (snappedOf s list d)) → v ≡ cutNumber s list d
   unfolding cutNumber
   past-sheet v q = q
 
@@ -304,7 +299,7 @@ module _ (s list : List ℕ) (d n : ℕ) (p : Parsed) (en : n ≡ framesOf s) (e
 
   -- the list is read; g is the number of its snapped ranges
   module _ (m w : List ℕ) (front : p .number ≡ 0 → take (2 * p .count) m ≡ rangesFor n list) (z : p .number ≡ 0) (ew : w ≡ put (snapAll s n d (take (2 * p .count) m)) m) (g : ℕ)
-      (eg : g ≡ overlapsFault 0 (take (2 * p .count) w) orElse rangesFault s n (take (2 * p .count) w)) where
+      (eg : g ≡ keptNumber s n (take (2 * p .count) w)) where
     snapped : take (2 * p .count) w ≡ snappedOf s list d
     snapped = snapped-is list p e z s m n d w front en ew
 
@@ -313,8 +308,8 @@ module _ (s list : List ℕ) (d n : ℕ) (p : Parsed) (en : n ≡ framesOf s) (e
         past-sheet g
         (else-next _ _ (p .number) g (list-number list p e) z
         (eg
-        ∙ ap (λ (x : List ℕ). overlapsFault 0 x orElse rangesFault s n x) snapped
-        ∙ ap (λ (k : ℕ). overlapsFault 0 (snappedOf s list d) orElse rangesFault s k (snappedOf s list d)) en))
+        ∙ ap (λ (x : List ℕ). keptNumber s n x) snapped
+        ∙ ap (λ (k : ℕ). keptNumber s k (snappedOf s list d)) en))
 
     pub ranges-made : (r : Made) → (g ≡ 0 → ⊥) → r ≡ made g 0 0 → r ≡ madeOf (cutOf s list d)
     unfolding cutOf

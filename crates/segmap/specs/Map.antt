@@ -11,10 +11,10 @@ use Rattle.sheet.specs.Sheet.{sheetNumber, workAfter}
 use Rattle.text.specs.Line.{blank}
 use Rattle.trim.specs.TrimList.{listNumber, rangeCount, rangesOf, parsed}
 use Rattle.trim.specs.declared.list.Parsed.{Parsed}
-use Rattle.plan.specs.Snap.{snapAll, overlapsFault}
+use Rattle.plan.specs.Snap.{snapAll}
 use Rattle.segment.specs.declared.segment.Segment.{Segment}
 use Rattle.segmap.specs.declared.whole.Made.{Made}
-use Rattle.segmap.specs.Build.{rangesFault, segmentsIn}
+use Rattle.segmap.specs.Build.{keptNumber, segmentsIn}
 
 -- the ranges that a list keeps of n frames: a blank one keeps them all
 unfoldable pub rangesFor : ℕ → List ℕ → List ℕ
@@ -31,12 +31,11 @@ keptOf list = parsed (listNumber list) (cond (eqb (listNumber list) 0) (keptCoun
 unfoldable pub snappedOf : (sheet list : List ℕ) (direction : ℕ) → List ℕ
 snappedOf sheet list d = snapAll sheet (framesOf sheet) d (rangesFor (framesOf sheet) list)
 
--- past a sound sheet: the list's number, then 8 for all pairs, then 9 and 10 range by range
+-- past a sound sheet: the list's number, then those of its ranges, snapped
 unfoldable pub cutNumber : (sheet list : List ℕ) (direction : ℕ) → ℕ
 cutNumber sheet list d =
     listNumber list orElse
-    overlapsFault 0 (snappedOf sheet list d) orElse
-    rangesFault sheet (framesOf sheet) (snappedOf sheet list d)
+    keptNumber sheet (framesOf sheet) (snappedOf sheet list d)
 
 -- the number of the call, where `lent` places are lent for the map and `work` bytes for the sheet's check: 16 for a short map or another direction than
 -- 0 or 1, before all else; then the sheet's (16 again where the work bytes are too few), then the list's and its ranges'

@@ -11,9 +11,9 @@ ghost use lib.ListN.{length, take};
 ghost use lib.Seq.{sets};
 ghost use Rattle.base.specs.Limits.{mostFrames, mostTicks, mostSegments};
 ghost use Rattle.base.specs.Put.{put};
-ghost use Rattle.frames.specs.Frames.{decodeOf};
+ghost use Rattle.frames.specs.Frames.{decodeOf, ticksFrom};
 ghost use Rattle.segment.specs.Segment.{numbersOf, flatOf};
-ghost use Rattle.segmap.specs.Build.{ticksFrom, rangesFault, segmentIn, segmentsIn};
+ghost use Rattle.segmap.specs.Build.{keptTicks, rangesFault, segmentIn, segmentsIn};
 
 // A segment, and how far the sum has come with it.
 struct Step {
@@ -25,6 +25,7 @@ struct Step {
 fn segment_of(s: &[u8], from: Reached, start: DisplayIdx, end: DisplayIdx, output: u64) -> Step
     requires { ⌜ from .ticks ≡ ticksFrom (now s) 0 (from .decode .0) ⌝ }
     requires { ⌜ (start .0 ≤ end .0) × (decodeOf (now s) (start .0) + (end .0 - start .0) ≤ mostFrames) ⌝ }
+    requires { ⌜ ticksFrom (now s) 0 (decodeOf (now s) (start .0) + (end .0 - start .0)) ≤ mostTicks ⌝ }
     ensures { λ r. ⌜ (r .segment ≡ segmentIn (now (s .entry)) output (start .0) (end .0)) × (r .segment .duration ≤ mostTicks) ⌝ }
     ensures { λ r. ⌜ r .reached .ticks ≡ ticksFrom (now (s .entry)) 0 (r .reached .decode .0) ⌝ }
 {
@@ -59,10 +60,11 @@ fn store(map: &mut [u64], at: usize, t: Segment)
     map[at + 5] = t.duration;
 }
 
-// Writes the segments of the first `count` ranges, which have no fault.
-pub fn build(s: &[u8], n: u32, ranges: &[u32], count: usize, map: &mut [u64])
-    requires { ⌜ (n ≤ mostFrames) × (count ≤ mostSegments) × (2 * count ≤ length (now ranges)) × (6 * count ≤ length (now map)) ⌝ }
+// Writes the segments of the first `count` ranges, which have no fault, and answers their durations together.
+pub fn build(s: &[u8], n: u32, ranges: &[u32], count: usize, map: &mut [u64]) -> u64
+    requires { ⌜ (n ≤ mostFrames) × (ticksFrom (now s) 0 n ≤ mostTicks) × (count ≤ mostSegments) × (2 * count ≤ length (now ranges)) × (6 * count ≤ length (now map)) ⌝ }
     requires { ⌜ rangesFault (now s) n (take (2 * count) (now ranges)) ≡ 0 ⌝ }
+    ensures { λ r. ⌜ r ≡ keptTicks (now (s .entry)) (take (2 * count) (now (ranges .entry))) ⌝ }
     ensures { λ _. ⌜ now (map .exit) ≡ put (flatOf (segmentsIn (now (s .entry)) 0 (take (2 * count) (now (ranges .entry))))) (now (map .entry)) ⌝ }
 {
     let mut from = at_first();
@@ -84,4 +86,5 @@ pub fn build(s: &[u8], n: u32, ranges: &[u32], count: usize, map: &mut [u64])
         from = reached;
         i += 1;
     }
+    output
 }

@@ -2,8 +2,8 @@
 use order::DecodeIdx;
 ghost use mathlib.Core.Path.{_≡_};
 ghost use Prim.Native.Nat.{_≤_};
-ghost use Rattle.base.specs.Limits.{mostFrames};
-ghost use Rattle.segmap.specs.Build.{ticksFrom};
+ghost use Rattle.base.specs.Limits.{mostTicks};
+ghost use Rattle.frames.specs.Frames.{ticksFrom};
 
 // How far the sum has come: `ticks` of all samples before `decode`.
 pub struct Reached {
@@ -23,7 +23,7 @@ pub fn at_first() -> Reached
 
 // The sum of all samples before `to`, continued from one that has come no further.
 fn add_up(s: &[u8], from: Reached, to: DecodeIdx) -> Reached
-    requires { ⌜ (from .ticks ≡ ticksFrom (now s) 0 (from .decode .0)) × (from .decode .0 ≤ to .0) × (to .0 ≤ mostFrames) ⌝ }
+    requires { ⌜ (from .ticks ≡ ticksFrom (now s) 0 (from .decode .0)) × (from .decode .0 ≤ to .0) × (ticksFrom (now s) 0 (to .0) ≤ mostTicks) ⌝ }
     ensures { λ r. ⌜ (r .decode .0 ≡ to .0) × (r .ticks ≡ ticksFrom (now (s .entry)) 0 (to .0)) ⌝ }
 {
     let mut at = from.decode;
@@ -37,7 +37,7 @@ fn add_up(s: &[u8], from: Reached, to: DecodeIdx) -> Reached
 
 // The sum of all samples before `to`, continued where it can be, else from the first sample on.
 pub fn reach(s: &[u8], from: Reached, to: DecodeIdx) -> Reached
-    requires { ⌜ (from .ticks ≡ ticksFrom (now s) 0 (from .decode .0)) × (to .0 ≤ mostFrames) ⌝ }
+    requires { ⌜ (from .ticks ≡ ticksFrom (now s) 0 (from .decode .0)) × (ticksFrom (now s) 0 (to .0) ≤ mostTicks) ⌝ }
     ensures { λ r. ⌜ (r .decode .0 ≡ to .0) × (r .ticks ≡ ticksFrom (now (s .entry)) 0 (to .0)) ⌝ }
 {
     let start = from.decode;

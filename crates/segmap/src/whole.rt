@@ -6,14 +6,12 @@ use trim::Parsed;
 ghost use mathlib.Core.Path.{_≡_};
 ghost use Prim.Native.Nat.{_*_, _≤_};
 ghost use lib.ListN.{length, take};
-ghost use Rattle.base.specs.Limits.{mostFrames, mostPlaces, mostSegments};
+ghost use Rattle.base.specs.Limits.{mostFrames, mostTicks, mostPlaces, mostSegments};
 ghost use Rattle.base.specs.Put.{put};
-ghost use Rattle.base.specs.Refusal.{_orElse_};
-ghost use Rattle.frames.specs.Frames.{framesOf, timescaleOf};
+ghost use Rattle.frames.specs.Frames.{framesOf, timescaleOf, ticksFrom};
 ghost use Rattle.sheet.specs.Sheet.{sheetFault};
-ghost use Rattle.plan.specs.Snap.{overlapsFault};
 ghost use Rattle.segment.specs.Segment.{flatOf};
-ghost use Rattle.segmap.specs.Build.{rangesFault, segmentsIn};
+ghost use Rattle.segmap.specs.Build.{keptNumber, segmentsIn};
 ghost use Rattle.segmap.specs.Map.{rangesFor, keptOf, made, madeOf, cutOf, mapOf, mapWork};
 
 // What a call gives: 0 with the sheet's timescale and how many segments were written, or the number of the refusal and zeros.
@@ -33,10 +31,23 @@ fn refused(n: u32) -> Made
     }
 }
 
-// Tests snapped ranges, all pairs first (8), then range by range (9, 10), and writes their segments where there is no fault.
+// Copies the first `n` numbers.
+fn copy(map: &mut [u64], held: &[u64], n: usize)
+    requires { ⌜ (n ≤ length (now held)) × (length (now held) ≤ length (now map)) ⌝ }
+    ensures { λ _. ⌜ now (map .exit) ≡ put (take n (now (held .entry))) (now (map .entry)) ⌝ }
+{
+    let mut i = 0;
+    while i < n {
+        map[i] = held[i];
+        i += 1;
+    }
+}
+
+// Tests snapped ranges, all pairs first (8), then range by range (9, 10), then the sum of their durations (26), and writes their segments where
+// there is no fault. The sum is known once they are built, so they are built apart.
 fn keep(s: &[u8], n: u32, ranges: &[u32], count: usize, map: &mut [u64]) -> u32
-    requires { ⌜ (n ≤ mostFrames) × (count ≤ mostSegments) × (2 * count ≤ length (now ranges)) × (6 * count ≤ length (now map)) ⌝ }
-    ensures { λ r. ⌜ r ≡ overlapsFault 0 (take (2 * count) (now (ranges .entry))) orElse rangesFault (now (s .entry)) n (take (2 * count) (now (ranges .entry))) ⌝ }
+    requires { ⌜ (n ≤ mostFrames) × (ticksFrom (now s) 0 n ≤ mostTicks) × (count ≤ mostSegments) × (2 * count ≤ length (now ranges)) × (6 * mostSegments ≤ length (now map)) ⌝ }
+    ensures { λ r. ⌜ r ≡ keptNumber (now (s .entry)) n (take (2 * count) (now (ranges .entry))) ⌝ }
     ensures { λ r. ⌜ (r ≡ 0 → now (map .exit) ≡ put (flatOf (segmentsIn (now (s .entry)) 0 (take (2 * count) (now (ranges .entry))))) (now (map .entry))) ⌝ }
     ensures { λ r. ⌜ ((r ≡ 0 → ⊥) → now (map .exit) ≡ now (map .entry)) ⌝ }
 {
@@ -48,7 +59,12 @@ fn keep(s: &[u8], n: u32, ranges: &[u32], count: usize, map: &mut [u64]) -> u32
     if g != 0 {
         return g;
     }
-    build(s, n, ranges, count, map);
+    let mut held = [0; 6144];
+    let sum = build(s, n, ranges, count, &mut held);
+    if base::MOST_TICKS < sum {
+        return 26;
+    }
+    copy(map, &held, 6 * count);
     0
 }
 
@@ -85,7 +101,7 @@ fn map_ranges(
     ranges: &mut [u32],
     map: &mut [u64],
 ) -> Made
-    requires { ⌜ (sheetFault (now s) ≡ 0) × (n ≡ framesOf (now s)) × (timescale ≡ timescaleOf (now s)) ⌝ }
+    requires { ⌜ (sheetFault (now s) ≡ 0) × (n ≡ framesOf (now s)) × (timescale ≡ timescaleOf (now s)) × (ticksFrom (now s) 0 n ≤ mostTicks) ⌝ }
     requires { ⌜ (direction ≤ 1) × (mostPlaces ≤ length (now ranges)) × (6 * mostSegments ≤ length (now map)) ⌝ }
     ensures { λ r. ⌜ r ≡ madeOf (cutOf (now (s .entry)) (now (list .entry)) direction) ⌝ }
     ensures { λ _. ⌜ now (map .exit) ≡ put (flatOf (cutOf (now (s .entry)) (now (list .entry)) direction .segments)) (now (map .entry)) ⌝ }

@@ -1,4 +1,4 @@
--- The limits of a map from both sides, by document 01's numbers: 1,024 segments of six numbers, frame numbers of 32 bits, ends at 2^52.
+-- The limits of a map from both sides, by document 01's numbers: 1,024 segments of six numbers, frame numbers of 32 bits, ends at 2^53.
 use mathlib.Core.Path.{_≡_, refl, sym}
 use mathlib.Core.Bool.{true, false, cond}
 use mathlib.Core.List.{List}
@@ -36,10 +36,10 @@ unfolding segmentBad
 count-33-bits q o d = refl
 
 -- ---- ends in ticks, of the source and of the output
-pub end-2^52 : (a d : ℕ) → a + d ≡ 4503599627370496 → endBad a d ≡ false
+pub end-2^53 : (a d : ℕ) → a + d ≡ 9007199254740992 → endBad a d ≡ false
 unfolding endBad
-end-2^52 a d h = le-ltb 4503599627370496 (a + d) (omega arith)
+end-2^53 a d h = le-ltb 9007199254740992 (a + d) (omega arith)
 
-pub end-past-2^52 : (a d : ℕ) → a + d ≡ 4503599627370497 → endBad a d ≡ true
+pub end-past-2^53 : (a d : ℕ) → a + d ≡ 9007199254740993 → endBad a d ≡ true
 unfolding endBad
-end-past-2^52 a d h = lt-ltb 4503599627370496 (a + d) (omega arith)
+end-past-2^53 a d h = lt-ltb 9007199254740992 (a + d) (omega arith)

@@ -1,3 +1,4 @@
 pub mod FaultLaws
 pub mod SheetLaws
 pub mod AnswerLaws
+pub mod TotalLaws

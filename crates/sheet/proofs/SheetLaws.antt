@@ -1,23 +1,24 @@
 -- Laws of the frame sheet that crates above cite.
-use Prim.Native.Nat.{ℕ, zero, suc, _+_, _/_, _^_, _≤_, _<_}
-use mathlib.Core.Bool.{Bool}
+use Prim.Native.Nat.{ℕ, zero, suc, _+_, _-_, _*_, _/_, _^_, _≤_, _<_}
+use mathlib.Core.Bool.{Bool, true, false}
 use mathlib.Core.List.{List, [], _∷_}
-use mathlib.Core.Logic.{_⊎_, inl, inr}
+use mathlib.Core.Logic.{_⊎_, inl, inr, ⊎-elim}
 use mathlib.Core.Path.{_≡_, refl, sym, ap, _∙_}
 use native.Mathlib.Omega.{arith}
 use lib.Dec.{ltb}
 use lib.ListN.{getD}
 use borrow.Author.Tests.{le-leb, lt-ltb, ltb-true, leb-true}
-use Rattle.base.specs.Limits.{mostSheetTimescale, mostFrames, mostWork}
+use Rattle.base.specs.Limits.{mostTimescale, mostFrames, mostTicks, mostWork}
 use Rattle.base.specs.Refusal.{_orElse_, faultUnless, firstOf}
-use Rattle.base.proofs.RefusalLaws.{held, else-none, else-zero, first-zero}
+use Rattle.base.proofs.RefusalLaws.{held, else-none, else-zero, else-either, first-zero}
 use Rattle.blocks.proofs.WordLaws.{word-below}
 use Rattle.frames.specs.Frames.{timescaleOf, framesOf, rateNumOf, rateDenOf, decodeOf, durationOf}
 use Rattle.once.specs.Once.{repeatFault, workBytes, onceNumber, EachOnce}
 use Rattle.once.proofs.NamedLaws.{number-once, once-number}
-use Rattle.sheet.specs.Sheet.{sheetFault, sheetNumber, sheetOf, numberOf, valuesOf}
-use Rattle.frames.specs.Frames.{recordWord}
-use Rattle.sheet.specs.Sheet.{spareFault, headFault, recordFault, checkFault, blockFault, recordBlocks, headOf, sheetAnswer}
+use Rattle.sheet.proofs.TotalLaws.{total-held, total-within, total-short}
+use Rattle.sheet.specs.Sheet.{sheetFault, totalFault, sheetNumber, sheetOf, numberOf, valuesOf}
+use Rattle.frames.specs.Frames.{longOf, perBlock, recordWord, durationIn, ticksFrom}
+use Rattle.sheet.specs.Sheet.{spareFault, timescaleIn, headFault, spareRecord, recordFault, checkFault, blockFault, recordBlocks, headOf, sheetAnswer}
 use Rattle.sheet.specs.declared.answer.Head.{Head}
 use Rattle.sheet.specs.declared.answer.Sheet.{Sheet}
 use Rattle.sheet.specs.declared.answer.Sheet.the-variants.{Sound, Refused}
@@ -26,7 +27,7 @@ use Rattle.base.proofs.RefusalNumbers.{else-numbers, cond-numbers, unless-numbe
 -- ---- a sheet without a fault
 record SoundParts (s : List ℕ) : Type 0 where
   pub head : headFault s ≡ 0
-  pub blocks : firstOf (blockFault s (framesOf s)) 1 (recordBlocks (framesOf s)) ≡ 0
+  pub blocks : firstOf (blockFault s (framesOf s)) 1 (recordBlocks (longOf s) (framesOf s)) ≡ 0
 
 sound-parts : (s : List ℕ) → sheetFault s ≡ 0 → SoundParts s
 unfolding sheetFault
@@ -39,20 +40,24 @@ sound-parts s e =
 -- what its head has
 pub record SoundHead (s : List ℕ) : Type 0 where
   pub timescale-low : 0 < timescaleOf s
-  pub timescale-high : timescaleOf s ≤ mostSheetTimescale
+  pub timescale-high : timescaleOf s ≤ mostTimescale
   pub frames-low : 0 < framesOf s
   pub frames-high : framesOf s ≤ mostFrames
+
+within-most : {k : ℕ} (t : Bool) → k ≤ timescaleIn t → k ≤ mostTimescale
+within-most false h = omega arith
+within-most true h = h
 
 head-parts : (s : List ℕ) → headFault s ≡ 0 → SoundHead s
 unfolding headFault
 head-parts s e =
-    let t = else-zero _ _ e in
+    let t = else-zero _ _ (else-zero _ _ e .1) in
     let u = else-zero _ _ (t .1) in
     let v = else-zero _ _ (u .1) in
     let w = else-zero _ _ (v .1) in
     record {
       timescale-low = ltb-true _ _ (held _ 13 (omega arith) (t .0));
-      timescale-high = leb-true _ _ (held _ 13 (omega arith) (u .0));
+      timescale-high = within-most (longOf s) (leb-true _ _ (held _ 13 (omega arith) (u .0)));
       frames-low = ltb-true _ _ (held _ 13 (omega arith) (v .0));
       frames-high = leb-true _ _ (held _ 13 (omega arith) (w .0));
     }
@@ -60,16 +65,36 @@ head-parts s e =
 pub sound-head : (s : List ℕ) → sheetFault s ≡ 0 → SoundHead s
 sound-head s e = head-parts s (sound-parts s e .head)
 
+pub frames-few : (s : List ℕ) (f n : ℕ) → f ≡ sheetFault s → f ≡ 0 → n ≡ framesOf s → n ≤ mostFrames
+frames-few s f n ef z e = omega (arith, sound-head s (sym ef ∙ z) .frames-high)
+
 record-inside : (s : List ℕ) (n i : ℕ) → i < n → recordFault s n i ≡ faultUnless (ltb (decodeOf s i) n) 14
 unfolding recordFault
 record-inside s n i l = rw (lt-ltb i n l)
 
+-- the block of record i is one of those that hold n records, and the record one of its own
+record Inside (t : Bool) (n i b : ℕ) : Type 0 where
+  low : 1 ≤ b
+  high : b < 1 + recordBlocks t n
+  from : perBlock t * (b - 1) ≤ i
+  below : i < perBlock t * (b - 1) + perBlock t
+
+abbrev blockOf : (long : Bool) → ℕ → ℕ
+blockOf false i = 1 + i / 63
+blockOf true i = 1 + i / 42
+
+inside : (t : Bool) (n i : ℕ) → i < n → Inside t n i (blockOf t i)
+unfolding recordBlocks
+inside false n i l = record { low = omega arith; high = omega arith; from = omega arith; below = omega arith }
+inside true n i l = record { low = omega arith; high = omega arith; from = omega arith; below = omega arith }
+
 -- the decode index of a frame is below the frame count
 pub sound-decode : (s : List ℕ) (i : ℕ) → sheetFault s ≡ 0 → i < framesOf s → decodeOf s i < framesOf s
-unfolding recordBlocks blockFault
+unfolding blockFault
 sound-decode s i e l =
-    let b : blockFault s (framesOf s) (1 + i / 63) ≡ 0 = first-zero _ _ _ (sound-parts s e .blocks) (1 + i / 63) (omega arith) (omega arith) in
-    let r : recordFault s (framesOf s) i ≡ 0 = first-zero _ _ _ (else-zero _ _ b .1) i (omega arith) (omega arith) in
+    let p = inside (longOf s) (framesOf s) i l in
+    let b : blockFault s (framesOf s) (blockOf (longOf s) i) ≡ 0 = first-zero _ _ _ (sound-parts s e .blocks) (blockOf (longOf s) i) (p .low) (p .high) in
+    let r : recordFault s (framesOf s) i ≡ 0 = first-zero _ _ _ (else-zero _ _ b .1) i (p .from) (p .below) in
     ltb-true _ _ (held _ 14 (omega arith) (sym (record-inside s (framesOf s) i l) ∙ r))
 
 -- ---- sizes of what any bytes say
@@ -82,60 +107,69 @@ module _ (s : List ℕ) (bytes : (j : ℕ) → getD s j 0 < 256) where
   unfolding framesOf
   frames-word = word-below s 2 bytes
 
-  pub duration-word : (i : ℕ) → durationOf s i < 2 ^ 32
+  duration-in : (t : Bool) (w : ℕ) → durationIn t s w < 2 ^ 64
+  duration-in false w = omega (arith, word-below s (w + 1) bytes)
+  duration-in true w = omega (arith, word-below s (w + 1) bytes, word-below s (w + 2) bytes)
+
+  pub duration-word : (i : ℕ) → durationOf s i < 2 ^ 64
   unfolding durationOf
-  duration-word i = word-below s (recordWord i + 1) bytes
+  duration-word i = duration-in (longOf s) (recordWord (longOf s) i)
 
 pub decode-word : (s : List ℕ) (i : ℕ) → decodeOf s i < 2 ^ 31
 unfolding decodeOf
 decode-word s i = omega arith
 
--- ---- the numbers of the table: 0, 11 to 14, 16 and 25
-abbrev pub SheetNumber : ℕ → Type 0
-SheetNumber k = (k ≡ 0) ⊎ (((11 ≤ k) × (k ≤ 14)) ⊎ ((k ≡ 16) ⊎ (k ≡ 25)))
+-- ---- the numbers of the table: 0, 11 to 14
+abbrev FaultNumber : ℕ → Type 0
+FaultNumber k = (k ≡ 0) ⊎ ((11 ≤ k) × (k ≤ 14))
 
-none : SheetNumber 0
+none : FaultNumber 0
 none = inl refl
 
-within : (k : ℕ) → 11 ≤ k → k ≤ 14 → SheetNumber k
-within k a b = inr (inl (a, b))
+within : (k : ℕ) → 11 ≤ k → k ≤ 14 → FaultNumber k
+within k a b = inr (a, b)
 
-spare-number : (s : List ℕ) (k i : ℕ) → SheetNumber k → SheetNumber (spareFault s k i)
+spare-number : (s : List ℕ) (k i : ℕ) → FaultNumber k → FaultNumber (spareFault s k i)
 unfolding spareFault
-spare-number s k i p = unless-numbers SheetNumber none _ k p
+spare-number s k i p = unless-numbers FaultNumber none _ k p
 
-test : (t : Bool) (k : ℕ) → 11 ≤ k → k ≤ 14 → SheetNumber (faultUnless t k)
-test t k a b = unless-numbers SheetNumber none t k (within k a b)
+test : (t : Bool) (k : ℕ) → 11 ≤ k → k ≤ 14 → FaultNumber (faultUnless t k)
+test t k a b = unless-numbers FaultNumber none t k (within k a b)
 
-or-else : {a b : ℕ} → SheetNumber a → SheetNumber b → SheetNumber (a orElse b)
-or-else {a} {b} p q = else-numbers SheetNumber a b p q
+or-else : {a b : ℕ} → FaultNumber a → FaultNumber b → FaultNumber (a orElse b)
+or-else {a} {b} p q = else-numbers FaultNumber a b p q
 
-head-number : (s : List ℕ) → SheetNumber (headFault s)
+head-number : (s : List ℕ) → FaultNumber (headFault s)
 unfolding headFault
 head-number s =
     or-else (test _ 13 (omega arith) (omega arith))
     (or-else (test _ 13 (omega arith) (omega arith))
     (or-else (test _ 13 (omega arith) (omega arith))
     (or-else (test _ 13 (omega arith) (omega arith))
-    (first-numbers SheetNumber none _ (λ i. spare-number s 13 i (within 13 (omega arith) (omega arith))) 5 122))))
+    (or-else (test _ 13 (omega arith) (omega arith))
+    (first-numbers FaultNumber none _ (λ i. spare-number s 13 i (within 13 (omega arith) (omega arith))) 6 121)))))
 
-record-number : (s : List ℕ) (n i : ℕ) → SheetNumber (recordFault s n i)
+record-spare : (t : Bool) (s : List ℕ) (w : ℕ) → FaultNumber 14 → FaultNumber (spareRecord t s w)
+record-spare false s w p = or-else (spare-number s 14 _ p) (spare-number s 14 _ p)
+record-spare true s w p = or-else (spare-number s 14 _ p) (or-else (spare-number s 14 _ p) (spare-number s 14 _ p))
+
+record-number : (s : List ℕ) (n i : ℕ) → FaultNumber (recordFault s n i)
 unfolding recordFault
 record-number s n i =
-    let p : SheetNumber 14 = within 14 (omega arith) (omega arith) in
-    cond-numbers SheetNumber (ltb i n) (faultUnless (ltb (decodeOf s i) n) 14) (spareFault s 14 (recordWord i) orElse spareFault s 14 (recordWord i + 1))
-    (unless-numbers SheetNumber none _ 14 p)
-    (or-else (spare-number s 14 _ p) (spare-number s 14 _ p))
+    let p : FaultNumber 14 = within 14 (omega arith) (omega arith) in
+    cond-numbers FaultNumber (ltb i n) (faultUnless (ltb (decodeOf s i) n) 14) (spareRecord (longOf s) s (recordWord (longOf s) i))
+    (unless-numbers FaultNumber none _ 14 p)
+    (record-spare (longOf s) s _ p)
 
-check-number : (s : List ℕ) (b : ℕ) → SheetNumber (checkFault s b)
+check-number : (s : List ℕ) (b : ℕ) → FaultNumber (checkFault s b)
 unfolding checkFault
 check-number s b = test _ 12 (omega arith) (omega arith)
 
-block-number : (s : List ℕ) (n b : ℕ) → SheetNumber (blockFault s n b)
+block-number : (s : List ℕ) (n b : ℕ) → FaultNumber (blockFault s n b)
 unfolding blockFault
-block-number s n b = or-else (check-number s b) (first-numbers SheetNumber none _ (record-number s n) _ 63)
+block-number s n b = or-else (check-number s b) (first-numbers FaultNumber none _ (record-number s n) _ _)
 
-fault-numbers : (s : List ℕ) → SheetNumber (sheetFault s)
+fault-numbers : (s : List ℕ) → FaultNumber (sheetFault s)
 unfolding sheetFault
 fault-numbers s =
     or-else (test _ 11 (omega arith) (omega arith))
@@ -143,17 +177,63 @@ fault-numbers s =
     (or-else (check-number s 0)
     (or-else (head-number s)
     (or-else (test _ 11 (omega arith) (omega arith))
-    (first-numbers SheetNumber none _ (block-number s (framesOf s)) 1 _)))))
+    (first-numbers FaultNumber none _ (block-number s (framesOf s)) 1 _)))))
 
-once-numbers : (s : List ℕ) (n lent : ℕ) → SheetNumber (onceNumber s n lent)
+-- then 16 and 25
+abbrev OnceNumber : ℕ → Type 0
+OnceNumber k = (k ≡ 0) ⊎ ((k ≡ 16) ⊎ (k ≡ 25))
+
+once-numbers : (s : List ℕ) (n lent : ℕ) → OnceNumber (onceNumber s n lent)
 unfolding onceNumber repeatFault
 once-numbers s n lent =
-    or-else (unless-numbers SheetNumber none _ 16 (inr (inr (inl refl))))
-    (first-numbers SheetNumber none _ (λ i. unless-numbers SheetNumber none _ 25 (inr (inr (inr refl)))) 0 n)
+    else-numbers OnceNumber _ _ (unless-numbers OnceNumber (inl refl) _ 16 (inr (inl refl)))
+    (first-numbers OnceNumber (inl refl) _ (λ i. unless-numbers OnceNumber (inl refl) _ 25 (inr (inr refl))) 0 n)
+
+-- then 26
+abbrev pub SheetNumber : ℕ → Type 0
+SheetNumber k = (k ≡ 0) ⊎ (((11 ≤ k) × (k ≤ 14)) ⊎ ((k ≡ 16) ⊎ ((k ≡ 25) ⊎ (k ≡ 26))))
+
+of-fault : (k : ℕ) → FaultNumber k → SheetNumber k
+of-fault k (inl e) = inl e
+of-fault k (inr h) = inr (inl h)
+
+of-once : (k : ℕ) → OnceNumber k → SheetNumber k
+of-once k (inl e) = inl e
+of-once k (inr (inl e)) = inr (inr (inl e))
+of-once k (inr (inr e)) = inr (inr (inr (inl e)))
+
+total-numbers : (s : List ℕ) (n : ℕ) → SheetNumber (totalFault s n)
+unfolding totalFault
+total-numbers s n = unless-numbers SheetNumber (inl refl) _ 26 (inr (inr (inr (inr refl))))
 
 pub sheet-numbers : (s : List ℕ) (lent : ℕ) → SheetNumber (sheetNumber s lent)
 unfolding sheetNumber
-sheet-numbers s lent = or-else (fault-numbers s) (once-numbers s (framesOf s) lent)
+sheet-numbers s lent =
+    else-numbers SheetNumber _ _ (of-fault (sheetFault s) (fault-numbers s))
+    (else-numbers SheetNumber _ _ (of-once (onceNumber s (framesOf s) lent) (once-numbers s (framesOf s) lent)) (total-numbers s (framesOf s)))
+
+-- ---- in the first layout 26 does not occur
+fault-other : (k : ℕ) → FaultNumber k → k ≡ 26 → ⊥
+fault-other k (inl z) e = omega arith
+fault-other k (inr h) e = omega (arith, h .1)
+
+once-other : (k : ℕ) → OnceNumber k → k ≡ 26 → ⊥
+once-other k (inl z) e = omega arith
+once-other k (inr (inl z)) e = omega arith
+once-other k (inr (inr z)) e = omega arith
+
+module _ (s : List ℕ) (lent : ℕ) (bytes : (j : ℕ) → getD s j 0 < 256) (short : longOf s ≡ false) where
+  total-other : sheetFault s ≡ 0 → totalFault s (framesOf s) ≡ 26 → ⊥
+  total-other z e =
+      let q : 0 ≡ totalFault s (framesOf s) = total-short s (framesOf s) false bytes (sym short) refl (sound-head s z .frames-high) in
+      omega (arith, q, e)
+
+  pub sheet-short : sheetNumber s lent ≡ 26 → ⊥
+  unfolding sheetNumber
+  sheet-short e =
+      ⊎-elim (fault-other (sheetFault s) (fault-numbers s))
+      (λ h. ⊎-elim (once-other (onceNumber s (framesOf s) lent) (once-numbers s (framesOf s) lent)) (λ k. total-other (h .0) (k .1)) (else-either _ _ 26 (h .1)))
+      (else-either _ _ 26 e)
 
 -- ---- the work bytes: 131,072 are always enough, and more than are needed change nothing
 pub work-enough : (s : List ℕ) → sheetFault s ≡ 0 → workBytes (framesOf s) ≤ mostWork
@@ -180,23 +260,26 @@ pub values-are : (s : List ℕ) (lent : ℕ) → sheetNumber s lent ≡ 0 → va
 unfolding sheetOf headOf sheetAnswer
 values-are s lent e = rw e
 
--- ---- the number 0: no fault in the bytes, enough work bytes, and each sample named exactly once
+-- ---- the number 0: no fault in the bytes, enough work bytes, each sample named exactly once, and the durations together within the limit
 pub record Checked (s : List ℕ) (lent : ℕ) : Type 0 where
   pub fault : sheetFault s ≡ 0
   pub room : workBytes (framesOf s) ≤ lent
   pub once : EachOnce s (framesOf s)
+  pub within : ticksFrom s 0 (framesOf s) ≤ mostTicks
 
 pub checked : (s : List ℕ) (lent : ℕ) → sheetNumber s lent ≡ 0 → Checked s lent
 unfolding sheetNumber
 checked s lent e =
     let p = else-zero _ _ e in
-    let q = number-once s (framesOf s) lent (p .1) in
-    record { fault = p .0; room = q .0; once = q .1 }
+    let t = else-zero _ _ (p .1) in
+    let q = number-once s (framesOf s) lent (t .0) in
+    record { fault = p .0; room = q .0; once = q .1; within = total-within s (framesOf s) (t .1) }
 
--- and the way back: 25 is given to no such sheet
+-- and the way back: neither 25 nor 26 is given to such a sheet
 pub sound-number : (s : List ℕ) (lent : ℕ) → Checked s lent → sheetNumber s lent ≡ 0
 unfolding sheetNumber
-sound-number s lent c = else-none _ (c .fault) ∙ once-number s (framesOf s) lent (c .room) (c .once)
+sound-number s lent c =
+    else-none _ (c .fault) ∙ else-none _ (once-number s (framesOf s) lent (c .room) (c .once)) ∙ sym (total-held s (framesOf s) (c .within))
 
 -- what a caller learns from `Sound h`
 pub record Answered (s : List ℕ) (lent : ℕ) (h : Head) : Type 0 where

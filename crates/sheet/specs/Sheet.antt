@@ -1,14 +1,14 @@
--- The faults of a frame sheet (document 01, "The frame sheet"; request 2.6), and the answer of its check. s is the sheet's bytes.
+-- The faults of a frame sheet (document 01, "The frame sheet"; requests 2.6 and 2.9), and the answer of its check. s is the sheet's bytes.
 -- Crates above name the sheet by sheetNumber, and by timescaleOf, framesOf, rateNumOf, rateDenOf, decodeOf, syncOf and durationOf of frames.
 use Prim.Native.Nat.{ℕ, zero, suc, _+_, _-_, _*_, _/_, _%_}
-use mathlib.Core.Bool.{cond}
+use mathlib.Core.Bool.{Bool, true, false, cond}
 use mathlib.Core.List.{List, [], _∷_}
 use lib.ListN.{length}
 use lib.Dec.{ltb, leb, eqb}
-use Rattle.base.specs.Limits.{mostSheetTimescale, mostFrames}
+use Rattle.base.specs.Limits.{mostSheetTimescale, mostTimescale, mostFrames, mostTicks}
 use Rattle.base.specs.Refusal.{_orElse_, faultUnless, firstOf}
 use Rattle.blocks.specs.Block.{wordAt, blockHolds}
-use Rattle.frames.specs.Frames.{timescaleOf, framesOf, rateNumOf, rateDenOf, recordWord, decodeOf}
+use Rattle.frames.specs.Frames.{timescaleOf, framesOf, rateNumOf, rateDenOf, longOf, perBlock, recordWord, decodeOf, ticksFrom}
 use Rattle.once.specs.Once.{onceNumber, workOnce}
 use Rattle.sheet.specs.declared.answer.Head.{Head}
 use Rattle.sheet.specs.declared.answer.Sheet.{Sheet}
@@ -20,23 +20,34 @@ use Rattle.sheet.specs.declared.answer.Sheet.the-variants.{Sound, Refuse
 unfoldable pub spareFault : List ℕ → ℕ → ℕ → ℕ
 spareFault s k i = faultUnless (eqb (wordAt s i) 0) k
 
--- head (13): T and n within their limits, and words 5 to 126 zero
+-- the largest T of a layout
+abbrev pub timescaleIn : (long : Bool) → ℕ
+timescaleIn false = mostSheetTimescale
+timescaleIn true = mostTimescale
+
+-- head (13): word 5 is 0 or 1 and gives the layout, T and n are within their limits, and words 6 to 126 zero
 unfoldable pub headFault : List ℕ → ℕ
 headFault s =
+    faultUnless (leb (wordAt s 5) 1) 13 orElse
     faultUnless (ltb 0 (timescaleOf s)) 13 orElse
-    faultUnless (leb (timescaleOf s) mostSheetTimescale) 13 orElse
+    faultUnless (leb (timescaleOf s) (timescaleIn (longOf s))) 13 orElse
     faultUnless (ltb 0 (framesOf s)) 13 orElse
     faultUnless (leb (framesOf s) mostFrames) 13 orElse
-    firstOf (spareFault s 13) 5 122
+    firstOf (spareFault s 13) 6 121
 
--- ---- records: 63 to a block from block 1 on, two words each from word 1 on
+-- ---- records, from block 1 on: 63 to a block, two words each; in the second layout 42, three words each
 
--- record i of n (14): its decode index is below n; past n both words are zero
+-- the words of a record that starts at word w and lies past n are zero (14)
+abbrev pub spareRecord : (long : Bool) → List ℕ → (w : ℕ) → ℕ
+spareRecord false s w = spareFault s 14 w orElse spareFault s 14 (w + 1)
+spareRecord true s w = spareFault s 14 w orElse spareFault s 14 (w + 1) orElse spareFault s 14 (w + 2)
+
+-- record i of n (14): its decode index is below n; past n its words are zero
 unfoldable pub recordFault : List ℕ → ℕ → ℕ → ℕ
 recordFault s n i =
     cond (ltb i n)
     (faultUnless (ltb (decodeOf s i) n) 14)
-    (spareFault s 14 (recordWord i) orElse spareFault s 14 (recordWord i + 1))
+    (spareRecord (longOf s) s (recordWord (longOf s) i))
 
 -- ---- blocks
 
@@ -46,11 +57,12 @@ checkFault s b = faultUnless (blockHolds s b) 12
 
 -- block b, from 1 on, of n frames: number and check before records
 unfoldable pub blockFault : List ℕ → ℕ → ℕ → ℕ
-blockFault s n b = checkFault s b orElse firstOf (recordFault s n) (63 * (b - 1)) 63
+blockFault s n b = checkFault s b orElse firstOf (recordFault s n) (perBlock (longOf s) * (b - 1)) (perBlock (longOf s))
 
--- how many blocks hold the records of n frames: n / 63, rounded up
-unfoldable pub recordBlocks : ℕ → ℕ
-recordBlocks n = (n + 62) / 63
+-- how many blocks hold the records of n frames: n / 63 or n / 42, rounded up
+unfoldable pub recordBlocks : (long : Bool) → ℕ → ℕ
+recordBlocks false n = (n + 62) / 63
+recordBlocks true n = (n + 41) / 42
 
 -- ---- the sheet
 
@@ -61,12 +73,19 @@ sheetFault s =
     faultUnless (eqb (length s % 512) 0) 11 orElse
     checkFault s 0 orElse
     headFault s orElse
-    faultUnless (eqb (length s) (512 * (1 + recordBlocks (framesOf s)))) 11 orElse
-    firstOf (blockFault s (framesOf s)) 1 (recordBlocks (framesOf s))
+    faultUnless (eqb (length s) (512 * (1 + recordBlocks (longOf s) (framesOf s)))) 11 orElse
+    firstOf (blockFault s (framesOf s)) 1 (recordBlocks (longOf s) (framesOf s))
 
--- the number, where `lent` work bytes are lent: after 14 comes 16 where these are too few, then 25
+-- the durations of n samples together are at most 2^53 (26)
+unfoldable pub totalFault : List ℕ → ℕ → ℕ
+totalFault s n = faultUnless (leb (ticksFrom s 0 n) mostTicks) 26
+
+-- the number, where `lent` work bytes are lent: after 14 comes 16 where these are too few, then 25, then 26
 unfoldable pub sheetNumber : List ℕ → (lent : ℕ) → ℕ
-sheetNumber s lent = sheetFault s orElse onceNumber s (framesOf s) lent
+sheetNumber s lent =
+    sheetFault s orElse
+    onceNumber s (framesOf s) lent orElse
+    totalFault s (framesOf s)
 
 -- the work bytes afterwards: past 14 and 16 those needed are zero, whatever the number, and any others stay
 unfoldable pub workAfter : List ℕ → List ℕ → List ℕ

@@ -1,5 +1,6 @@
 // The check's answer.
 use crate::faults::fault;
+use crate::totals::total_fault;
 use frames::frames;
 use frames::rate_den;
 use frames::rate_num;
@@ -36,6 +37,10 @@ pub fn check(s: &[u8], work: &mut [u8]) -> Sheet
     let g = once_fault(s, n, work);
     if g != 0 {
         return Sheet::Refused(g);
+    }
+    let t = total_fault(s, n);
+    if t != 0 {
+        return Sheet::Refused(t);
     }
     Sheet::Sound(Head {
         timescale: timescale(s),

@@ -28,7 +28,7 @@ pub fn fault(s: &[u8]) -> u32
         return h;
     }
     let n = frames(s);
-    if len != 512 * (1 + record_blocks(n)) {
+    if len != 512 * (1 + record_blocks(frames::long(s), n)) {
         return 11;
     }
     blocks_fault(s, n)

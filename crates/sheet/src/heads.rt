@@ -1,15 +1,16 @@
 // The head, in block 0.
 use frames::frames;
+use frames::long;
 use frames::timescale;
 ghost use mathlib.Core.Path.{_≡_};
 ghost use Rattle.base.specs.Refusal.{firstOf};
-ghost use Rattle.sheet.specs.Sheet.{spareFault, headFault};
+ghost use Rattle.sheet.specs.Sheet.{spareFault, timescaleIn, headFault};
 
-// Words 5 to 126 are zero.
+// Words 6 to 126 are zero.
 fn spare_fault(s: &[u8]) -> u32
-    ensures { λ r. ⌜ r ≡ firstOf (spareFault (now (s .entry)) 13) 5 122 ⌝ }
+    ensures { λ r. ⌜ r ≡ firstOf (spareFault (now (s .entry)) 13) 6 121 ⌝ }
 {
-    let mut i: usize = 5;
+    let mut i: usize = 6;
     while i < 127 {
         let w = blocks::word(s, i);
         if w != 0 {
@@ -20,15 +21,29 @@ fn spare_fault(s: &[u8]) -> u32
     0
 }
 
+// The largest timescale of a layout.
+fn timescale_in(long: bool) -> u32
+    ensures { λ r. ⌜ r ≡ timescaleIn long ⌝ }
+{
+    if long {
+        return base::MOST_TIMESCALE;
+    }
+    base::MOST_SHEET_TIMESCALE
+}
+
 // The head's fault, 0 for none.
 pub fn head_fault(s: &[u8]) -> u32
     ensures { λ r. ⌜ r ≡ headFault (now (s .entry)) ⌝ }
 {
+    let layout = blocks::word(s, 5);
+    if 1 < layout {
+        return 13;
+    }
     let t = timescale(s);
     if t <= 0 {
         return 13;
     }
-    if base::MOST_SHEET_TIMESCALE < t {
+    if timescale_in(long(s)) < t {
         return 13;
     }
     let n = frames(s);

@@ -3,6 +3,7 @@ mod answer;
 mod faults;
 mod heads;
 mod records;
+mod totals;
 
 pub use answer::Head;
 pub use answer::Sheet;

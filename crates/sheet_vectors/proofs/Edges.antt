@@ -7,7 +7,7 @@ use borrow.Author.Tests.{ne-eqb}
 use Rattle.base.specs.Refusal.{_orElse_, faultUnless, firstOf}
 use Rattle.base.proofs.Laws.{no! }
 use Rattle.blocks.specs.Block.{wordAt, sumWords, blockHolds}
-use Rattle.frames.specs.Frames.{timescaleOf, framesOf, recordWord, decodeOf}
+use Rattle.frames.specs.Frames.{timescaleOf, framesOf, recordWord, decodeOf, longOf}
 use Rattle.sheet.specs.Sheet.{spareFault, headFault, recordFault, checkFault, blockFault, recordBlocks, sheetFault, sheetNumber, sheetOf, valuesOf}
 use Rattle.sheet.proofs.AnswerLaws.{sheet-values}
 use Rattle.sheet_vectors.specs.Small.{smallRecords, sheetWith, smallSheet}
@@ -22,7 +22,7 @@ pub head-limits :
     ∷ sheetWith 30000 1048577 smallRecords
     ∷ [])
     ≡ 0 ∷ 13 ∷ 11 ∷ 13 ∷ []
-unfolding sheetFault checkFault blockHolds headFault blockFault recordFault recordWord decodeOf recordBlocks spareFault timescaleOf framesOf sumWords wordAt firstOf faultUnless _orElse_
+unfolding sheetFault checkFault blockHolds headFault blockFault recordFault recordWord decodeOf recordBlocks spareFault timescaleOf framesOf sumWords wordAt firstOf faultUnless _orElse_ longOf
 head-limits = refl
 
 -- the values of an answer: the head's of the small sheet, none of a sheet with a fault

@@ -1,3 +1,4 @@
 pub mod Vectors
 pub mod Edges
 pub mod Named
+pub mod Stills

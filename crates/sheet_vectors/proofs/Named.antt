@@ -6,9 +6,9 @@ use lib.ListN.{length}
 use Rattle.base.specs.Put.{put, placed}
 use Rattle.base.specs.Refusal.{_orElse_, faultUnless, firstOf}
 use Rattle.blocks.specs.Block.{wordAt, sumWords, blockHolds}
-use Rattle.frames.specs.Frames.{timescaleOf, framesOf, recordWord, decodeOf}
+use Rattle.frames.specs.Frames.{timescaleOf, framesOf, recordWord, decodeOf, longOf, ticksFrom, durationOf}
 use Rattle.once.specs.Once.{timesNamed, repeatFault, workBytes, onceNumber, workOnce}
-use Rattle.sheet.specs.Sheet.{spareFault, headFault, recordFault, checkFault, blockFault, recordBlocks, sheetFault, sheetNumber, workAfter}
+use Rattle.sheet.specs.Sheet.{spareFault, headFault, recordFault, checkFault, blockFault, recordBlocks, sheetFault, sheetNumber, workAfter, totalFault}
 use Rattle.sheet_vectors.specs.Small.{sheetWith}
 
 -- the sheet whose frames have these decode indices
@@ -21,47 +21,47 @@ named ds = sheetWith 1 (length ds) (lasting ds)
 
 -- eight frames need one work byte, nine need two
 eight-frames : map (sheetNumber (named (0 ∷ 1 ∷ 2 ∷ 3 ∷ 4 ∷ 5 ∷ 6 ∷ 7 ∷ []))) (0 ∷ 1 ∷ []) ≡ 16 ∷ 0 ∷ []
-unfolding sheetNumber onceNumber workBytes repeatFault timesNamed sheetFault checkFault blockHolds headFault blockFault recordFault recordWord decodeOf recordBlocks spareFault timescaleOf framesOf sumWords wordAt firstOf faultUnless _orElse_
+unfolding sheetNumber onceNumber workBytes repeatFault timesNamed sheetFault checkFault blockHolds headFault blockFault recordFault recordWord decodeOf recordBlocks spareFault timescaleOf framesOf sumWords wordAt firstOf faultUnless _orElse_ longOf totalFault ticksFrom durationOf
 eight-frames = refl
 
 nine-frames : map (sheetNumber (named (0 ∷ 1 ∷ 2 ∷ 3 ∷ 4 ∷ 5 ∷ 6 ∷ 7 ∷ 8 ∷ []))) (1 ∷ 2 ∷ []) ≡ 16 ∷ 0 ∷ []
-unfolding sheetNumber onceNumber workBytes repeatFault timesNamed sheetFault checkFault blockHolds headFault blockFault recordFault recordWord decodeOf recordBlocks spareFault timescaleOf framesOf sumWords wordAt firstOf faultUnless _orElse_
+unfolding sheetNumber onceNumber workBytes repeatFault timesNamed sheetFault checkFault blockHolds headFault blockFault recordFault recordWord decodeOf recordBlocks spareFault timescaleOf framesOf sumWords wordAt firstOf faultUnless _orElse_ longOf totalFault ticksFrom durationOf
 nine-frames = refl
 
 nine-backward : sheetNumber (named (8 ∷ 7 ∷ 6 ∷ 5 ∷ 4 ∷ 3 ∷ 2 ∷ 1 ∷ 0 ∷ [])) 2 ≡ 0
-unfolding sheetNumber onceNumber workBytes repeatFault timesNamed sheetFault checkFault blockHolds headFault blockFault recordFault recordWord decodeOf recordBlocks spareFault timescaleOf framesOf sumWords wordAt firstOf faultUnless _orElse_
+unfolding sheetNumber onceNumber workBytes repeatFault timesNamed sheetFault checkFault blockHolds headFault blockFault recordFault recordWord decodeOf recordBlocks spareFault timescaleOf framesOf sumWords wordAt firstOf faultUnless _orElse_ longOf totalFault ticksFrom durationOf
 nine-backward = refl
 
 -- an index met before (25), however far back; too few bytes (16) before it, an index that is too large (14) before both, wherever it stands
 two-zeros : map (sheetNumber (named (0 ∷ 0 ∷ []))) (0 ∷ 1 ∷ []) ≡ 16 ∷ 25 ∷ []
-unfolding sheetNumber onceNumber workBytes repeatFault timesNamed sheetFault checkFault blockHolds headFault blockFault recordFault recordWord decodeOf recordBlocks spareFault timescaleOf framesOf sumWords wordAt firstOf faultUnless _orElse_
+unfolding sheetNumber onceNumber workBytes repeatFault timesNamed sheetFault checkFault blockHolds headFault blockFault recordFault recordWord decodeOf recordBlocks spareFault timescaleOf framesOf sumWords wordAt firstOf faultUnless _orElse_ longOf totalFault ticksFrom durationOf
 two-zeros = refl
 
 last-repeats : sheetNumber (named (0 ∷ 1 ∷ 2 ∷ 3 ∷ 4 ∷ 5 ∷ 6 ∷ 7 ∷ 0 ∷ [])) 2 ≡ 25
-unfolding sheetNumber onceNumber workBytes repeatFault timesNamed sheetFault checkFault blockHolds headFault blockFault recordFault recordWord decodeOf recordBlocks spareFault timescaleOf framesOf sumWords wordAt firstOf faultUnless _orElse_
+unfolding sheetNumber onceNumber workBytes repeatFault timesNamed sheetFault checkFault blockHolds headFault blockFault recordFault recordWord decodeOf recordBlocks spareFault timescaleOf framesOf sumWords wordAt firstOf faultUnless _orElse_ longOf totalFault ticksFrom durationOf
 last-repeats = refl
 
 all-zero : map (sheetNumber (named (0 ∷ 0 ∷ 0 ∷ 0 ∷ 0 ∷ 0 ∷ 0 ∷ 0 ∷ 0 ∷ []))) (1 ∷ 2 ∷ []) ≡ 16 ∷ 25 ∷ []
-unfolding sheetNumber onceNumber workBytes repeatFault timesNamed sheetFault checkFault blockHolds headFault blockFault recordFault recordWord decodeOf recordBlocks spareFault timescaleOf framesOf sumWords wordAt firstOf faultUnless _orElse_
+unfolding sheetNumber onceNumber workBytes repeatFault timesNamed sheetFault checkFault blockHolds headFault blockFault recordFault recordWord decodeOf recordBlocks spareFault timescaleOf framesOf sumWords wordAt firstOf faultUnless _orElse_ longOf totalFault ticksFrom durationOf
 all-zero = refl
 
 last-above : sheetNumber (named (0 ∷ 1 ∷ 2 ∷ 3 ∷ 4 ∷ 5 ∷ 6 ∷ 7 ∷ 9 ∷ [])) 2 ≡ 14
-unfolding sheetNumber onceNumber workBytes repeatFault timesNamed sheetFault checkFault blockHolds headFault blockFault recordFault recordWord decodeOf recordBlocks spareFault timescaleOf framesOf sumWords wordAt firstOf faultUnless _orElse_
+unfolding sheetNumber onceNumber workBytes repeatFault timesNamed sheetFault checkFault blockHolds headFault blockFault recordFault recordWord decodeOf recordBlocks spareFault timescaleOf framesOf sumWords wordAt firstOf faultUnless _orElse_ longOf totalFault ticksFrom durationOf
 last-above = refl
 
 above-later : sheetNumber (named (0 ∷ 0 ∷ 9 ∷ 3 ∷ 4 ∷ 5 ∷ 6 ∷ 7 ∷ 8 ∷ [])) 2 ≡ 14
-unfolding sheetNumber onceNumber workBytes repeatFault timesNamed sheetFault checkFault blockHolds headFault blockFault recordFault recordWord decodeOf recordBlocks spareFault timescaleOf framesOf sumWords wordAt firstOf faultUnless _orElse_
+unfolding sheetNumber onceNumber workBytes repeatFault timesNamed sheetFault checkFault blockHolds headFault blockFault recordFault recordWord decodeOf recordBlocks spareFault timescaleOf framesOf sumWords wordAt firstOf faultUnless _orElse_ longOf totalFault ticksFrom durationOf
 above-later = refl
 
 -- the work bytes afterwards: those needed are zero with 0 and 25, and all stay where they are too few or the sheet has a fault
 bytes-left : map (workAfter (named (0 ∷ 1 ∷ 2 ∷ 3 ∷ 4 ∷ 5 ∷ 6 ∷ 7 ∷ 8 ∷ []))) ((255 ∷ 255 ∷ 255 ∷ 255 ∷ []) ∷ (255 ∷ []) ∷ []) ≡ (0 ∷ 0 ∷ 255 ∷ 255 ∷ []) ∷ (255 ∷ []) ∷ []
-unfolding sheetNumber onceNumber workBytes repeatFault timesNamed sheetFault checkFault blockHolds headFault blockFault recordFault recordWord decodeOf recordBlocks spareFault timescaleOf framesOf sumWords wordAt firstOf faultUnless _orElse_ workAfter workOnce placed put
+unfolding sheetNumber onceNumber workBytes repeatFault timesNamed sheetFault checkFault blockHolds headFault blockFault recordFault recordWord decodeOf recordBlocks spareFault timescaleOf framesOf sumWords wordAt firstOf faultUnless _orElse_ workAfter workOnce placed put longOf totalFault ticksFrom durationOf
 bytes-left = refl
 
 bytes-left-25 : workAfter (named (0 ∷ 0 ∷ [])) (255 ∷ 255 ∷ []) ≡ 0 ∷ 255 ∷ []
-unfolding sheetNumber onceNumber workBytes repeatFault timesNamed sheetFault checkFault blockHolds headFault blockFault recordFault recordWord decodeOf recordBlocks spareFault timescaleOf framesOf sumWords wordAt firstOf faultUnless _orElse_ workAfter workOnce placed put
+unfolding sheetNumber onceNumber workBytes repeatFault timesNamed sheetFault checkFault blockHolds headFault blockFault recordFault recordWord decodeOf recordBlocks spareFault timescaleOf framesOf sumWords wordAt firstOf faultUnless _orElse_ workAfter workOnce placed put longOf totalFault ticksFrom durationOf
 bytes-left-25 = refl
 
 bytes-left-14 : workAfter (named (0 ∷ 1 ∷ 2 ∷ 3 ∷ 4 ∷ 5 ∷ 6 ∷ 7 ∷ 9 ∷ [])) (255 ∷ 255 ∷ []) ≡ 255 ∷ 255 ∷ []
-unfolding sheetNumber onceNumber workBytes repeatFault timesNamed sheetFault checkFault blockHolds headFault blockFault recordFault recordWord decodeOf recordBlocks spareFault timescaleOf framesOf sumWords wordAt firstOf faultUnless _orElse_ workAfter workOnce placed put
+unfolding sheetNumber onceNumber workBytes repeatFault timesNamed sheetFault checkFault blockHolds headFault blockFault recordFault recordWord decodeOf recordBlocks spareFault timescaleOf framesOf sumWords wordAt firstOf faultUnless _orElse_ workAfter workOnce placed put longOf totalFault ticksFrom durationOf
 bytes-left-14 = refl

@@ -10,7 +10,7 @@ use Rattle.event.specs.Decide.{decideIn}
 use Rattle.event.specs.Cases.{told, decisionCase}
 use Rattle.table.specs.Example.{setting}
 
-pub strange-told : decisionCase (decideIn (setting 0) (segment 0 1 0 1 4503599627370496 1 ∷ []) 0 1) ≡ told 15 []
+pub strange-told : decisionCase (decideIn (setting 0) (segment 0 1 0 1 9007199254740992 1 ∷ []) 0 1) ≡ told 15 []
 unfolding kindBad unitsOf ticksOf coreHolds ticksWithin endBad meetsParts findFrom decideIn
 strange-told = refl
 

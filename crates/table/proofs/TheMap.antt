@@ -14,7 +14,7 @@ use Rattle.pattern.specs.Piece.{piecesFrom, pieces}
 use Rattle.text.specs.Number.{digit, digits, valueFrom, natural, unsigned, number}
 use Rattle.text.specs.Line.{blank}
 use Rattle.blocks.specs.Block.{wordAt}
-use Rattle.frames.specs.Frames.{recordWord, decodeOf, syncOf, durationOf, framesOf, timescaleOf}
+use Rattle.frames.specs.Frames.{recordWord, decodeOf, syncOf, durationOf, framesOf, timescaleOf, longOf, ticksFrom}
 use Rattle.sheet_vectors.specs.Small.{smallSheet}
 use Rattle.sheet_vectors.proofs.Vectors.{small-number, small-timescale, small-frames}
 use Rattle.trim.specs.Token.{rangeOf, boundsOf, pairOf, closedOf, tokenOf, behindEnd, stepOf, tokenNumber, tokenRange, tokenEnd}
@@ -22,7 +22,7 @@ use Rattle.trim.specs.TrimList.{tokensOf, listTokens, tokensNumber, rangesIn, h
 use Rattle.plan.specs.Snap.{lastBelow, firstFrom, floorSync, ceilSync, snapStart, snapEnd, snapAll, overlapsFault}
 use Rattle.segment.specs.declared.segment.Segment.{Segment}
 use Rattle.segment.specs.Segment.{segment}
-use Rattle.segmap.specs.Build.{ticksFrom, sourceStart, rangeTicks, rangeFault, rangesFault, segmentIn, segmentsIn}
+use Rattle.segmap.specs.Build.{sourceStart, rangeTicks, rangeFault, rangesFault, segmentIn, segmentsIn, keptNumber, keptTicks}
 use Rattle.segmap.specs.Map.{rangesFor, snappedOf, cutNumber, mapNumber, Map, mapAnswer, mapOf}
 use Rattle.table.specs.Example.{theList, theMap, theSegments}
 
@@ -42,28 +42,24 @@ abbrev snapped : List ℕ
 snapped = 0 ∷ 3 ∷ 6 ∷ 10 ∷ []
 
 snaps : snapAll smallSheet 10 0 (0 ∷ 3 ∷ 6 ∷ 9 ∷ []) ≡ snapped
-unfolding snapAll snapStart snapEnd floorSync ceilSync lastBelow firstFrom smallSheet syncOf recordWord wordAt
+unfolding snapAll snapStart snapEnd floorSync ceilSync lastBelow firstFrom smallSheet syncOf recordWord wordAt longOf
 snaps = refl
 
 snapped-is : snappedOf smallSheet theList 0 ≡ snapped
 unfolding snappedOf rangesFor
 snapped-is = rw (small-frames, list-told, list-ranges) snaps
 
-overlap-none : overlapsFault 0 snapped ≡ 0
-unfolding overlapsFault faultUnless _orElse_
-overlap-none = refl
-
-ranges-good : rangesFault smallSheet 10 snapped ≡ 0
-unfolding rangesFault rangeFault faultUnless _orElse_ smallSheet decodeOf recordWord wordAt
+ranges-good : keptNumber smallSheet 10 snapped ≡ 0
+unfolding keptNumber keptTicks rangeTicks ticksFrom overlapsFault rangesFault rangeFault faultUnless _orElse_ smallSheet decodeOf durationOf recordWord wordAt longOf
 ranges-good = refl
 
 segments-are : segmentsIn smallSheet 0 snapped ≡ segment 0 3 0 3 0 3003 ∷ segment 6 10 6006 4 3003 4004 ∷ []
-unfolding segmentsIn segmentIn sourceStart rangeTicks ticksFrom smallSheet decodeOf durationOf recordWord wordAt
+unfolding segmentsIn segmentIn sourceStart rangeTicks ticksFrom smallSheet decodeOf durationOf recordWord wordAt longOf
 segments-are = refl
 
 number-is : mapNumber smallSheet theList 0 6144 mostWork ≡ 0
 unfolding mapNumber cutNumber faultUnless _orElse_
-number-is = rw (small-number, list-number, snapped-is, small-frames, overlap-none, ranges-good)
+number-is = rw (small-number, list-number, snapped-is, small-frames, ranges-good)
 
 -- all that `mapper` prints
 pub map-is : theMap ≡ record { number = 0; timescale = 30000; count = 2; segments = segment 0 3 0 3 0 3003 ∷ segment 6 10 6006 4 3003 4004 ∷ [] }

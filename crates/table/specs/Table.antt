@@ -77,8 +77,8 @@ pub record Table (m : List Segment) : Type 0 where
   pub hit-none : hitCase (hitOf (findHit m 3600 6000)) ≡ told 0 []
   pub decision-kept : decisionCase (decideOf (setting 0) m 5 25) ≡ told 0 (5 ∷ 11 ∷ [])
   pub decision-dropped : decisionCase (decideOf (setting 0) m 12 20) ≡ told 0 []
-  -- output start + duration above 2^52: 15; at 2^52 it is kept
-  pub decision-strange : decisionCase (decideIn (setting 0) (segment 0 1 0 1 4503599627370496 1 ∷ []) 0 1) ≡ told 15 []
+  -- output start + duration above 2^53: 15; at 2^53 it is kept
+  pub decision-strange : decisionCase (decideIn (setting 0) (segment 0 1 0 1 9007199254740992 1 ∷ []) 0 1) ≡ told 15 []
   pub decision-limit : decisionCase (decideIn (setting 0) (segment 0 1 0 1 4503599627370495 1 ∷ []) 0 1) .number ≡ 0
   -- ---- times
   pub sixty-minutes : timeNumber (timeIn 0 (ascii "0:60:00.00")) ≡ 22

@@ -17,13 +17,22 @@ unfolding startUnits endUnits scaledUp
 cut-caption = (refl, refl)
 
 -- lone conversions: at the limits, past them, and which refusal comes first
-units-limits : (unitsNumber 0 1 (2 ^ 36) ≡ 0) × (unitsNumber 1 1000000 (2 ^ 36 + 1) ≡ 16) × (unitsNumber 2 1000000 5 ≡ 16) × (unitsNumber 2 0 5 ≡ 15) × (unitsNumber 0 1000001 5 ≡ 15)
+units-limits : (unitsNumber 0 1 (2 ^ 36) ≡ 0) × (unitsNumber 1 1000000 (2 ^ 36 + 1) ≡ 16) × (unitsNumber 2 1000000 5 ≡ 16) × (unitsNumber 2 0 5 ≡ 15) × (unitsNumber 0 1000000000 5 ≡ 0) × (unitsNumber 0 1000000001 5 ≡ 15)
 unfolding unitsNumber settingNumber timescaleBad kindBad faultUnless _orElse_
-units-limits = (refl, refl, refl, refl, refl)
+units-limits = (refl, refl, refl, refl, refl, refl)
 
-ticks-limits : (ticksNumber 1 1 (2 ^ 52) ≡ 0) × (ticksNumber 0 1 (2 ^ 52 + 1) ≡ 16) × (ticksNumber 0 0 (2 ^ 52 + 1) ≡ 15)
+ticks-limits : (ticksNumber 1 1 (2 ^ 53) ≡ 0) × (ticksNumber 0 1 (2 ^ 53 + 1) ≡ 16) × (ticksNumber 0 0 (2 ^ 53 + 1) ≡ 15)
 unfolding ticksNumber settingNumber timescaleBad kindBad faultUnless _orElse_
 ticks-limits = (refl, refl, refl)
+
+-- exact at the limits: 2^36 units at T 10^9, where a product of 64 bits is not enough; 2^53 ticks at T 1 and at T 10^9
+far-units : (ticksOf 1000000000 100 (2 ^ 36) ≡ 687194767360000000) × (ticksOf 1000000000 1000 (2 ^ 36) ≡ 68719476736000000)
+unfolding ticksOf
+far-units = (refl, refl)
+
+far-ticks : (startUnits 1 1000 (2 ^ 53) ≡ 9007199254740992000) × (endUnits 1 1000 (2 ^ 53) ≡ 9007199254740992000) × (startUnits 1000000000 100 (2 ^ 53) ≡ 900719925) × (endUnits 1000000000 100 (2 ^ 53) ≡ 900719926)
+unfolding startUnits endUnits scaledUp
+far-ticks = (refl, refl, refl, refl)
 
 refused-value : (convertedTo (unitsNumber 2 1000 5) 7 .value ≡ 0) × (convertedTo (unitsNumber 1 1000 5) 7 .value ≡ 7)
 unfolding convertedTo unitsNumber settingNumber timescaleBad kindBad faultUnless _orElse_

@@ -24,7 +24,7 @@ unfoldable pub endUnits : (T U ticks : ℕ) → ℕ
 endUnits T U ticks = scaledUp ticks U T
 
 -- ---- lone conversions
--- T is outside 1 to 1,000,000 (15)
+-- T is outside 1 to 1,000,000,000 (15)
 unfoldable pub timescaleBad : ℕ → Bool
 timescaleBad T = cond (ltb T 1) true (ltb mostTimescale T)
 
@@ -32,7 +32,7 @@ timescaleBad T = cond (ltb T 1) true (ltb mostTimescale T)
 unfoldable pub settingNumber : (kind T : ℕ) → ℕ
 settingNumber kind T = faultUnless (not (timescaleBad T)) 15 orElse faultUnless (not (kindBad kind)) 16
 
--- and then the value: units to 2^36, ticks to 2^52
+-- and then the value: units to 2^36, ticks to 2^53
 unfoldable pub unitsNumber : (kind T units : ℕ) → ℕ
 unitsNumber kind T units = settingNumber kind T orElse faultUnless (leb units mostUnits) 16
 

@@ -1,11 +1,10 @@
-use Prim.Native.Nat.{ℕ, _<_}
-use lib.ListN.{getD}
 use Rattle.segmap.proofs.TicksLaws.{ticks-done}
 use native.Mathlib.Omega.{arith}
 use mathlib.Core.Path.{_≡_}
 use Prim.Native.Nat.{_-_, _≤_}
-use Rattle.segmap.specs.Build.{ticksFrom}
-use Rattle.segmap.proofs.TicksLaws.{ticks-next, ticks-fit}
+use Rattle.frames.specs.Frames.{ticksFrom}
+use Rattle.frames.proofs.TicksLaws.{ticks-next}
+use Rattle.segmap.proofs.TicksLaws.{ticks-fit}
 use borrow.Author.Needs.{needs}
 use Rattle.segmap.proofs.sums.add_up.Statement.{statement}
 use Rattle.segmap.proofs.sums.add_up.Tie as tie
@@ -23,8 +22,7 @@ duration-at-requires : tie.Need-duration-at-requires Inv-loop μ-loop
 duration-at-requires c κs = search needs
 
 add-ticks : tie.Need-add-ticks Inv-loop μ-loop
-add-ticks c = let b : (j : ℕ) → getD (c .before .before .before .before .before .before .before .args .s .now) j 0 < 256 = λ j. c .before .before .before .before .before .before .shared-slice-known .given j .fits in
-    search (ticks-fit, b)
+add-ticks c = search ticks-fit
 
 add-t8 : tie.Need-add-t8 Inv-loop μ-loop
 add-t8 c = search needs

@@ -8,7 +8,7 @@ at-first-requires : tie.Need-at-first-requires
 at-first-requires c κs = search needs
 
 add-up-requires : tie.Need-add-up-requires
-add-up-requires c κs = (search ticks-start, omega arith, omega arith)
+add-up-requires c κs = (search ticks-start, omega arith, search needs)
 
 returns : tie.Need-returns
 returns c = search needs

@@ -1,5 +1,5 @@
 use native.Mathlib.Omega.{arith}
-use Rattle.segmap.proofs.MapLaws.{short-made, short-work, short-map, direction-made, direction-work, direction-map, checked-work, sheet-made, sheet-map, cut-made, cut-map, sound-fault, sound-frames, sound-timescale}
+use Rattle.segmap.proofs.MapLaws.{short-made, short-work, short-map, direction-made, direction-work, direction-map, checked-work, sheet-made, sheet-map, cut-made, cut-map, sound-fault, sound-frames, sound-timescale, sound-within}
 use borrow.Author.Needs.{needs}
 use Rattle.segmap.proofs.whole.make.Statement.{statement}
 use Rattle.segmap.proofs.whole.make.Tie as tie
@@ -35,7 +35,7 @@ slice-aggregate-map-ranges : tie.Need-slice-aggregate-map-ranges
 slice-aggregate-map-ranges c = search needs
 
 map-ranges-requires : tie.Need-map-ranges-requires
-map-ranges-requires c κs = ((search sound-fault, search sound-frames, search sound-timescale), (omega arith, omega arith, omega arith))
+map-ranges-requires c κs = ((search sound-fault, search sound-frames, search sound-timescale, search sound-within), (omega arith, omega arith, omega arith))
 
 returns-3 : tie.Need-returns-3
 returns-3 c = (search sheet-made, (search checked-work, search sheet-map))

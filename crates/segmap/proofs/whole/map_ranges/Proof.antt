@@ -23,7 +23,7 @@ snap-requires c κs = search needs
 
 keep-requires : tie.Need-keep-requires
 keep-requires c κs = let few : c .before .before .before .before .before .before .before .before .before .ranges-of .result .count ≤ mostSegments = search count-few in
-    (search frames-few, few, omega arith, omega arith)
+    (search frames-few, search needs, few, omega arith, omega arith)
 
 refused-requires-2 : tie.Need-refused-requires-2
 refused-requires-2 c κs = search needs

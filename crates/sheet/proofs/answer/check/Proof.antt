@@ -1,4 +1,5 @@
-use Rattle.sheet.proofs.FaultLaws.{fault-answer, fault-work, once-answer, once-work, sound-answer}
+use Rattle.sheet.proofs.FaultLaws.{fault-answer, fault-work, once-answer, once-work, total-answer, sound-answer}
+use Rattle.sheet.proofs.SheetLaws.{frames-few}
 use borrow.Author.Needs.{needs}
 use Rattle.sheet.proofs.answer.check.Statement.{statement}
 use Rattle.sheet.proofs.answer.check.Tie as tie
@@ -10,6 +11,7 @@ use Rattle.frames.proofs.rate_num.Reads as rate-num-reads
 use Rattle.frames.proofs.timescale.Reads as timescale-reads
 use Rattle.once.proofs.once_fault.Reads as once-fault-reads
 use Rattle.sheet.proofs.faults.fault.Reads as fault-reads
+use Rattle.sheet.proofs.totals.total_fault.Reads as total-fault-reads
 
 fault-requires : tie.Need-fault-requires
 fault-requires c κs = search needs
@@ -29,6 +31,15 @@ same-length c = search needs
 returns-2 : tie.Need-returns-2
 returns-2 c = (search once-answer, search once-work)
 
+total-fault-requires : tie.Need-total-fault-requires
+total-fault-requires c κs = search frames-few
+
+same-length-2 : tie.Need-same-length-2
+same-length-2 c = search needs
+
+returns-3 : tie.Need-returns-3
+returns-3 c = (search total-answer, search once-work)
+
 timescale-requires : tie.Need-timescale-requires
 timescale-requires c κs = search needs
 
@@ -38,11 +49,11 @@ rate-num-requires c κs = search needs
 rate-den-requires : tie.Need-rate-den-requires
 rate-den-requires c κs = search needs
 
-same-length-2 : tie.Need-same-length-2
-same-length-2 c = search needs
+same-length-3 : tie.Need-same-length-3
+same-length-3 c = search needs
 
-returns-3 : tie.Need-returns-3
-returns-3 c = (search sound-answer, search once-work)
+returns-4 : tie.Need-returns-4
+returns-4 c = (search sound-answer, search once-work)
 
 pub check-spec : {M : Type 1} → statement M
 check-spec =
@@ -54,8 +65,11 @@ check-spec =
     once-fault-requires
     same-length
     returns-2
+    total-fault-requires
+    same-length-2
+    returns-3
     timescale-requires
     rate-num-requires
     rate-den-requires
-    same-length-2
-    returns-3)
+    same-length-3
+    returns-4)

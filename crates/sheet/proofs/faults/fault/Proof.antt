@@ -31,6 +31,9 @@ returns-4 c = search fault-head
 frames-requires : tie.Need-frames-requires
 frames-requires c κs = search needs
 
+long-requires : tie.Need-long-requires
+long-requires c κs = search needs
+
 record-blocks-requires : tie.Need-record-blocks-requires
 record-blocks-requires c κs = search needs
 
@@ -60,6 +63,7 @@ fault-spec =
     head-fault-requires
     returns-4
     frames-requires
+    long-requires
     record-blocks-requires
     add-if5
     mul-if5

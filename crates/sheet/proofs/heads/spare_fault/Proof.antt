@@ -12,7 +12,7 @@ use Rattle.sheet.proofs.heads.spare_fault.Lts as lts
 use Rattle.blocks.proofs.word.Reads as word-reads
 
 abbrev Inv-loop : tie.InvT-loop
-Inv-loop s i₀ i = (i ≤ 127) × (firstOf (spareFault s 13) i (127 - i) ≡ firstOf (spareFault s 13) 5 122)
+Inv-loop s i₀ i = (i ≤ 127) × (firstOf (spareFault s 13) i (127 - i) ≡ firstOf (spareFault s 13) 6 121)
 
 abbrev μ-loop : tie.MeasureT-loop
 μ-loop s i₀ i = 127 - i

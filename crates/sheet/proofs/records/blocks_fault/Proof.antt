@@ -1,10 +1,10 @@
 use Prim.Native.Nat.{_-_, _≤_}
 use mathlib.Core.Path.{_≡_}
-use native.Mathlib.Omega.{arith}
 use Rattle.base.specs.Refusal.{firstOf}
-use Rattle.base.proofs.RefusalLaws.{left-start, left-here, left-done}
+use Rattle.base.proofs.RefusalLaws.{left-here, left-done}
+use Rattle.frames.specs.Frames.{longOf}
 use Rattle.sheet.specs.Sheet.{blockFault, recordBlocks}
-use Rattle.sheet.proofs.FaultLaws.{left-pass}
+use Rattle.sheet.proofs.FaultLaws.{left-pass, blocks-start}
 use borrow.Author.Needs.{needs}
 use Rattle.sheet.proofs.records.blocks_fault.Statement.{statement}
 use Rattle.sheet.proofs.records.blocks_fault.Tie as tie
@@ -14,10 +14,13 @@ use Rattle.sheet.proofs.records.block_fault.Reads as block-fault-reads
 use Rattle.sheet.proofs.records.record_blocks.Reads as record-blocks-reads
 
 abbrev Inv-loop : tie.InvT-loop
-Inv-loop s n count end b₀ b = (1 ≤ b) × (b ≤ end) × (firstOf (blockFault s n) b (end - b) ≡ firstOf (blockFault s n) 1 (recordBlocks n))
+Inv-loop s n count long end b₀ b = (1 ≤ b) × (b ≤ end) × (firstOf (blockFault s n) b (end - b) ≡ firstOf (blockFault s n) 1 (recordBlocks (longOf s) n))
 
 abbrev μ-loop : tie.MeasureT-loop
-μ-loop s n count end b₀ b = end - b
+μ-loop s n count long end b₀ b = end - b
+
+long-requires : tie.Need-long-requires Inv-loop μ-loop
+long-requires c κs = search needs
 
 record-blocks-requires : tie.Need-record-blocks-requires Inv-loop μ-loop
 record-blocks-requires c κs = search needs
@@ -26,7 +29,7 @@ add-end : tie.Need-add-end Inv-loop μ-loop
 add-end c = search needs
 
 loop-holds : tie.Need-loop-holds Inv-loop μ-loop
-loop-holds c = (search needs, search needs, left-start _ _ _ _ (omega arith))
+loop-holds c = (search needs, search needs, search blocks-start)
 
 block-fault-requires : tie.Need-block-fault-requires Inv-loop μ-loop
 block-fault-requires c κs = search needs
@@ -52,6 +55,7 @@ blocks-fault-spec =
     (tie.spec
     Inv-loop
     μ-loop
+    long-requires
     record-blocks-requires
     add-end
     loop-holds

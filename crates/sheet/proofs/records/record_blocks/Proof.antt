@@ -1,4 +1,4 @@
-use Rattle.sheet.specs.Sheet.{recordBlocks}
+use Rattle.sheet.proofs.FaultLaws.{blocks-long, blocks-short}
 use borrow.Author.Needs.{needs}
 use Rattle.sheet.proofs.records.record_blocks.Statement.{statement}
 use Rattle.sheet.proofs.records.record_blocks.Tie as tie
@@ -9,8 +9,13 @@ add-result : tie.Need-add-result
 add-result c = search needs
 
 returns : tie.Need-returns
-unfolding recordBlocks
-returns c = search needs
+returns c = (search blocks-long, search needs)
+
+add-result-2 : tie.Need-add-result-2
+add-result-2 c = search needs
+
+returns-2 : tie.Need-returns-2
+returns-2 c = (search blocks-short, search needs)
 
 pub record-blocks-spec : {M : Type 1} → statement M
-record-blocks-spec = tie.close (tie.spec add-result returns)
+record-blocks-spec = tie.close (tie.spec add-result returns add-result-2 returns-2)

@@ -1,4 +1,4 @@
-use Rattle.sheet.proofs.FaultLaws.{record-high, record-good, record-first, record-second, record-clear}
+use Rattle.sheet.proofs.FaultLaws.{record-high, record-good, record-first, record-second, record-third, record-clear, record-short}
 use borrow.Author.Needs.{needs}
 use Rattle.sheet.proofs.records.record_fault.Statement.{statement}
 use Rattle.sheet.proofs.records.record_fault.Tie as tie
@@ -33,8 +33,20 @@ word-requires-2 c κs = search needs
 returns-4 : tie.Need-returns-4
 returns-4 c = search record-second
 
+add-word-2 : tie.Need-add-word-2
+add-word-2 c = search needs
+
+word-requires-3 : tie.Need-word-requires-3
+word-requires-3 c κs = search needs
+
 returns-5 : tie.Need-returns-5
-returns-5 c = search record-clear
+returns-5 c = search record-third
+
+returns-6 : tie.Need-returns-6
+returns-6 c = search record-clear
+
+returns-7 : tie.Need-returns-7
+returns-7 c = search record-short
 
 pub record-fault-spec : {M : Type 1} → statement M
 record-fault-spec =
@@ -49,4 +61,8 @@ record-fault-spec =
     add-word
     word-requires-2
     returns-4
-    returns-5)
+    add-word-2
+    word-requires-3
+    returns-5
+    returns-6
+    returns-7)

@@ -1,11 +1,10 @@
-use Prim.Native.Nat.{_+_, _-_, _*_, _≤_}
+use Prim.Native.Nat.{_+_, _-_, _*_, _^_, _≤_, _<_}
 use mathlib.Core.Path.{_≡_}
-use native.Mathlib.Omega.{arith}
 use Rattle.base.specs.Refusal.{firstOf}
-use Rattle.base.proofs.RefusalLaws.{left-start, left-here, left-done}
-use Rattle.frames.specs.Frames.{recordWord}
+use Rattle.base.proofs.RefusalLaws.{left-here, left-done}
+use Rattle.frames.specs.Frames.{perBlock}
 use Rattle.sheet.specs.Sheet.{recordFault}
-use Rattle.sheet.proofs.FaultLaws.{left-pass}
+use Rattle.sheet.proofs.FaultLaws.{left-pass, record-on-fits, record-at, record-on, record-none, records-start}
 use borrow.Author.Needs.{needs}
 use Rattle.sheet.proofs.records.records_fault.Statement.{statement}
 use Rattle.sheet.proofs.records.records_fault.Tie as tie
@@ -14,16 +13,19 @@ use Rattle.sheet.proofs.records.records_fault.Lts as lts
 use Rattle.sheet.proofs.records.record_fault.Reads as record-fault-reads
 
 abbrev Inv-loop : tie.InvT-loop
-Inv-loop s n b start end i₀ w₀ i w = (i ≤ end) × (start ≤ i) × (w ≡ 128 * b + 1 + 2 * (i - start)) × (firstOf (recordFault s n) i (end - i) ≡ firstOf (recordFault s n) (63 * (b - 1)) 63)
+Inv-loop s long n b per width start end i₀ w₀ i w = (i ≤ end) × (start ≤ i) × (w ≡ 128 * b + 1 + width * (i - start)) × (w < 2 ^ 40) × (firstOf (recordFault s n) i (end - i) ≡ firstOf (recordFault s n) (perBlock long * (b - 1)) (perBlock long))
 
 abbrev μ-loop : tie.MeasureT-loop
-μ-loop s n b start end i₀ w₀ i w = end - i
+μ-loop s long n b per width start end i₀ w₀ i w = end - i
 
-sub-start : tie.Need-sub-start Inv-loop μ-loop
-sub-start c = search needs
+per-block-requires : tie.Need-per-block-requires Inv-loop μ-loop
+per-block-requires c κs = search needs
 
-mul-start : tie.Need-mul-start Inv-loop μ-loop
-mul-start c = search needs
+record-width-requires : tie.Need-record-width-requires Inv-loop μ-loop
+record-width-requires c κs = search needs
+
+first-record-requires : tie.Need-first-record-requires Inv-loop μ-loop
+first-record-requires c κs = search needs
 
 add-end : tie.Need-add-end Inv-loop μ-loop
 add-end c = search needs
@@ -35,11 +37,10 @@ add-w : tie.Need-add-w Inv-loop μ-loop
 add-w c = search needs
 
 loop-holds : tie.Need-loop-holds Inv-loop μ-loop
-loop-holds c = (search needs, search needs, search needs, left-start _ _ 63 _ (omega arith))
+loop-holds c = (search needs, search needs, search record-none, search needs, search records-start)
 
 record-fault-requires : tie.Need-record-fault-requires Inv-loop μ-loop
-unfolding recordWord
-record-fault-requires c κs = search needs
+record-fault-requires c κs = (search needs, search record-at, search needs)
 
 returns : tie.Need-returns Inv-loop μ-loop
 returns c = search left-here
@@ -54,7 +55,7 @@ loop-less : tie.Need-loop-less Inv-loop μ-loop
 loop-less c = search needs
 
 loop-again : tie.Need-loop-again Inv-loop μ-loop
-loop-again c = (search needs, search needs, search needs, search left-pass)
+loop-again c = (search needs, search needs, search record-on, search record-on-fits, search left-pass)
 
 returns-2 : tie.Need-returns-2 Inv-loop μ-loop
 returns-2 c = search left-done
@@ -65,8 +66,9 @@ records-fault-spec =
     (tie.spec
     Inv-loop
     μ-loop
-    sub-start
-    mul-start
+    per-block-requires
+    record-width-requires
+    first-record-requires
     add-end
     mul-w
     add-w

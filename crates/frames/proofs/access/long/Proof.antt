@@ -1,0 +1,16 @@
+use Rattle.frames.proofs.FrameLaws.{long-is}
+use borrow.Author.Needs.{needs}
+use Rattle.frames.proofs.access.long.Statement.{statement}
+use Rattle.frames.proofs.access.long.Tie as tie
+use Rattle.frames.proofs.access.long.Reads as reads
+use Rattle.frames.proofs.access.long.Lts as lts
+use Rattle.blocks.proofs.word.Reads as word-reads
+
+word-requires : tie.Need-word-requires
+word-requires c κs = search needs
+
+returns : tie.Need-returns
+returns c = search long-is
+
+pub long-spec : {M : Type 1} → statement M
+long-spec = tie.close (tie.spec word-requires returns)
