@@ -6,10 +6,10 @@ use Rattle.segment.specs.Segment.{segmentsOf}
 use Rattle.timing.specs.Style.{blankIn}
 use Rattle.lines.proofs.TellLaws.{srt-20, srt-22, srt-blank, srt-21, srt-add}
 use borrow.Author.Needs.{needs}
-use Rattle.lines.proofs.taking.srt_line.Statement.{statement}
-use Rattle.lines.proofs.taking.srt_line.Tie as tie
-use Rattle.lines.proofs.taking.srt_line.Reads as reads
-use Rattle.lines.proofs.taking.srt_line.Lts as lts
+use Rattle.lines.proofs.taking.block_line.Statement.{statement}
+use Rattle.lines.proofs.taking.block_line.Tie as tie
+use Rattle.lines.proofs.taking.block_line.Reads as reads
+use Rattle.lines.proofs.taking.block_line.Lts as lts
 use Rattle.base.proofs.bytes_at.Reads as bytes-at-reads
 use Rattle.timing.proofs.is_blank_in.Reads as is-blank-in-reads
 use Rattle.lines.proofs.telling.blank.Reads as blank-reads
@@ -48,7 +48,7 @@ returns-2 : tie.Need-returns-2
 returns-2 c =
     let a = c .before .before .before .before .before .before .before .before .before .before .before .before .before .before .before .before .before .before .before .args in
     let u : utf8 (a .line .now) ≡ true = sym (c .before .before .before .before .before .before .before .before .before .before .before .before .before .is-utf8 .ensures) ∙ not-false _ (c .before .before .before .before .before .before .before .before .before .before .before .before .if1 .left) in
-    let i : blankIn 1 (a .line .now) ≡ true = sym (c .before .before .before .before .before .before .before .before .before .before .before .is-blank-in .ensures) ∙ c .before .before .before .before .before .before .before .before .before .before .if2 .taken in
+    let i : blankIn (a .config .kind) (a .line .now) ≡ true = sym (c .before .before .before .before .before .before .before .before .before .before .before .is-blank-in .ensures) ∙ c .before .before .before .before .before .before .before .before .before .before .if2 .taken in
     srt-22 (a .config) (segmentsOf (a .map .now)) (a .n) (a .counts) (a .columns) (a .block .now) (a .line .now) _ _ _ _ _ _ u i (c .before .before .before .before .before .before .before .close-block .ensures .0) (c .before .if3 .taken) (c .quiet2 .ensures)
 
 bytes-at-requires : tie.Need-bytes-at-requires
@@ -68,7 +68,7 @@ returns-3 c =
     let a = c .before .before .before .before .before .before .before .before .before .before .before .before .before .before .before .before .before .before .before .before .before .before .before .args in
     let r = c .before .before .before .before .before .before .before .before .before .before .before .before .before .before .before .before .before .before .before .before .before .before .before .pre in
     let u : utf8 (a .line .now) ≡ true = sym (c .before .before .before .before .before .before .before .before .before .before .before .before .before .before .before .before .before .is-utf8 .ensures) ∙ not-false _ (c .before .before .before .before .before .before .before .before .before .before .before .before .before .before .before .before .if1 .left) in
-    let i : blankIn 1 (a .line .now) ≡ true = sym (c .before .before .before .before .before .before .before .before .before .before .before .before .before .before .before .is-blank-in .ensures) ∙ c .before .before .before .before .before .before .before .before .before .before .before .before .before .before .if2 .taken in
+    let i : blankIn (a .config .kind) (a .line .now) ≡ true = sym (c .before .before .before .before .before .before .before .before .before .before .before .before .before .before .before .is-blank-in .ensures) ∙ c .before .before .before .before .before .before .before .before .before .before .before .before .before .before .if2 .taken in
     let e = c .before .before .before .before .before .before .before .before .before .before .before .close-block in
     let y = c .before .before .before .bytes-at in
     srt-blank (a .config) (segmentsOf (a .map .now)) (a .n) (a .counts) (a .columns) (a .block .now) (a .line .now) (e .result) _ _ _ _ _ _ _ u i (e .ensures .0) (c .before .before .before .before .before .if3 .left) (r .room-long) (e .ensures .1) (y .ensures .0) (y .ensures .1) (c .blank .ensures)
@@ -83,7 +83,7 @@ returns-4 : tie.Need-returns-4
 returns-4 c =
     let a = c .before .before .before .before .before .before .before .before .before .before .before .args in
     let u : utf8 (a .line .now) ≡ true = sym (c .before .before .before .before .before .is-utf8 .ensures) ∙ not-false _ (c .before .before .before .before .if1 .left) in
-    let i : blankIn 1 (a .line .now) ≡ false = sym (c .before .before .before .is-blank-in .ensures) ∙ c .before .before .if2 .left in
+    let i : blankIn (a .config .kind) (a .line .now) ≡ false = sym (c .before .before .before .is-blank-in .ensures) ∙ c .before .before .if2 .left in
     srt-21 (a .config) (segmentsOf (a .map .now)) (a .n) (a .counts) (a .columns) (a .block .now) (a .line .now) _ _ _ u i (c .before .if4 .taken) (c .quiet3 .ensures)
 
 quiet-requires-4 : tie.Need-quiet-requires-4
@@ -93,11 +93,11 @@ returns-5 : tie.Need-returns-5
 returns-5 c =
     let a = c .before .before .before .before .before .before .before .before .before .before .before .args in
     let u : utf8 (a .line .now) ≡ true = sym (c .before .before .before .before .before .is-utf8 .ensures) ∙ not-false _ (c .before .before .before .before .if1 .left) in
-    let i : blankIn 1 (a .line .now) ≡ false = sym (c .before .before .before .is-blank-in .ensures) ∙ c .before .before .if2 .left in
+    let i : blankIn (a .config .kind) (a .line .now) ≡ false = sym (c .before .before .before .is-blank-in .ensures) ∙ c .before .before .if2 .left in
     srt-add (a .config) (segmentsOf (a .map .now)) (a .n) (a .counts) (a .columns) (a .block .now) (a .line .now) _ _ _ u i (c .before .if4 .left) (c .quiet4 .ensures)
 
-pub srt-line-spec : {M : Type 1} → statement M
-srt-line-spec =
+pub block-line-spec : {M : Type 1} → statement M
+block-line-spec =
     tie.close
     (tie.spec
     is-utf8-requires
