@@ -129,6 +129,20 @@ module _ (j : ℕ) (some : NotEmpty j) where
       checked-last true x a = a
       checked-last false x a = tt
 
+-- WebVTT: a last line of either sort
+head-end : (s : State) (l : List ℕ) → Parsed s → Leaves Parsed (headTakes s l)
+unfolding headTakes
+head-end s l h = go (utf8 l) (isHeader l)
+  where
+    go : (u b : Bool) → Leaves Parsed (cond u (cond b (says s (stays l ∷ [])) (faulty badHeader)) (faulty notUtf8))
+    go true true = h
+    go true false = tt
+    go false b = tt
+
+pub vtt-end : (s : State) (n : ℕ) (l : List ℕ) → Finished (s .block) → hasLf l ≡ false → (b : Bool) → Leaves Parsed (cond b (headTakes s l) (blockTakes (styleOf 2) s n l))
+vtt-end s n l f e true = head-end s l (lines-held (s .block) f)
+vtt-end s n l f e false = block-end 1 vtt-some s n l f e
+
 module _ (j : ℕ) (c : Config) (set : Set c) (g : List ℕ) (good : mapBad g ≡ false) where
   abbrev m : List Segment
   m = segmentsOf g
@@ -201,19 +215,6 @@ module _ (c : Config) (set : Set c) (g : List ℕ) (good : mapBad g ≡ false) w
   vtt-room : (s : State) (n : ℕ) (l : List ℕ) → Parsed s → (b : Bool) → Of c n₁ s l (cond b (headTakes s l) (blockTakes (styleOf 2) s n l))
   vtt-room s n l h true = head-room s l
   vtt-room s n l h false = block-step 1 c set g good s n l h
-
-  head-end : (s : State) (l : List ℕ) → Parsed s → Leaves Parsed (headTakes s l)
-  unfolding headTakes
-  head-end s l h = go (utf8 l) (isHeader l)
-    where
-      go : (u b : Bool) → Leaves Parsed (cond u (cond b (says s (stays l ∷ [])) (faulty badHeader)) (faulty notUtf8))
-      go true true = h
-      go true false = tt
-      go false b = tt
-
-  vtt-end : (s : State) (n : ℕ) (l : List ℕ) → Finished (s .block) → hasLf l ≡ false → (b : Bool) → Leaves Parsed (cond b (headTakes s l) (blockTakes (styleOf 2) s n l))
-  vtt-end s n l f e true = head-end s l (lines-held (s .block) f)
-  vtt-end s n l f e false = block-end 1 vtt-some s n l f e
 
   vtt-closes : (s : State) (n : ℕ) → Parsed s → (b : Bool) → Of c n₁ s [] (cond b (faulty badHeader) (closes (styleOf 2) s n (s .block) []))
   vtt-closes s n h true = tt
