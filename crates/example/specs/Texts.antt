@@ -39,6 +39,7 @@ assCue n S E z =
       stop = E;
       stopMark = 46;
       tagged = false;
+      stamped = false;
       frame = bytes (ascii "Dialogue:") ∷ start ∷ bytes (ascii ",") ∷ stop ∷ bytes z ∷ [];
     }
 

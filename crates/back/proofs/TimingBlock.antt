@@ -6,10 +6,9 @@ use mathlib.Core.List.{List, [], _∷_, _++_, append-assoc, append-nil}
 use Prim.Native.Nat.{ℕ, zero, suc, _+_, _*_, _-_, _≤_, _<_}
 use native.Mathlib.Omega.{arith}
 use lib.Dec.{ltb, eqb}
-use lib.Seq.{drop-drop, getD-drop}
-use lib.ListN.{length, drop, getD, length-append, drop-of-length-le}
+use lib.Seq.{drop-drop}
+use lib.ListN.{length, drop, getD, length-append}
 use Rattle.base.specs.Width.{byWidth}
-use Rattle.utf8.specs.Utf8.{tail}
 use Rattle.pattern.specs.Find.{first, contains, upTo, past}
 use Rattle.white.specs.White.{whiteHead, headFrom, trimHead}
 use Rattle.pattern.specs.Piece.{ontoFirst}
@@ -21,15 +20,15 @@ use Rattle.stamp.specs.declared.read.Time.the-variants.{At, Bad}
 use Rattle.time.specs.Kind.{unitsOf}
 use Rattle.stamp.specs.Read.{timeIn}
 use Rattle.stamp.specs.Write.{timeText}
-use Rattle.stamp.proofs.Reading.{time-marks}
+use Rattle.stamp.proofs.Written.{text-10}
 use Rattle.event.specs.Says.{Cue, stays, passes, cue}
 use Rattle.event.specs.Emit.{render}
-use Rattle.timing.specs.Style.{srtEnd, srt}
+use Rattle.timing.specs.Style.{endIn, stampsIn, styleOf}
 use Rattle.timing.specs.Arrow
 use Rattle.timing.specs.Arrow.{arrow, afterArrow, later, timingOf, Timing}
 use Rattle.block.specs.Block.{writtenArrow, blockFrame, blockCue, bothSay, endText, trailing, timingLineSays, timingSays, blockSays, BlockSays, faulty, says}
 use Rattle.block.proofs.WriteLaws.{frame-pieces}
-use Rattle.back.proofs.SrtLine.{Plain, TimeMark, plain-text, lf-plain, text-12, lineText, arrow-back, line-back}
+use Rattle.back.proofs.TimingLine.{Plain, Blocked, plain-text, lf-plain, lineText, arrow-back, line-back}
 use Rattle.text.proofs.LfLaws.{lf-append, ends-append, lf-drop, lf-get, text-lf}
 
 -- ---- what is trailing is the end of the line's text
@@ -47,20 +46,20 @@ head-drops (b ∷ r) zero = go (whiteHead (b ∷ r)) (λ k. head-drops r k)
     go zero ih = record { count = 0; is = refl }
     go (suc k) ih = record { count = suc (ih k .count); is = ih k .is }
 
-trailing-drops : (t : List ℕ) → Drops t (trailing srt t)
+trailing-drops : (kind : ℕ) (t : List ℕ) → Drops t (trailing (styleOf kind) t)
 unfolding afterArrow past trimHead
-trailing-drops t =
+trailing-drops kind t =
     let p = first arrow t + length arrow in
     let d = head-drops (drop p t) 0 in
     record {
-      count = p + (d .count + srtEnd (trimHead (drop p t)));
+      count = p + (d .count + endIn kind (trimHead (drop p t)));
       is =
-          ap (drop (srtEnd (trimHead (drop p t)))) (d .is) ∙ drop-drop (srtEnd (trimHead (drop p t))) (d .count) (drop p t) ∙ drop-drop (d .count + srtEnd (trimHead (drop p t))) p t;
+          ap (drop (endIn kind (trimHead (drop p t)))) (d .is) ∙ drop-drop (endIn kind (trimHead (drop p t))) (d .count) (drop p t) ∙ drop-drop (d .count + endIn kind (trimHead (drop p t))) p t;
     }
 
-last-trailing : (t : List ℕ) → 0 < length (trailing srt t) → lastOf (trailing srt t) ≡ lastOf t
-last-trailing t h =
-    let d = trailing-drops t in
+last-trailing : (kind : ℕ) (t : List ℕ) → 0 < length (trailing (styleOf kind) t) → lastOf (trailing (styleOf kind) t) ≡ lastOf t
+last-trailing kind t h =
+    let d = trailing-drops kind t in
     ap lastOf (d .is) ∙ last-drop (d .count) t (subst (λ (x : List ℕ). 0 < length x) (d .is) h)
 
 plain-get : (xs : List ℕ) (i : ℕ) → Plain xs → i < length xs → 44 ≤ getD xs i 0
@@ -68,23 +67,13 @@ plain-get [] i p h = absurd (omega arith)
 plain-get (x ∷ xs) zero p h = p .0 .0
 plain-get (x ∷ xs) (suc i) p h = plain-get xs i (p .1) (omega arith)
 
--- a character begins what is trailing
-whole : (r : List ℕ) → tail (getD (drop (srtEnd r) r) 0 0) ≡ false
-unfolding srtEnd tail
-whole r = go (ltb (length r) 12) (tail (getD r 12 0)) refl
-  where
-    none : tail (getD (drop (length r) r) 0 0) ≡ false
-    none = let m : length r ≤ length r = omega arith in ap (λ (x : List ℕ). tail (getD x 0 0)) (drop-of-length-le r m)
-
-    go : (x y : Bool) → tail (getD r 12 0) ≡ y → tail (getD (drop (cond x (length r) (cond y (length r) 12)) r) 0 0) ≡ false
-    go true y e = none
-    go false true e = none
-    go false false e = ap tail (getD-drop 12 r 0 0) ∙ e
-
 -- ---- a written timing line in place of the line l
-module _ (i j : ℕ) (hi : TimeMark i) (hj : TimeMark j) (s e : ℕ) (l : List ℕ) (p : hasLf (textOf l) ≡ false) (he : e < 360000 * 1000) where
+module _ (kind : ℕ) (Mark : ℕ → Type 0) (K : Blocked kind Mark) (i j : ℕ) (hi : Mark i) (hj : Mark j) (s e : ℕ) (l : List ℕ) (p : hasLf (textOf l) ≡ false) (he : e < K .most) where
+  stop-plain : Plain (timeText kind j e)
+  stop-plain = plain-text kind (K .good) j (K .either j hj) e
+
   abbrev newText : List ℕ
-  newText = lineText i j s e (trailing srt (textOf l))
+  newText = lineText kind i j s e (trailing (styleOf kind) (textOf l))
 
   abbrev newLine : List ℕ
   newLine = newText ++ terminatorOf l
@@ -92,28 +81,28 @@ module _ (i j : ℕ) (hi : TimeMark i) (hj : TimeMark j) (s e : ℕ) (l : List �
   new-lf : hasLf newText ≡ false
   unfolding hasLf
   new-lf =
-      let d = trailing-drops (textOf l) in
-      lf-append (timeText 1 i s) _ (lf-plain (timeText 1 i s) (plain-text i hi s)) ∙
-      lf-append (timeText 1 j e) (trailing srt (textOf l)) (lf-plain (timeText 1 j e) (plain-text j hj e)) ∙ ap hasLf (d .is) ∙ lf-drop (d .count) (textOf l) p
+      let d = trailing-drops kind (textOf l) in
+      lf-append (timeText kind i s) _ (lf-plain (timeText kind i s) (plain-text kind (K .good) i (K .either i hi) s)) ∙
+      lf-append (timeText kind j e) (trailing (styleOf kind) (textOf l)) (lf-plain (timeText kind j e) stop-plain) ∙ ap hasLf (d .is) ∙ lf-drop (d .count) (textOf l) p
 
   new-last : lastOf newText ≡ 13 → lastOf (textOf l) ≡ 13
-  new-last q = go (trailing srt (textOf l)) refl
+  new-last q = go (trailing (styleOf kind) (textOf l)) refl
     where
-      E12 : length (timeText 1 j e) ≡ 12
-      E12 = text-12 j e he
+      long : 0 < length (timeText kind j e)
+      long = omega (arith, text-10 kind j e (K .good))
 
-      behind : (t : List ℕ) → lastOf (lineText i j s e t) ≡ lastOf (timeText 1 j e ++ t)
+      behind : (t : List ℕ) → lastOf (lineText kind i j s e t) ≡ lastOf (timeText kind j e ++ t)
       behind t =
-          let n : length (timeText 1 j e ++ t) ≡ 12 + length t = length-append (timeText 1 j e) t ∙ omega (arith, E12) in
-          last-append (timeText 1 i s) (writtenArrow ++ (timeText 1 j e ++ t)) (omega arith) ∙ last-append writtenArrow (timeText 1 j e ++ t) (omega arith)
+          let n : length (timeText kind j e ++ t) ≡ length (timeText kind j e) + length t = length-append (timeText kind j e) t in
+          last-append (timeText kind i s) (writtenArrow ++ (timeText kind j e ++ t)) (omega arith) ∙ last-append writtenArrow (timeText kind j e ++ t) (omega (arith, n, long))
 
-      go : (t : List ℕ) → trailing srt (textOf l) ≡ t → lastOf (textOf l) ≡ 13
+      go : (t : List ℕ) → trailing (styleOf kind) (textOf l) ≡ t → lastOf (textOf l) ≡ 13
       go [] z =
-          let g : lastOf (timeText 1 j e) ≡ 13 = ap lastOf (sym (append-nil (timeText 1 j e))) ∙ sym (behind []) ∙ ap (λ (x : List ℕ). lastOf (lineText i j s e x)) (sym z) ∙ q in
-          absurd (omega (arith, plain-get (timeText 1 j e) (length (timeText 1 j e) - 1) (plain-text j hj e) (omega (arith, E12))))
+          let g : lastOf (timeText kind j e) ≡ 13 = ap lastOf (sym (append-nil (timeText kind j e))) ∙ sym (behind []) ∙ ap (λ (x : List ℕ). lastOf (lineText kind i j s e x)) (sym z) ∙ q in
+          absurd (omega (arith, plain-get (timeText kind j e) (length (timeText kind j e) - 1) stop-plain (omega (arith, long))))
       go (b ∷ t) z =
-          sym (last-trailing (textOf l) (rw z (omega arith))) ∙ ap lastOf z ∙
-          sym (last-append (timeText 1 j e) (b ∷ t) (omega arith)) ∙ sym (behind (b ∷ t)) ∙ ap (λ (x : List ℕ). lastOf (lineText i j s e x)) (sym z) ∙ q
+          sym (last-trailing kind (textOf l) (rw z (omega arith))) ∙ ap lastOf z ∙
+          sym (last-append (timeText kind j e) (b ∷ t) (omega arith)) ∙ sym (behind (b ∷ t)) ∙ ap (λ (x : List ℕ). lastOf (lineText kind i j s e x)) (sym z) ∙ q
 
   new-ended : Ended newText (terminatorOf l)
   new-ended = ended-swap (textOf l) newText (terminatorOf l) (λ q. absurd (lf-get newText (length newText - 1) new-lf q)) new-last (line-ended l)
@@ -134,16 +123,16 @@ module _ (i j : ℕ) (hi : TimeMark i) (hj : TimeMark j) (s e : ℕ) (l : List �
 
   new-long : 0 < length newLine
   new-long =
-      let n : length newText ≡ length (timeText 1 i s) + (5 + length (timeText 1 j e ++ trailing srt (textOf l))) =
-      length-append (timeText 1 i s) (writtenArrow ++ (timeText 1 j e ++ trailing srt (textOf l))) ∙ omega arith in
+      let n : length newText ≡ length (timeText kind i s) + (5 + length (timeText kind j e ++ trailing (styleOf kind) (textOf l))) =
+      length-append (timeText kind i s) (writtenArrow ++ (timeText kind j e ++ trailing (styleOf kind) (textOf l))) ∙ omega arith in
       omega (arith, length-append newText (terminatorOf l))
 
   new-arrow : contains arrow (textOf newLine) ≡ true
-  new-arrow = ap (contains arrow) new-text ∙ arrow-back i j hi hj s e (trailing srt (textOf l))
+  new-arrow = ap (contains arrow) new-text ∙ arrow-back kind Mark K i j hi hj s e (trailing (styleOf kind) (textOf l))
 
-  new-says : (n : ℕ) (b a : List ℕ) → s < 36000000 * 1000
-      → timingLineSays srt n b newLine a ≡ says (cue (blockCue n s i e j (blockFrame b (trailing srt (textOf l)) (terminatorOf l) a)))
-  new-says n b a hs = line-back i j hi hj s e (trailing srt (textOf l)) he (whole (afterArrow (textOf l))) n b (terminatorOf l) a newLine hs new-text new-terminator
+  new-says : (n : ℕ) (b a : List ℕ) → s < 36000000 * unitsOf kind
+      → timingLineSays (styleOf kind) n b newLine a ≡ says (cue (blockCue n s i e j (stampsIn kind a) (blockFrame b (trailing (styleOf kind) (textOf l)) (terminatorOf l) a)))
+  new-says n b a hs = line-back kind Mark K i j hi hj s e (trailing (styleOf kind) (textOf l)) he (K .ends j hj e he (afterArrow (textOf l))) n b (terminatorOf l) a newLine hs new-text new-terminator
 
 -- ---- lines as they are cut: each but the last ends in LF, and the last is not empty
 abbrev Cut : List (List ℕ) → Type 0
@@ -229,50 +218,50 @@ concat-at (x ∷ b) l a = ap (λ (y : List ℕ). x ++ y) (concat-at b l a) ∙ s
 pieces-at : (b S w E t x a : List ℕ) → b ++ S ++ w ++ E ++ t ++ x ++ a ≡ b ++ (((S ++ (w ++ (E ++ t))) ++ x) ++ a)
 pieces-at b S w E t x a = simp append-assoc
 
-abbrev Back : (first : ℕ) → BlockSays → Type 0
-Back first (faulty f) = Unit {0}
-Back first (says (stays l)) = Unit {0}
-Back first (says (passes r n l)) = Unit {0}
-Back first (says (cue q)) =
-    (s e : ℕ) → s < 36000000 * 1000 → e < 360000 * 1000
-    → blockSays srt first (linesOf (render (q .frame) (timeText 1 (q .startMark) s) (timeText 1 (q .stopMark) e))) ≡ says (cue (blockCue (q .line) s (q .startMark) e (q .stopMark) (q .frame)))
+abbrev Back : (kind most first : ℕ) → BlockSays → Type 0
+Back kind most first (faulty f) = Unit {0}
+Back kind most first (says (stays l)) = Unit {0}
+Back kind most first (says (passes r n l)) = Unit {0}
+Back kind most first (says (cue q)) =
+    (s e : ℕ) → s < 36000000 * unitsOf kind → e < most
+    → blockSays (styleOf kind) first (linesOf (render (q .frame) (timeText kind (q .startMark) s) (timeText kind (q .stopMark) e))) ≡ says (cue (blockCue (q .line) s (q .startMark) e (q .stopMark) (q .stamped) (q .frame)))
 
-module _ (first : ℕ) (b : List (List ℕ)) (l : List ℕ) (a : List (List ℕ)) (cut : Cut (b ++ l ∷ a)) (found : (m : List ℕ) → contains arrow (textOf m) ≡ true → timingOf (b ++ m ∷ a) ≡ Arrow.timed b m a) where
-  written-back : (i j : ℕ) → TimeMark i → TimeMark j → (s e : ℕ) → s < 36000000 * 1000 → e < 360000 * 1000
-      → blockSays srt first (linesOf (render (blockFrame (concat b) (trailing srt (textOf l)) (terminatorOf l) (concat a)) (timeText 1 i s) (timeText 1 j e)))
-      ≡ says (cue (blockCue (first + lineCount b) s i e j (blockFrame (concat b) (trailing srt (textOf l)) (terminatorOf l) (concat a))))
+module _ (kind : ℕ) (Mark : ℕ → Type 0) (K : Blocked kind Mark) (first : ℕ) (b : List (List ℕ)) (l : List ℕ) (a : List (List ℕ)) (cut : Cut (b ++ l ∷ a)) (found : (m : List ℕ) → contains arrow (textOf m) ≡ true → timingOf (b ++ m ∷ a) ≡ Arrow.timed b m a) where
+  written-back : (i j : ℕ) → Mark i → Mark j → (s e : ℕ) → s < 36000000 * unitsOf kind → e < K .most
+      → blockSays (styleOf kind) first (linesOf (render (blockFrame (concat b) (trailing (styleOf kind) (textOf l)) (terminatorOf l) (concat a)) (timeText kind i s) (timeText kind j e)))
+      ≡ says (cue (blockCue (first + lineCount b) s i e j (stampsIn kind (concat a)) (blockFrame (concat b) (trailing (styleOf kind) (textOf l)) (terminatorOf l) (concat a))))
   unfolding blockSays
   written-back i j hi hj s e hs he =
       let p = text-lf l (cut-line b l a cut) in
-      let m : List ℕ = newLine i j hi hj s e l p he in
-      let w : render (blockFrame (concat b) (trailing srt (textOf l)) (terminatorOf l) (concat a)) (timeText 1 i s) (timeText 1 j e) ≡ concat (b ++ m ∷ a) =
-      frame-pieces (concat b) (trailing srt (textOf l)) (terminatorOf l) (concat a) (timeText 1 i s) (timeText 1 j e) ∙
-      pieces-at (concat b) (timeText 1 i s) writtenArrow (timeText 1 j e) (trailing srt (textOf l)) (terminatorOf l) (concat a) ∙ sym (concat-at b m a) in
-      let c : Cut (b ++ m ∷ a) = cut-swap l m (new-ends i j hi hj s e l p he) (new-open i j hi hj s e l p he) (new-long i j hi hj s e l p he) b a cut in
-      ap (λ (y : List ℕ). blockSays srt first (linesOf y)) w ∙ ap (blockSays srt first) (cut-back (b ++ m ∷ a) c) ∙
-      ap (timingSays srt first (b ++ m ∷ a)) (found m (new-arrow i j hi hj s e l p he)) ∙ new-says i j hi hj s e l p he (first + lineCount b) (concat b) (concat a) hs
+      let m : List ℕ = newLine kind Mark K i j hi hj s e l p he in
+      let w : render (blockFrame (concat b) (trailing (styleOf kind) (textOf l)) (terminatorOf l) (concat a)) (timeText kind i s) (timeText kind j e) ≡ concat (b ++ m ∷ a) =
+      frame-pieces (concat b) (trailing (styleOf kind) (textOf l)) (terminatorOf l) (concat a) (timeText kind i s) (timeText kind j e) ∙
+      pieces-at (concat b) (timeText kind i s) writtenArrow (timeText kind j e) (trailing (styleOf kind) (textOf l)) (terminatorOf l) (concat a) ∙ sym (concat-at b m a) in
+      let c : Cut (b ++ m ∷ a) = cut-swap l m (new-ends kind Mark K i j hi hj s e l p he) (new-open kind Mark K i j hi hj s e l p he) (new-long kind Mark K i j hi hj s e l p he) b a cut in
+      ap (λ (y : List ℕ). blockSays (styleOf kind) first (linesOf y)) w ∙ ap (blockSays (styleOf kind) first) (cut-back (b ++ m ∷ a) c) ∙
+      ap (timingSays (styleOf kind) first (b ++ m ∷ a)) (found m (new-arrow kind Mark K i j hi hj s e l p he)) ∙ new-says kind Mark K i j hi hj s e l p he (first + lineCount b) (concat b) (concat a) hs
 
-  line-again : Back first (timingLineSays srt (first + lineCount b) (concat b) l (concat a))
+  line-again : Back kind (K .most) first (timingLineSays (styleOf kind) (first + lineCount b) (concat b) l (concat a))
   unfolding timingLineSays
-  line-again = go (timeIn 1 (upTo arrow (textOf l))) (timeIn 1 (endText srt (textOf l))) refl refl
+  line-again = go (timeIn kind (upTo arrow (textOf l))) (timeIn kind (endText (styleOf kind) (textOf l))) refl refl
     where
-      go : (X Y : Time) → timeIn 1 (upTo arrow (textOf l)) ≡ X → timeIn 1 (endText srt (textOf l)) ≡ Y
-          → Back first (bothSay (first + lineCount b) (blockFrame (concat b) (trailing srt (textOf l)) (terminatorOf l) (concat a)) X Y)
+      go : (X Y : Time) → timeIn kind (upTo arrow (textOf l)) ≡ X → timeIn kind (endText (styleOf kind) (textOf l)) ≡ Y
+          → Back kind (K .most) first (bothSay (first + lineCount b) (stampsIn kind (concat a)) (blockFrame (concat b) (trailing (styleOf kind) (textOf l)) (terminatorOf l) (concat a)) X Y)
       go Bad Y p q = tt
       go (At S i) Bad p q = tt
       go (At S i) (At E j) p q =
-          written-back i j (time-marks 1 S i (upTo arrow (textOf l)) p) (time-marks 1 E j (endText srt (textOf l)) q)
+          written-back i j (K .seen S i (upTo arrow (textOf l)) p) (K .seen E j (endText (styleOf kind) (textOf l)) q)
 
-timing-back : (first : ℕ) (ls : List (List ℕ)) (t : Timing) → Cut ls → Swaps ls t → Back first (timingSays srt first ls t)
-timing-back first ls Arrow.untimed c h = tt
-timing-back first ls (Arrow.timed b l a) c h = line-again first b l a (subst Cut (h .0) c) (h .1)
+module _ (kind : ℕ) (Mark : ℕ → Type 0) (K : Blocked kind Mark) where
+  timing-back : (first : ℕ) (ls : List (List ℕ)) (t : Timing) → Cut ls → Swaps ls t → Back kind (K .most) first (timingSays (styleOf kind) first ls t)
+  timing-back first ls Arrow.untimed c h = tt
+  timing-back first ls (Arrow.timed b l a) c h = line-again kind Mark K first b l a (subst Cut (h .0) c) (h .1)
 
-says-back : (first : ℕ) (s : List ℕ) → Back first (blockSays srt first (linesOf s))
-unfolding blockSays
-says-back first s = timing-back first (linesOf s) (timingOf (linesOf s)) (cut-lines s) (timing-swaps (linesOf s))
+  says-back : (first : ℕ) (s : List ℕ) → Back kind (K .most) first (blockSays (styleOf kind) first (linesOf s))
+  unfolding blockSays
+  says-back first s = timing-back first (linesOf s) (timingOf (linesOf s)) (cut-lines s) (timing-swaps (linesOf s))
 
--- the frame of a block's cue with new times, read again: the same cue with these times
-pub block-back : (first : ℕ) (s : List ℕ) (q : Cue) → blockSays srt first (linesOf s) ≡ says (cue q) → (u v : ℕ) → u < 36000000 * unitsOf 1 → v < 360000 * unitsOf 1
-    → blockSays srt first (linesOf (render (q .frame) (timeText 1 (q .startMark) u) (timeText 1 (q .stopMark) v))) ≡ says (cue (blockCue (q .line) u (q .startMark) v (q .stopMark) (q .frame)))
-unfolding unitsOf
-block-back first s q e = subst (Back first) e (says-back first s)
+  -- the frame of a block's cue with new times, read again: the same cue with these times
+  pub block-back : (first : ℕ) (s : List ℕ) (q : Cue) → blockSays (styleOf kind) first (linesOf s) ≡ says (cue q) → (u v : ℕ) → u < 36000000 * unitsOf kind → v < K .most
+      → blockSays (styleOf kind) first (linesOf (render (q .frame) (timeText kind (q .startMark) u) (timeText kind (q .stopMark) v))) ≡ says (cue (blockCue (q .line) u (q .startMark) v (q .stopMark) (q .stamped) (q .frame)))
+  block-back first s q e = subst (Back kind (K .most) first) e (says-back first s)
