@@ -1,6 +1,7 @@
 pub mod Bare
 pub mod PlainAss
-pub mod PlainSrt
+pub mod PlainBlocks
+pub mod PlainVtt
 pub mod PlainText
 pub mod WholeAss
 pub mod WholeSrt
