@@ -4,7 +4,9 @@ pub mod PlainBlocks
 pub mod PlainVtt
 pub mod PlainText
 pub mod WholeAss
+pub mod WholeBlocks
 pub mod WholeSrt
+pub mod WholeVtt
 pub mod PartLaws
 pub mod AgainLaws
 pub mod DemandText
