@@ -436,7 +436,7 @@ def given_map(r, t):
     rows, at, frame = [], 0, 0
     for i in range(n):
         a, b = cuts[2 * i], cuts[2 * i + 1]
-        if r.random() < 0.05:
+        if r.random() < 0.15:
             b = a
         if r.random() < 0.02:
             a, b = r.randint(0, span), r.randint(0, span)
@@ -445,7 +445,7 @@ def given_map(r, t):
         rows.append([frame, frame + k, a, k, at, b - a])
         frame += k + r.randint(0, 100)
         at += b - a
-    if rows and r.random() < 0.05:
+    if rows and r.random() < 0.1:
         r.shuffle(rows)
     if rows and r.random() < 0.05:
         k = r.randrange(len(rows))

@@ -8,7 +8,7 @@ root = os.path.dirname(os.path.dirname(os.path.abspath(__file__)))
 name = os.path.basename(sys.argv[0])
 
 # requests of document 02 that have landed, as the oracle's program takes them
-LANDED = ['2.2']
+LANDED = ['2.2', '2.7']
 
 
 # ---- arguments
@@ -59,6 +59,8 @@ def run(command, **how):
     except OSError as e:
         stop(f'{command[0]}: {e.strerror}')
     if done.returncode:
+        if done.stderr:
+            sys.stderr.buffer.write(done.stderr)
         stop(f'{" ".join(command)}: exit status {done.returncode}')
     return done
 
@@ -102,9 +104,21 @@ def case(op, a=0, b=0, c=0, d=0, x=b'', y=b'', z=b''):
     return struct.pack('<8I', op, a, b, c, d, len(x), len(y), len(z)) + x + y + z
 
 
+def answers(command, **how):
+    """A program's answers to a stream of cases, and the number of captions that get warning 4 by document 01's rule alone or by request 2.7's
+    alone, which the oracle tells in a line on standard error; other lines there are passed on."""
+    done, differ = run(command, stdout=subprocess.PIPE, stderr=subprocess.PIPE, **how), 0
+    for line in done.stderr.splitlines(keepends=True):
+        if line.startswith(b'warning 4 differs: '):
+            differ += int(line.split()[3])
+        else:
+            sys.stderr.buffer.write(line)
+    return done.stdout, differ
+
+
 def answer(command, one):
     """A program's answer to one case, without the line `case 0`."""
-    return output(command, input=one).split(b'\n', 1)[1]
+    return answers(command, input=one)[0].split(b'\n', 1)[1]
 
 
 def text_of(told):

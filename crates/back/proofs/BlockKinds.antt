@@ -59,7 +59,7 @@ srt-ends : (k n : ℕ) → n < 360000 * unitsOf 1 → (r : List ℕ) → endIn 1
 unfolding endIn
 srt-ends k n h r = twelve (timeText 1 k n) (drop (srtEnd r) r) (text-12 k n h) (whole r) ∙ sym (text-12 k n h)
 
-pub srt-blocked : Blocked 1 TimeMark
+pub srt-blocked : Blocked 1 TimeMark (360000 * unitsOf 1)
 unfolding unitsOf
 srt-blocked =
     record {
@@ -67,7 +67,6 @@ srt-blocked =
       either = λ k m. m;
       seen = λ n k text e. time-marks 1 n k text e;
       back = λ k m n h. text-back k m n h;
-      most = 360000 * unitsOf 1;
       most-low = omega arith;
       ends = λ k m n h r. srt-ends k n h r;
     }
@@ -119,7 +118,7 @@ vtt-point : (n k : ℕ) (text : List ℕ) → timeIn 2 text ≡ At n k → Point
 unfolding markIn markOf
 vtt-point n k text e = time-mark 2 n k text e
 
-pub vtt-blocked : Blocked 2 Point
+pub vtt-blocked : Blocked 2 Point (36000000 * unitsOf 2)
 unfolding unitsOf
 vtt-blocked =
     record {
@@ -127,7 +126,6 @@ vtt-blocked =
       either = λ k m. inr m;
       seen = λ n k text e. vtt-point n k text e;
       back = λ k m n h. subst (λ (j : ℕ). timeIn 2 (timeText 2 j n) ≡ At n j) (sym m) (vtt-back n h);
-      most = 36000000 * unitsOf 2;
       most-low = omega arith;
       ends = λ k m n h r. vtt-ends k m n r;
     }

@@ -68,7 +68,7 @@ plain-get (x ∷ xs) zero p h = p .0 .0
 plain-get (x ∷ xs) (suc i) p h = plain-get xs i (p .1) (omega arith)
 
 -- ---- a written timing line in place of the line l
-module _ (kind : ℕ) (Mark : ℕ → Type 0) (K : Blocked kind Mark) (i j : ℕ) (hi : Mark i) (hj : Mark j) (s e : ℕ) (l : List ℕ) (p : hasLf (textOf l) ≡ false) (he : e < K .most) where
+module _ (kind : ℕ) (Mark : ℕ → Type 0) (most : ℕ) (K : Blocked kind Mark most) (i j : ℕ) (hi : Mark i) (hj : Mark j) (s e : ℕ) (l : List ℕ) (p : hasLf (textOf l) ≡ false) (he : e < most) where
   stop-plain : Plain (timeText kind j e)
   stop-plain = plain-text kind (K .good) j (K .either j hj) e
 
@@ -128,11 +128,11 @@ module _ (kind : ℕ) (Mark : ℕ → Type 0) (K : Blocked kind Mark) (i j : ℕ
       omega (arith, length-append newText (terminatorOf l))
 
   new-arrow : contains arrow (textOf newLine) ≡ true
-  new-arrow = ap (contains arrow) new-text ∙ arrow-back kind Mark K i j hi hj s e (trailing (styleOf kind) (textOf l))
+  new-arrow = ap (contains arrow) new-text ∙ arrow-back kind Mark most K i j hi hj s e (trailing (styleOf kind) (textOf l))
 
   new-says : (n : ℕ) (b a : List ℕ) → s < 36000000 * unitsOf kind
       → timingLineSays (styleOf kind) n b newLine a ≡ says (cue (blockCue n s i e j (stampsIn kind a) (blockFrame b (trailing (styleOf kind) (textOf l)) (terminatorOf l) a)))
-  new-says n b a hs = line-back kind Mark K i j hi hj s e (trailing (styleOf kind) (textOf l)) he (K .ends j hj e he (afterArrow (textOf l))) n b (terminatorOf l) a newLine hs new-text new-terminator
+  new-says n b a hs = line-back kind Mark most K i j hi hj s e (trailing (styleOf kind) (textOf l)) he (K .ends j hj e he (afterArrow (textOf l))) n b (terminatorOf l) a newLine hs new-text new-terminator
 
 -- ---- lines as they are cut: each but the last ends in LF, and the last is not empty
 abbrev Cut : List (List ℕ) → Type 0
@@ -226,42 +226,42 @@ Back kind most first (says (cue q)) =
     (s e : ℕ) → s < 36000000 * unitsOf kind → e < most
     → blockSays (styleOf kind) first (linesOf (render (q .frame) (timeText kind (q .startMark) s) (timeText kind (q .stopMark) e))) ≡ says (cue (blockCue (q .line) s (q .startMark) e (q .stopMark) (q .stamped) (q .frame)))
 
-module _ (kind : ℕ) (Mark : ℕ → Type 0) (K : Blocked kind Mark) (first : ℕ) (b : List (List ℕ)) (l : List ℕ) (a : List (List ℕ)) (cut : Cut (b ++ l ∷ a)) (found : (m : List ℕ) → contains arrow (textOf m) ≡ true → timingOf (b ++ m ∷ a) ≡ Arrow.timed b m a) where
-  written-back : (i j : ℕ) → Mark i → Mark j → (s e : ℕ) → s < 36000000 * unitsOf kind → e < K .most
+module _ (kind : ℕ) (Mark : ℕ → Type 0) (most : ℕ) (K : Blocked kind Mark most) (first : ℕ) (b : List (List ℕ)) (l : List ℕ) (a : List (List ℕ)) (cut : Cut (b ++ l ∷ a)) (found : (m : List ℕ) → contains arrow (textOf m) ≡ true → timingOf (b ++ m ∷ a) ≡ Arrow.timed b m a) where
+  written-back : (i j : ℕ) → Mark i → Mark j → (s e : ℕ) → s < 36000000 * unitsOf kind → e < most
       → blockSays (styleOf kind) first (linesOf (render (blockFrame (concat b) (trailing (styleOf kind) (textOf l)) (terminatorOf l) (concat a)) (timeText kind i s) (timeText kind j e)))
       ≡ says (cue (blockCue (first + lineCount b) s i e j (stampsIn kind (concat a)) (blockFrame (concat b) (trailing (styleOf kind) (textOf l)) (terminatorOf l) (concat a))))
   unfolding blockSays
   written-back i j hi hj s e hs he =
       let p = text-lf l (cut-line b l a cut) in
-      let m : List ℕ = newLine kind Mark K i j hi hj s e l p he in
+      let m : List ℕ = newLine kind Mark most K i j hi hj s e l p he in
       let w : render (blockFrame (concat b) (trailing (styleOf kind) (textOf l)) (terminatorOf l) (concat a)) (timeText kind i s) (timeText kind j e) ≡ concat (b ++ m ∷ a) =
       frame-pieces (concat b) (trailing (styleOf kind) (textOf l)) (terminatorOf l) (concat a) (timeText kind i s) (timeText kind j e) ∙
       pieces-at (concat b) (timeText kind i s) writtenArrow (timeText kind j e) (trailing (styleOf kind) (textOf l)) (terminatorOf l) (concat a) ∙ sym (concat-at b m a) in
-      let c : Cut (b ++ m ∷ a) = cut-swap l m (new-ends kind Mark K i j hi hj s e l p he) (new-open kind Mark K i j hi hj s e l p he) (new-long kind Mark K i j hi hj s e l p he) b a cut in
+      let c : Cut (b ++ m ∷ a) = cut-swap l m (new-ends kind Mark most K i j hi hj s e l p he) (new-open kind Mark most K i j hi hj s e l p he) (new-long kind Mark most K i j hi hj s e l p he) b a cut in
       ap (λ (y : List ℕ). blockSays (styleOf kind) first (linesOf y)) w ∙ ap (blockSays (styleOf kind) first) (cut-back (b ++ m ∷ a) c) ∙
-      ap (timingSays (styleOf kind) first (b ++ m ∷ a)) (found m (new-arrow kind Mark K i j hi hj s e l p he)) ∙ new-says kind Mark K i j hi hj s e l p he (first + lineCount b) (concat b) (concat a) hs
+      ap (timingSays (styleOf kind) first (b ++ m ∷ a)) (found m (new-arrow kind Mark most K i j hi hj s e l p he)) ∙ new-says kind Mark most K i j hi hj s e l p he (first + lineCount b) (concat b) (concat a) hs
 
-  line-again : Back kind (K .most) first (timingLineSays (styleOf kind) (first + lineCount b) (concat b) l (concat a))
+  line-again : Back kind most first (timingLineSays (styleOf kind) (first + lineCount b) (concat b) l (concat a))
   unfolding timingLineSays
   line-again = go (timeIn kind (upTo arrow (textOf l))) (timeIn kind (endText (styleOf kind) (textOf l))) refl refl
     where
       go : (X Y : Time) → timeIn kind (upTo arrow (textOf l)) ≡ X → timeIn kind (endText (styleOf kind) (textOf l)) ≡ Y
-          → Back kind (K .most) first (bothSay (first + lineCount b) (stampsIn kind (concat a)) (blockFrame (concat b) (trailing (styleOf kind) (textOf l)) (terminatorOf l) (concat a)) X Y)
+          → Back kind most first (bothSay (first + lineCount b) (stampsIn kind (concat a)) (blockFrame (concat b) (trailing (styleOf kind) (textOf l)) (terminatorOf l) (concat a)) X Y)
       go Bad Y p q = tt
       go (At S i) Bad p q = tt
       go (At S i) (At E j) p q =
           written-back i j (K .seen S i (upTo arrow (textOf l)) p) (K .seen E j (endText (styleOf kind) (textOf l)) q)
 
-module _ (kind : ℕ) (Mark : ℕ → Type 0) (K : Blocked kind Mark) where
-  timing-back : (first : ℕ) (ls : List (List ℕ)) (t : Timing) → Cut ls → Swaps ls t → Back kind (K .most) first (timingSays (styleOf kind) first ls t)
+module _ (kind : ℕ) (Mark : ℕ → Type 0) (most : ℕ) (K : Blocked kind Mark most) where
+  timing-back : (first : ℕ) (ls : List (List ℕ)) (t : Timing) → Cut ls → Swaps ls t → Back kind most first (timingSays (styleOf kind) first ls t)
   timing-back first ls Arrow.untimed c h = tt
-  timing-back first ls (Arrow.timed b l a) c h = line-again kind Mark K first b l a (subst Cut (h .0) c) (h .1)
+  timing-back first ls (Arrow.timed b l a) c h = line-again kind Mark most K first b l a (subst Cut (h .0) c) (h .1)
 
-  says-back : (first : ℕ) (s : List ℕ) → Back kind (K .most) first (blockSays (styleOf kind) first (linesOf s))
+  says-back : (first : ℕ) (s : List ℕ) → Back kind most first (blockSays (styleOf kind) first (linesOf s))
   unfolding blockSays
   says-back first s = timing-back first (linesOf s) (timingOf (linesOf s)) (cut-lines s) (timing-swaps (linesOf s))
 
   -- the frame of a block's cue with new times, read again: the same cue with these times
-  pub block-back : (first : ℕ) (s : List ℕ) (q : Cue) → blockSays (styleOf kind) first (linesOf s) ≡ says (cue q) → (u v : ℕ) → u < 36000000 * unitsOf kind → v < K .most
+  pub block-back : (first : ℕ) (s : List ℕ) (q : Cue) → blockSays (styleOf kind) first (linesOf s) ≡ says (cue q) → (u v : ℕ) → u < 36000000 * unitsOf kind → v < most
       → blockSays (styleOf kind) first (linesOf (render (q .frame) (timeText kind (q .startMark) u) (timeText kind (q .stopMark) v))) ≡ says (cue (blockCue (q .line) u (q .startMark) v (q .stopMark) (q .stamped) (q .frame)))
-  block-back first s q e = subst (Back kind (K .most) first) e (says-back first s)
+  block-back first s q e = subst (Back kind most first) e (says-back first s)

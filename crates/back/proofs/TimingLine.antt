@@ -66,12 +66,11 @@ pub plain-text : (kind : ℕ) → kindBad kind ≡ false → (k : ℕ) → TimeM
 plain-text kind g k hk units = subst Plain (sym (text-some kind k units g)) (plain-with (unitsOf kind) (fractionDigits kind) (hourDigits kind) k units hk)
 
 -- ---- what a kind of blocks brings: the marks that it reads, written times read back, and where an end that is written ends
-pub record Blocked (kind : ℕ) (Mark : ℕ → Type 0) : Type 0 where
+pub record Blocked (kind : ℕ) (Mark : ℕ → Type 0) (most : ℕ) : Type 0 where
   pub good : kindBad kind ≡ false
   pub either : (k : ℕ) → Mark k → TimeMark k
   pub seen : (n k : ℕ) (text : List ℕ) → timeIn kind text ≡ At n k → Mark k
   pub back : (k : ℕ) → Mark k → (n : ℕ) → n < 36000000 * unitsOf kind → timeIn kind (timeText kind k n) ≡ At n k
-  pub most : ℕ
   pub most-low : most ≤ 36000000 * unitsOf kind
   pub ends : (k : ℕ) → Mark k → (n : ℕ) → n < most → (r : List ℕ) → endIn kind (timeText kind k n ++ drop (endIn kind r) r) ≡ length (timeText kind k n)
 
@@ -124,7 +123,7 @@ same-trim kind a b e = rw e
 abbrev pub lineText : (kind i j s e : ℕ) → (trailing : List ℕ) → List ℕ
 lineText kind i j s e t = timeText kind i s ++ (writtenArrow ++ (timeText kind j e ++ t))
 
-module _ (kind : ℕ) (Mark : ℕ → Type 0) (K : Blocked kind Mark) (i j : ℕ) (hi : Mark i) (hj : Mark j) (s e : ℕ) (t : List ℕ) where
+module _ (kind : ℕ) (Mark : ℕ → Type 0) (most : ℕ) (K : Blocked kind Mark most) (i j : ℕ) (hi : Mark i) (hj : Mark j) (s e : ℕ) (t : List ℕ) where
   start-plain : Plain (timeText kind i s)
   start-plain = plain-text kind (K .good) i (K .either i hi) s
 
@@ -166,7 +165,7 @@ module _ (kind : ℕ) (Mark : ℕ → Type 0) (K : Blocked kind Mark) (i j : ℕ
   start-back h =
       ap (timeIn kind) up-back ∙ same-trim kind (timeText kind i s ++ 32 ∷ []) (timeText kind i s) (trim-space (timeText kind i s) start-plain (omega (arith, text-10 kind i s (K .good)))) ∙ K .back i hi s h
 
-  module _ (h : e < K .most) (ends : endIn kind (timeText kind j e ++ t) ≡ length (timeText kind j e)) where
+  module _ (h : e < most) (ends : endIn kind (timeText kind j e ++ t) ≡ length (timeText kind j e)) where
     end-back : endText (styleOf kind) (lineText kind i j s e t) ≡ timeText kind j e
     end-back = rw (after-back, ends) (take-at (timeText kind j e) t _ refl)
 

@@ -18,7 +18,8 @@ use Rattle.stamp.specs.Write.{pad, widthUnder, width, textWith, timeText}
 use Rattle.segment.specs.declared.segment.Segment.{Segment}
 use Rattle.segment.specs.Segment.{segmentsOf, endBad}
 use Rattle.event.specs.declared.setting.Config.{Config}
-use Rattle.event.specs.Hit.{meetsParts, findFrom, lostRule}
+use Rattle.event.specs.Hit.{meetsParts, findFrom}
+use Rattle.event.specs.Lost.{lostLater}
 use Rattle.event.specs.Decide.{decideIn}
 use Rattle.event.specs.Fates.{dropped, shifted, clipped}
 use Rattle.event.specs.Says.{stays, cue, badTime}
@@ -84,31 +85,31 @@ told s = blockIn settings m 7 s 1000 4
 -- 210 to 250 ms through the second segment, with trailing text kept
 shifts : told (line "1" ++ line "00:00:00,210 --> 00:00:00,250 X1:40" ++ line "Hi") ≡
     answered (emit (line "1" ++ line "00:00:00,109 --> 00:00:00,150 X1:40" ++ line "Hi") [] (decided (shifted 109 150)))
-unfolding leadLen secondLow secondHigh tail widthBy charWidth codeBy codeHead whiteHigh white whiteHead last endsWhite whiteTail headFrom keepFrom trimHead trimTail trim starts first contains upTo past digit digits valueFrom natural unsigned number linesOf textOf terminatorLength terminatorOf kindBad unitsOf markOf timeWith markIn timeIn srtEnd endIn stampsIn timingOf afterArrow timingLineSays blockSays fractionDigits hourDigits scaledUp ticksOf startUnits endUnits coreHolds ticksWithin startWithin endWithin pad widthUnder width textWith timeText segmentsOf endBad meetsParts findFrom lostRule decideIn render emitBy partIn blockIn
+unfolding leadLen secondLow secondHigh tail widthBy charWidth codeBy codeHead whiteHigh white whiteHead last endsWhite whiteTail headFrom keepFrom trimHead trimTail trim starts first contains upTo past digit digits valueFrom natural unsigned number linesOf textOf terminatorLength terminatorOf kindBad unitsOf markOf timeWith markIn timeIn srtEnd endIn stampsIn timingOf afterArrow timingLineSays blockSays fractionDigits hourDigits scaledUp ticksOf startUnits endUnits coreHolds ticksWithin startWithin endWithin pad widthUnder width textWith timeText segmentsOf endBad meetsParts findFrom lostLater decideIn render emitBy partIn blockIn
 shifts = refl
 
 -- each time keeps the mark that it was read with
 mixed : told (line "00:00:00.210 --> 00:00:00,250") ≡ answered (emit (line "00:00:00.109 --> 00:00:00,150") [] (decided (shifted 109 150)))
-unfolding leadLen secondLow secondHigh tail widthBy charWidth codeBy codeHead whiteHigh white whiteHead last endsWhite whiteTail headFrom keepFrom trimHead trimTail trim starts first contains upTo past digit digits valueFrom natural unsigned number linesOf textOf terminatorLength terminatorOf kindBad unitsOf markOf timeWith markIn timeIn srtEnd endIn stampsIn timingOf afterArrow timingLineSays blockSays fractionDigits hourDigits scaledUp ticksOf startUnits endUnits coreHolds ticksWithin startWithin endWithin pad widthUnder width textWith timeText segmentsOf endBad meetsParts findFrom lostRule decideIn render emitBy partIn blockIn
+unfolding leadLen secondLow secondHigh tail widthBy charWidth codeBy codeHead whiteHigh white whiteHead last endsWhite whiteTail headFrom keepFrom trimHead trimTail trim starts first contains upTo past digit digits valueFrom natural unsigned number linesOf textOf terminatorLength terminatorOf kindBad unitsOf markOf timeWith markIn timeIn srtEnd endIn stampsIn timingOf afterArrow timingLineSays blockSays fractionDigits hourDigits scaledUp ticksOf startUnits endUnits coreHolds ticksWithin startWithin endWithin pad widthUnder width textWith timeText segmentsOf endBad meetsParts findFrom lostLater decideIn render emitBy partIn blockIn
 mixed = refl
 
 -- 50 to 250 ms: cut to the first segment, and a part is lost; the warning is at the timing line
 clips : told (line "1" ++ line "0:0:0,50-->0:0:0,250") ≡
     answered (emit (line "1" ++ line "00:00:00,050 --> 00:00:00,101") (warning 4 8 ∷ []) (decided (clipped 50 101)))
-unfolding leadLen secondLow secondHigh tail widthBy charWidth codeBy codeHead whiteHigh white whiteHead last endsWhite whiteTail headFrom keepFrom trimHead trimTail trim starts first contains upTo past digit digits valueFrom natural unsigned number linesOf textOf terminatorLength terminatorOf kindBad unitsOf markOf timeWith markIn timeIn srtEnd endIn stampsIn timingOf afterArrow timingLineSays blockSays fractionDigits hourDigits scaledUp ticksOf startUnits endUnits coreHolds ticksWithin startWithin endWithin pad widthUnder width textWith timeText segmentsOf endBad meetsParts findFrom lostRule decideIn render emitBy partIn blockIn
+unfolding leadLen secondLow secondHigh tail widthBy charWidth codeBy codeHead whiteHigh white whiteHead last endsWhite whiteTail headFrom keepFrom trimHead trimTail trim starts first contains upTo past digit digits valueFrom natural unsigned number linesOf textOf terminatorLength terminatorOf kindBad unitsOf markOf timeWith markIn timeIn srtEnd endIn stampsIn timingOf afterArrow timingLineSays blockSays fractionDigits hourDigits scaledUp ticksOf startUnits endUnits coreHolds ticksWithin startWithin endWithin pad widthUnder width textWith timeText segmentsOf endBad meetsParts findFrom lostLater decideIn render emitBy partIn blockIn
 clips = refl
 
 -- 120 to 200 ms: between the segments
 drops : told (line "00:00:00,120 --> 00:00:00,200") ≡ answered (emit [] [] (decided dropped))
-unfolding leadLen secondLow secondHigh tail widthBy charWidth codeBy codeHead whiteHigh white whiteHead last endsWhite whiteTail headFrom keepFrom trimHead trimTail trim starts first contains upTo past digit digits valueFrom natural unsigned number linesOf textOf terminatorLength terminatorOf kindBad unitsOf markOf timeWith markIn timeIn srtEnd endIn stampsIn timingOf afterArrow timingLineSays blockSays fractionDigits hourDigits scaledUp ticksOf startUnits endUnits coreHolds ticksWithin startWithin endWithin pad widthUnder width textWith timeText segmentsOf endBad meetsParts findFrom lostRule decideIn render emitBy partIn blockIn
+unfolding leadLen secondLow secondHigh tail widthBy charWidth codeBy codeHead whiteHigh white whiteHead last endsWhite whiteTail headFrom keepFrom trimHead trimTail trim starts first contains upTo past digit digits valueFrom natural unsigned number linesOf textOf terminatorLength terminatorOf kindBad unitsOf markOf timeWith markIn timeIn srtEnd endIn stampsIn timingOf afterArrow timingLineSays blockSays fractionDigits hourDigits scaledUp ticksOf startUnits endUnits coreHolds ticksWithin startWithin endWithin pad widthUnder width textWith timeText segmentsOf endBad meetsParts findFrom lostLater decideIn render emitBy partIn blockIn
 drops = refl
 
 passes-through : told (line "NOTE") ≡ answered (emit (line "NOTE") [] none)
-unfolding leadLen secondLow secondHigh tail widthBy charWidth codeBy codeHead whiteHigh white whiteHead last endsWhite whiteTail headFrom keepFrom trimHead trimTail trim starts first contains upTo past digit digits valueFrom natural unsigned number linesOf textOf terminatorLength terminatorOf kindBad unitsOf markOf timeWith markIn timeIn srtEnd endIn stampsIn timingOf afterArrow timingLineSays blockSays fractionDigits hourDigits scaledUp ticksOf startUnits endUnits coreHolds ticksWithin startWithin endWithin pad widthUnder width textWith timeText segmentsOf endBad meetsParts findFrom lostRule decideIn render emitBy partIn blockIn
+unfolding leadLen secondLow secondHigh tail widthBy charWidth codeBy codeHead whiteHigh white whiteHead last endsWhite whiteTail headFrom keepFrom trimHead trimTail trim starts first contains upTo past digit digits valueFrom natural unsigned number linesOf textOf terminatorLength terminatorOf kindBad unitsOf markOf timeWith markIn timeIn srtEnd endIn stampsIn timingOf afterArrow timingLineSays blockSays fractionDigits hourDigits scaledUp ticksOf startUnits endUnits coreHolds ticksWithin startWithin endWithin pad widthUnder width textWith timeText segmentsOf endBad meetsParts findFrom lostLater decideIn render emitBy partIn blockIn
 passes-through = refl
 
 refuses : told (line "00:60:00,000 --> 00:60:00,200") ≡ refusal 22
-unfolding leadLen secondLow secondHigh tail widthBy charWidth codeBy codeHead whiteHigh white whiteHead last endsWhite whiteTail headFrom keepFrom trimHead trimTail trim starts first contains upTo past digit digits valueFrom natural unsigned number linesOf textOf terminatorLength terminatorOf kindBad unitsOf markOf timeWith markIn timeIn srtEnd endIn stampsIn timingOf afterArrow timingLineSays blockSays fractionDigits hourDigits scaledUp ticksOf startUnits endUnits coreHolds ticksWithin startWithin endWithin pad widthUnder width textWith timeText segmentsOf endBad meetsParts findFrom lostRule decideIn render emitBy partIn blockIn
+unfolding leadLen secondLow secondHigh tail widthBy charWidth codeBy codeHead whiteHigh white whiteHead last endsWhite whiteTail headFrom keepFrom trimHead trimTail trim starts first contains upTo past digit digits valueFrom natural unsigned number linesOf textOf terminatorLength terminatorOf kindBad unitsOf markOf timeWith markIn timeIn srtEnd endIn stampsIn timingOf afterArrow timingLineSays blockSays fractionDigits hourDigits scaledUp ticksOf startUnits endUnits coreHolds ticksWithin startWithin endWithin pad widthUnder width textWith timeText segmentsOf endBad meetsParts findFrom lostLater decideIn render emitBy partIn blockIn
 refuses = refl
 
 -- ---- WebVTT: the end time stops before a space or a tab, and a time inside the cue is told
@@ -132,14 +133,14 @@ toldVtt s = blockIn (record { kind = 2; timescale = 30000 }) m 7 s 1000 4
 -- 4 and then 5, at the timing line; hours are written
 vtt-clips : toldVtt (line "1" ++ line "00:00.050-->00:00.250\tline:0" ++ line "<3") ≡
     answered (emit (line "1" ++ line "00:00:00.050 --> 00:00:00.101\tline:0" ++ line "<3") (warning 4 8 ∷ warning 5 8 ∷ []) (decided (clipped 50 101)))
-unfolding leadLen secondLow secondHigh tail widthBy charWidth codeBy codeHead whiteHigh white whiteHead last endsWhite whiteTail headFrom keepFrom trimHead trimTail trim starts first contains upTo past digit digits valueFrom natural unsigned number linesOf textOf terminatorLength terminatorOf kindBad unitsOf markOf timeWith markIn wideBy wideFrom vttTime timeIn srtEnd vttEnd endIn stampHead stampIn stampsIn timingOf afterArrow timingLineSays blockSays fractionDigits hourDigits scaledUp ticksOf startUnits endUnits coreHolds ticksWithin startWithin endWithin pad widthUnder width textWith timeText segmentsOf endBad meetsParts findFrom lostRule decideIn render emitBy partIn blockIn
+unfolding leadLen secondLow secondHigh tail widthBy charWidth codeBy codeHead whiteHigh white whiteHead last endsWhite whiteTail headFrom keepFrom trimHead trimTail trim starts first contains upTo past digit digits valueFrom natural unsigned number linesOf textOf terminatorLength terminatorOf kindBad unitsOf markOf timeWith markIn wideBy wideFrom vttTime timeIn srtEnd vttEnd endIn stampHead stampIn stampsIn timingOf afterArrow timingLineSays blockSays fractionDigits hourDigits scaledUp ticksOf startUnits endUnits coreHolds ticksWithin startWithin endWithin pad widthUnder width textWith timeText segmentsOf endBad meetsParts findFrom lostLater decideIn render emitBy partIn blockIn
 vtt-clips = refl
 
 vtt-shifts : toldVtt (line "00:00.210 --> 00:00.250" ++ line "<9>") ≡ answered (emit (line "00:00:00.109 --> 00:00:00.150" ++ line "<9>") (warning 5 7 ∷ []) (decided (shifted 109 150)))
-unfolding leadLen secondLow secondHigh tail widthBy charWidth codeBy codeHead whiteHigh white whiteHead last endsWhite whiteTail headFrom keepFrom trimHead trimTail trim starts first contains upTo past digit digits valueFrom natural unsigned number linesOf textOf terminatorLength terminatorOf kindBad unitsOf markOf timeWith markIn wideBy wideFrom vttTime timeIn srtEnd vttEnd endIn stampHead stampIn stampsIn timingOf afterArrow timingLineSays blockSays fractionDigits hourDigits scaledUp ticksOf startUnits endUnits coreHolds ticksWithin startWithin endWithin pad widthUnder width textWith timeText segmentsOf endBad meetsParts findFrom lostRule decideIn render emitBy partIn blockIn
+unfolding leadLen secondLow secondHigh tail widthBy charWidth codeBy codeHead whiteHigh white whiteHead last endsWhite whiteTail headFrom keepFrom trimHead trimTail trim starts first contains upTo past digit digits valueFrom natural unsigned number linesOf textOf terminatorLength terminatorOf kindBad unitsOf markOf timeWith markIn wideBy wideFrom vttTime timeIn srtEnd vttEnd endIn stampHead stampIn stampsIn timingOf afterArrow timingLineSays blockSays fractionDigits hourDigits scaledUp ticksOf startUnits endUnits coreHolds ticksWithin startWithin endWithin pad widthUnder width textWith timeText segmentsOf endBad meetsParts findFrom lostLater decideIn render emitBy partIn blockIn
 vtt-shifts = refl
 
 -- a dropped cue has no warning
 vtt-drops : toldVtt (line "00:00.120 --> 00:00.200" ++ line "<1>") ≡ answered (emit [] [] (decided dropped))
-unfolding leadLen secondLow secondHigh tail widthBy charWidth codeBy codeHead whiteHigh white whiteHead last endsWhite whiteTail headFrom keepFrom trimHead trimTail trim starts first contains upTo past digit digits valueFrom natural unsigned number linesOf textOf terminatorLength terminatorOf kindBad unitsOf markOf timeWith markIn wideBy wideFrom vttTime timeIn srtEnd vttEnd endIn stampHead stampIn stampsIn timingOf afterArrow timingLineSays blockSays fractionDigits hourDigits scaledUp ticksOf startUnits endUnits coreHolds ticksWithin startWithin endWithin pad widthUnder width textWith timeText segmentsOf endBad meetsParts findFrom lostRule decideIn render emitBy partIn blockIn
+unfolding leadLen secondLow secondHigh tail widthBy charWidth codeBy codeHead whiteHigh white whiteHead last endsWhite whiteTail headFrom keepFrom trimHead trimTail trim starts first contains upTo past digit digits valueFrom natural unsigned number linesOf textOf terminatorLength terminatorOf kindBad unitsOf markOf timeWith markIn wideBy wideFrom vttTime timeIn srtEnd vttEnd endIn stampHead stampIn stampsIn timingOf afterArrow timingLineSays blockSays fractionDigits hourDigits scaledUp ticksOf startUnits endUnits coreHolds ticksWithin startWithin endWithin pad widthUnder width textWith timeText segmentsOf endBad meetsParts findFrom lostLater decideIn render emitBy partIn blockIn
 vtt-drops = refl

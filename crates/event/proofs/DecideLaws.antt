@@ -2,13 +2,14 @@
 use mathlib.Core.Path.{_≡_, refl, sym, ap, subst, _∙_}
 use mathlib.Core.Bool.{Bool, true, false, cond, _&&_, true≢false}
 use mathlib.Core.List.{List, [], _∷_}
-use Prim.Native.Nat.{ℕ, suc, _+_, _-_, _≤_, _<_, min, max}
+use Prim.Native.Nat.{ℕ, suc, _+_, _*_, _-_, _≤_, _<_, min, max}
 use native.Mathlib.Omega.{arith}
 use lib.Dec.{ltb}
+use lib.ListN.{drop}
 use Rattle.base.specs.Limits.{mostTicks}
 use Rattle.time.specs.Convert.{ticksWithin, startWithin, endWithin}
 use Rattle.segment.specs.declared.segment.Segment.{Segment}
-use Rattle.segment.specs.Segment.{sourceOf, outputStartOf, endBad}
+use Rattle.segment.specs.Segment.{sourceOf, outputStartOf, endBad, segmentsOf}
 use Rattle.segment.proofs.SegmentLaws.{end-good}
 use Rattle.event.specs.declared.setting.Config.{Config}
 use Rattle.event.specs.declared.meeting.Met.{Met}
@@ -17,15 +18,16 @@ use Rattle.event.specs.declared.meeting.Hit.the-variants.{Miss, At}
 use Rattle.event.specs.declared.retiming.Retimed.{Retimed}
 use Rattle.event.specs.declared.retiming.Decision.{Decision}
 use Rattle.event.specs.declared.retiming.Decision.the-variants.{Strange, Dropped, Kept}
-use Rattle.event.specs.Hit.{meetsParts, meets, Found, miss, hit, findFrom, findHit, metOf, hitOf, lostRule}
+use Rattle.event.specs.Hit.{meetsParts, meets, Found, miss, hit, findFrom, findHit, metOf, hitOf}
+use Rattle.event.specs.Lost.{lostRule}
 use Rattle.event.specs.Decide.{moved, retimedBy, limitedHit, decideIn}
-use Rattle.event.proofs.HitLaws.{meets-long, meets-later, meets-sooner}
+use Rattle.event.proofs.HitLaws.{meets-long, meets-later, meets-sooner, behindOf}
 
-pub part-yes : (t r : Bool) (l s a b : ℕ) → t ≡ true → r ≡ lostRule l s a b → r ≡ (t && lostRule l s a b)
-part-yes t r l s a b p e = rw p e
+pub part-yes : (t r : Bool) (m u : List ℕ) (k a b : ℕ) → t ≡ true → u ≡ drop (6 * k + 6) m → r ≡ lostRule (segmentsOf u) a b → r ≡ (t && lostRule (segmentsOf (drop (6 * k + 6) m)) a b)
+part-yes t r m u k a b p eu e = rw p (e ∙ ap (λ (x : List ℕ). lostRule (segmentsOf x) a b) eu)
 
-pub part-no : (t : Bool) (l s a b : ℕ) → t ≡ false → false ≡ (t && lostRule l s a b)
-part-no t l s a b p = rw p
+pub part-no : (t : Bool) (m : List ℕ) (k a b : ℕ) → t ≡ false → false ≡ (t && lostRule (segmentsOf (drop (6 * k + 6) m)) a b)
+part-no t m k a b p = rw p
 
 -- ---- what a met segment within the limits gives
 pub record Fits (q o d a b : ℕ) : Type 0 where
@@ -45,13 +47,13 @@ fits q o d a b m e f =
       sooner = meets-sooner q d a b m;
     }
 
-pub kept-all : (kind T a b lg sm s e : ℕ) (x : Met) (lost : Bool)
+pub kept-all : (kind T a b lg sm s e : ℕ) (x : Met) (lost behind : Bool)
     → lg ≡ max a (x .source) → sm ≡ min b (x .source + x .duration)
     → s ≡ startWithin kind T (x .output + (lg - x .source)) → e ≡ endWithin kind T (x .output + (sm - x .source))
-    → lost ≡ (ltb (x .source + x .duration) b && lostRule (x .later) (x .span) a b)
+    → lost ≡ (ltb (x .source + x .duration) b && behind)
     → _≡_ {A = Retimed} (record { start = s; stop = e; «start_cut» = ltb a (x .source); «end_cut» = ltb (x .source + x .duration) b; lost = lost })
-    (retimedBy (startWithin kind T) (endWithin kind T) a b x)
-kept-all kind T a b lg sm s e x lost el es ef eg eh = rw (eh, eg, ef, el, es)
+    (retimedBy (startWithin kind T) (endWithin kind T) a b behind x)
+kept-all kind T a b lg sm s e x lost behind el es ef eg eh = rw (eh, eg, ef, el, es)
 
 -- ---- the decision by the hit that the code found
 module _ (c : Config) (m : List Segment) (S E a b : ℕ) (ea : a ≡ ticksWithin (c .kind) (c .timescale) S) (eb : b ≡ ticksWithin (c .kind) (c .timescale) E) where
@@ -67,19 +69,19 @@ module _ (c : Config) (m : List Segment) (S E a b : ℕ) (ea : a ≡ ticksWithin
   decide-gone h p q = gone-of (findHit m a b) (sym p ∙ q) ∙ sym decide-is
 
   -- by the segment that was hit, as numbers
-  abbrev byMet : Met → Decision
-  byMet z =
+  abbrev byMet : List Segment → Met → Decision
+  byMet ls z =
       cond (endBad (z .source) (z .duration)) Strange
       (cond (endBad (z .output) (z .duration)) Strange
-      (Kept (retimedBy (startWithin (c .kind) (c .timescale)) (endWithin (c .kind) (c .timescale)) a b z)))
+      (Kept (retimedBy (startWithin (c .kind) (c .timescale)) (endWithin (c .kind) (c .timescale)) a b (lostRule ls a b) z)))
 
-  met-of : (r : Found) (z : Met) → hitOf r ≡ At z → byMet z ≡ limitedHit c a b r
+  met-of : (r : Found) (z : Met) → hitOf r ≡ At z → byMet (behindOf r) z ≡ limitedHit c a b r
   met-of miss z p = absurd (let w : _≡_ {A = ℕ} 0 1 = ap (λ (h : Hit). elim h [ Miss ↦ 0 | At v ↦ 1 ]) p in omega arith)
   met-of (hit i s ss) z p =
-      let v : metOf i s ss ≡ z = ap (λ (h : Hit). elim h [ Miss ↦ z | At v ↦ v ]) p in
-      ap byMet (sym v)
+      let v : metOf i s ≡ z = ap (λ (h : Hit). elim h [ Miss ↦ z | At v ↦ v ]) p in
+      ap (byMet ss) (sym v)
 
-  met-is : (h : Hit) (z : Met) → h ≡ hitOf (findHit m a b) → h ≡ At z → byMet z ≡ decideIn c m S E
+  met-is : (h : Hit) (z : Met) → h ≡ hitOf (findHit m a b) → h ≡ At z → byMet (behindOf (findHit m a b)) z ≡ decideIn c m S E
   met-is h z p q = met-of (findHit m a b) z (sym p ∙ q) ∙ sym decide-is
 
   pub decide-source : (h : Hit) (z : Met) (f : Bool) → h ≡ hitOf (findHit m a b) → h ≡ At z → f ≡ endBad (z .source) (z .duration) → f ≡ true → Strange ≡ decideIn c m S E
@@ -89,10 +91,12 @@ module _ (c : Config) (m : List Segment) (S E a b : ℕ) (ea : a ≡ ticksWithin
       → g ≡ endBad (z .output) (z .duration) → g ≡ true → Strange ≡ decideIn c m S E
   decide-output h z f g p q e t e′ t′ = subst (λ (d : Decision). Strange ≡ d) (met-is h z p q) (rw (sym e ∙ t, sym e′ ∙ t′))
 
-  pub decide-kept : (h : Hit) (z : Met) (f g : Bool) (r : Retimed) → h ≡ hitOf (findHit m a b) → h ≡ At z → f ≡ endBad (z .source) (z .duration) → f ≡ false
-      → g ≡ endBad (z .output) (z .duration) → g ≡ false → r ≡ retimedBy (startWithin (c .kind) (c .timescale)) (endWithin (c .kind) (c .timescale)) a b z
-      → Kept r ≡ decideIn c m S E
-  decide-kept h z f g r p q e t e′ t′ er = subst (λ (d : Decision). Kept r ≡ d) (met-is h z p q) (rw (sym e ∙ t, sym e′ ∙ t′) (ap Kept er))
+  pub decide-kept : (ls : List Segment) (h : Hit) (z : Met) (f g : Bool) (r : Retimed) → h ≡ hitOf (findHit m a b) → h ≡ At z → f ≡ endBad (z .source) (z .duration) → f ≡ false
+      → g ≡ endBad (z .output) (z .duration) → g ≡ false → r ≡ retimedBy (startWithin (c .kind) (c .timescale)) (endWithin (c .kind) (c .timescale)) a b (lostRule ls a b) z
+      → behindOf (findHit m a b) ≡ ls → Kept r ≡ decideIn c m S E
+  decide-kept ls h z f g r p q e t e′ t′ er eb =
+      subst (λ (d : Decision). Kept r ≡ d) (met-is h z p q)
+      (rw (sym e ∙ t, sym e′ ∙ t′) (ap Kept (er ∙ ap (λ (x : List Segment). retimedBy (startWithin (c .kind) (c .timescale)) (endWithin (c .kind) (c .timescale)) a b (lostRule x a b) z) (sym eb))))
 
 -- the hit that was found meets
 meets-of : (i a b : ℕ) (m : List Segment) (z : Met) → hitOf (findFrom i m a b) ≡ At z → meetsParts (z .source) (z .duration) a b ≡ true
@@ -103,7 +107,7 @@ meets-of i a b (x ∷ xs) z p = go (meets x a b) refl (meets-of (suc i) a b xs z
     go : (t : Bool) → meets x a b ≡ t → (hitOf (findFrom (suc i) xs a b) ≡ At z → meetsParts (z .source) (z .duration) a b ≡ true)
         → hitOf (cond t (hit i x xs) (findFrom (suc i) xs a b)) ≡ At z → meetsParts (z .source) (z .duration) a b ≡ true
     go true e ih q =
-        let v : metOf i x xs ≡ z = ap (λ (h : Hit). elim h [ Miss ↦ z | At v ↦ v ]) q in
+        let v : metOf i x ≡ z = ap (λ (h : Hit). elim h [ Miss ↦ z | At v ↦ v ]) q in
         ap (λ (v : Met). meetsParts (v .source) (v .duration) a b) (sym v) ∙ e
     go false e ih q = ih q
 

@@ -19,6 +19,7 @@ use Rattle.event.specs.declared.retiming.Retimed.{Retimed}
 use Rattle.event.specs.declared.retiming.Decision.{Decision}
 use Rattle.event.specs.declared.retiming.Decision.the-variants.{Strange, Dropped, Kept}
 use Rattle.event.specs.Hit.{meetsParts, meets, Found, miss, hit, findFrom, findHit, metOf}
+use Rattle.event.specs.Lost.{lostRule}
 use Rattle.event.specs.Decide.{moved, retimedBy, retimedAt, decideHit, decideTicks, decideOf, limitedHit, decideIn}
 use Rattle.event.specs.Says.{Cue, cue}
 use Rattle.event.specs.Emit.{cueEmit, emitBy, emitOf}
@@ -77,9 +78,9 @@ module _ (c : Config) (set : Set c) where
       go true e ih = let p = segment-good _ _ _ _ _ _ (cond-left (badOf x) (anyBad xs) g) in (e, p .0, p .1)
       go false e ih = ih
 
-  retimed-same : (a b : ℕ) (x : Met) → Fits (x .source) (x .output) (x .duration) a b
-      → retimedBy (startWithin (c .kind) (c .timescale)) (endWithin (c .kind) (c .timescale)) a b x ≡ retimedAt (c .timescale) (unitsOf (c .kind)) a b x
-  retimed-same a b x f =
+  retimed-same : (a b : ℕ) (lost : Bool) (x : Met) → Fits (x .source) (x .output) (x .duration) a b
+      → retimedBy (startWithin (c .kind) (c .timescale)) (endWithin (c .kind) (c .timescale)) a b lost x ≡ retimedAt (c .timescale) (unitsOf (c .kind)) a b lost x
+  retimed-same a b lost x f =
       let hs : moved (x .source) (x .output) (max a (x .source)) ≤ coreTicks = omega (arith, f .later, f .long, f .output) in
       let he : moved (x .source) (x .output) (min b (x .source + x .duration)) ≤ coreTicks = omega (arith, f .output) in
       rw (start-within (within _ coreTicks hs), end-within (within _ coreTicks he))
@@ -87,7 +88,7 @@ module _ (c : Config) (set : Set c) where
   hit-same : (a b : ℕ) (f : Found) → Sound a b f → limitedHit c a b f ≡ decideHit (c .timescale) (unitsOf (c .kind)) a b f
   hit-same a b miss s = refl
   hit-same a b (hit i x xs) s =
-      rw (s .1, s .2) (ap Kept (retimed-same a b (metOf i x xs) (fits (sourceOf x) (outputStartOf x) (x .duration) a b (s .0) (s .1) (s .2))))
+      rw (s .1, s .2) (ap Kept (retimed-same a b (lostRule xs a b) (metOf i x) (fits (sourceOf x) (outputStartOf x) (x .duration) a b (s .0) (s .1) (s .2))))
 
   -- for times that can be read, and a map that open accepts
   pub decide-same : (m : List Segment) (S E : ℕ) → anyBad m ≡ false → S ≤ coreUnits → E ≤ coreUnits → decideIn c m S E ≡ decideOf c m S E

@@ -8,6 +8,7 @@ use native.Mathlib.Numerals.{add-one}
 use borrow.Author.Tests.{lt-ltb, le-ltb, ltb-true, ltb-false}
 use lib.Dec.{ltb}
 use lib.ListN.{length, drop, getD, length-drop}
+use lib.Seq.{drop-drop}
 use Rattle.base.proofs.Laws.{and-left, and-right, and-false, and-true}
 use Rattle.segment.specs.declared.segment.Segment.{Segment}
 use Rattle.segment.specs.Segment.{segment, segmentsOf}
@@ -15,7 +16,8 @@ use Rattle.segment.proofs.SegmentLaws.{segments-cut, segments-short}
 use Rattle.event.specs.declared.meeting.Met.{Met}
 use Rattle.event.specs.declared.meeting.Hit.{Hit}
 use Rattle.event.specs.declared.meeting.Hit.the-variants.{Miss, At}
-use Rattle.event.specs.Hit.{meetsParts, meets, Found, miss, hit, findFrom, findHit, metOf, hitOf, metAt, lostRule}
+use Rattle.event.specs.Hit.{meetsParts, meets, Found, miss, hit, findFrom, findHit, metOf, hitOf, metAt}
+use Rattle.event.specs.Lost.{lostLater, lostRule}
 
 -- ---- a segment that meets
 ltb-shift : (a q d : ℕ) → q ≤ a → ltb (a - q) d ≡ ltb a (q + d)
@@ -55,36 +57,17 @@ module _ (q d a b : ℕ) where
   meets-sooner e = ltb-true q b (and-right (ltb a (q + d)) (ltb q b) (and-right (ltb 0 d) (ltb a (q + d) && ltb q b) e))
 
 -- ---- a hit as numbers
-pub met-short : (t : List ℕ) (i q o d : ℕ) → q ≡ getD t 2 0 → o ≡ getD t 4 0 → d ≡ getD t 5 0 → length t < 12
-    → _≡_ {A = Met} (record { place = i; source = q; output = o; duration = d; later = 0; span = 0 }) (metAt i t)
+pub met-told : (t : List ℕ) (i q o d : ℕ) → q ≡ getD t 2 0 → o ≡ getD t 4 0 → d ≡ getD t 5 0
+    → _≡_ {A = Met} (record { place = i; source = q; output = o; duration = d }) (metAt i t)
 unfolding metAt
-met-short t i q o d eq eo ed h = rw (eq, eo, ed, lt-ltb (length t) 12 h)
-
-pub met-long : (t : List ℕ) (i q o d l s : ℕ) → q ≡ getD t 2 0 → o ≡ getD t 4 0 → d ≡ getD t 5 0 → 12 ≤ length t → l ≡ getD t 8 0 → s ≡ getD t 11 0
-    → _≡_ {A = Met} (record { place = i; source = q; output = o; duration = d; later = l; span = s }) (metAt i t)
-unfolding metAt
-met-long t i q o d l s eq eo ed h el es = rw (eq, eo, ed, el, es, le-ltb (length t) 12 h)
+met-told t i q o d eq eo ed = rw (eq, eo, ed)
 
 abbrev headOf : List ℕ → Segment
 headOf t = segment (getD t 0 0) (getD t 1 0) (getD t 2 0) (getD t 3 0) (getD t 4 0) (getD t 5 0)
 
-met-is : (i : ℕ) (t : List ℕ) → 6 ≤ length t → metAt i t ≡ metOf i (headOf t) (segmentsOf (drop 6 t))
+met-is : (i : ℕ) (t : List ℕ) → metAt i t ≡ metOf i (headOf t)
 unfolding metAt
-met-is i [] h = absurd (omega arith)
-met-is i (a ∷ []) h = absurd (omega arith)
-met-is i (a ∷ b ∷ []) h = absurd (omega arith)
-met-is i (a ∷ b ∷ c ∷ []) h = absurd (omega arith)
-met-is i (a ∷ b ∷ c ∷ d ∷ []) h = absurd (omega arith)
-met-is i (a ∷ b ∷ c ∷ d ∷ e ∷ []) h = absurd (omega arith)
-met-is i (a ∷ b ∷ c ∷ d ∷ e ∷ f ∷ r) h = go (ltb (length r) 6) refl
-  where
-    go : (t : Bool) → ltb (length r) 6 ≡ t → metAt i (a ∷ b ∷ c ∷ d ∷ e ∷ f ∷ r) ≡ metOf i (headOf (a ∷ b ∷ c ∷ d ∷ e ∷ f ∷ r)) (segmentsOf r)
-    go true p =
-        let k : length r < 6 = ltb-true (length r) 6 p in
-        rw (segments-short r k, lt-ltb (length (a ∷ b ∷ c ∷ d ∷ e ∷ f ∷ r)) 12 (omega arith))
-    go false p =
-        let k : 6 ≤ length r = ltb-false (length r) 6 p in
-        rw (segments-cut r k, le-ltb (length (a ∷ b ∷ c ∷ d ∷ e ∷ f ∷ r)) 12 (omega arith))
+met-is i t = refl
 
 -- ---- the loop over the map: what is left of the search, from the place i on, is the whole answer
 find-cut : (t : List ℕ) (i a b q d : ℕ) (f : Bool) → 6 ≤ length t → q ≡ getD t 2 0 → d ≡ getD t 5 0 → f ≡ meetsParts q d a b
@@ -104,20 +87,88 @@ pub hit-found : (m t : List ℕ) (i a b q d : ℕ) (f : Bool) (x : Met) → find
 hit-found m t i a b q d f x inv h eq ed ef p ex =
     sym
     (ap hitOf (inv ∙ find-cut t i a b q d f h eq ed ef ∙ ap (λ (x : Bool). cond x (hit i (headOf t) (segmentsOf (drop 6 t))) (findFrom (suc i) (segmentsOf (drop 6 t)) a b)) p)
-    ∙ ap At (sym (met-is i t h)) ∙ ap At (sym ex))
+    ∙ ap At (sym (met-is i t)) ∙ ap At (sym ex))
 
 pub hit-none : (m t : List ℕ) (i a b : ℕ) → findHit (segmentsOf m) a b ≡ findFrom i (segmentsOf t) a b → length t < 6 → Miss ≡ hitOf (findHit (segmentsOf m) a b)
 unfolding findFrom
 hit-none m t i a b inv h = sym (ap hitOf (inv ∙ ap (λ (x : List Segment). findFrom i x a b) (segments-short t h)))
 
--- ---- the part-lost rule
-pub lost-1 : (l s a b : ℕ) → s ≡ 0 → false ≡ lostRule l s a b
-unfolding lostRule
-lost-1 l s a b e = rw (le-ltb 0 s (omega arith))
+-- ---- the part-lost rule: a segment behind is met where a search there finds one
+abbrev isHit : Hit → Bool
+isHit Miss = false
+isHit (At z) = true
 
-pub lost-2 : (l s a b : ℕ) → (s ≡ 0 → ⊥) → ltb l b ≡ lostRule l s a b
-unfolding lostRule
-lost-2 l s a b e = rw (lt-ltb 0 s (omega arith))
+lost-found : (i : ℕ) (xs : List Segment) (a b : ℕ) → lostLater xs a b ≡ isHit (hitOf (findFrom i xs a b))
+unfolding lostLater findFrom
+lost-found i [] a b = refl
+lost-found i (x ∷ xs) a b = go (meets x a b) (lost-found (suc i) xs a b)
+  where
+    go : (t : Bool) → lostLater xs a b ≡ isHit (hitOf (findFrom (suc i) xs a b)) → cond t true (lostLater xs a b) ≡ isHit (hitOf (cond t (hit i x xs) (findFrom (suc i) xs a b)))
+    go true ih = refl
+    go false ih = ih
+
+pub lost-none : (xs : List Segment) (a b : ℕ) (h : Hit) → h ≡ hitOf (findHit xs a b) → h ≡ Miss → false ≡ lostRule xs a b
+lost-none xs a b h p q = sym (lost-found 0 xs a b ∙ ap isHit (sym p ∙ q))
+
+pub lost-some : (xs : List Segment) (a b : ℕ) (h : Hit) (z : Met) → h ≡ hitOf (findHit xs a b) → h ≡ At z → true ≡ lostRule xs a b
+lost-some xs a b h z p q = sym (lost-found 0 xs a b ∙ ap isHit (sym p ∙ q))
+
+-- ---- the segments behind a hit, by its place
+abbrev pub behindOf : Found → List Segment
+behindOf miss = []
+behindOf (hit i x xs) = xs
+
+pub record Behind (i : ℕ) (t : List ℕ) (z : Met) (f : Found) : Type 0 where
+  pub low : i ≤ z .place
+  pub room : 6 * (z .place - i) + 6 ≤ length t
+  pub others : behindOf f ≡ segmentsOf (drop (6 * (z .place - i) + 6) t)
+
+no-hit : (z : Met) → Miss ≡ At z → ⊥
+no-hit z p = let w : _≡_ {A = ℕ} 0 1 = ap (λ (h : Hit). elim h [ Miss ↦ 0 | At v ↦ 1 ]) p in omega arith
+
+module _ (a b : ℕ) where
+  pub found-behind : (i : ℕ) (t : List ℕ) (z : Met) → hitOf (findFrom i (segmentsOf t) a b) ≡ At z → Behind i t z (findFrom i (segmentsOf t) a b)
+  unfolding findFrom segmentsOf
+  found-behind i [] z p = absurd (no-hit z p)
+  found-behind i (t0 ∷ []) z p = absurd (no-hit z p)
+  found-behind i (t0 ∷ t1 ∷ []) z p = absurd (no-hit z p)
+  found-behind i (t0 ∷ t1 ∷ t2 ∷ []) z p = absurd (no-hit z p)
+  found-behind i (t0 ∷ t1 ∷ t2 ∷ t3 ∷ []) z p = absurd (no-hit z p)
+  found-behind i (t0 ∷ t1 ∷ t2 ∷ t3 ∷ t4 ∷ []) z p = absurd (no-hit z p)
+  found-behind i (t0 ∷ t1 ∷ t2 ∷ t3 ∷ t4 ∷ t5 ∷ r) z p = go (meets x a b) refl p (found-behind (suc i) r z)
+    where
+      x : Segment
+      x = segment t0 t1 t2 t3 t4 t5
+
+      l : List ℕ
+      l = t0 ∷ t1 ∷ t2 ∷ t3 ∷ t4 ∷ t5 ∷ r
+
+      go : (t : Bool) → meets x a b ≡ t → hitOf (cond t (hit i x (segmentsOf r)) (findFrom (suc i) (segmentsOf r) a b)) ≡ At z
+          → (hitOf (findFrom (suc i) (segmentsOf r) a b) ≡ At z → Behind (suc i) r z (findFrom (suc i) (segmentsOf r) a b))
+          → Behind i l z (cond t (hit i x (segmentsOf r)) (findFrom (suc i) (segmentsOf r) a b))
+      go true e q ih =
+          let v : i ≡ z .place = ap (λ (h : Hit). elim h [ Miss ↦ i | At v ↦ v .place ]) q in
+          let k : 6 ≡ 6 * (z .place - i) + 6 = omega (arith, v) in
+          record { low = omega (arith, v); room = omega (arith, v); others = ap (λ (n : ℕ). segmentsOf (drop n l)) k }
+      go false e q ih =
+          let w = ih q in
+          let k : 6 + (6 * (z .place - suc i) + 6) ≡ 6 * (z .place - i) + 6 = omega (arith, w .low) in
+          record {
+            low = omega (arith, w .low);
+            room = omega (arith, w .low, w .room);
+            others = w .others ∙ ap segmentsOf (drop-drop (6 * (z .place - suc i) + 6) 6 l ∙ ap (λ (n : ℕ). drop n l) k);
+          }
+
+-- what a hit of the whole map tells of the rest of it
+pub hit-room : (m : List ℕ) (a b : ℕ) (h : Hit) (z : Met) → h ≡ hitOf (findHit (segmentsOf m) a b) → h ≡ At z → 6 * z .place + 6 ≤ length m
+hit-room m a b h z p q = let w = found-behind a b 0 m z (sym p ∙ q) in omega (arith, w .room)
+
+pub hit-others : (m : List ℕ) (a b : ℕ) (h : Hit) (z : Met) → h ≡ hitOf (findHit (segmentsOf m) a b) → h ≡ At z
+    → behindOf (findHit (segmentsOf m) a b) ≡ segmentsOf (drop (6 * z .place + 6) m)
+hit-others m a b h z p q =
+    let w = found-behind a b 0 m z (sym p ∙ q) in
+    let k : 6 * (z .place - 0) + 6 ≡ 6 * z .place + 6 = omega arith in
+    w .others ∙ ap (λ (n : ℕ). segmentsOf (drop n m)) k
 
 -- the place stays below the length of the map
 pub hit-place : (m t u : List ℕ) (i : ℕ) → i + length t ≤ length m → 6 ≤ length t → u ≡ drop 6 t → i + 1 + length u ≤ length m

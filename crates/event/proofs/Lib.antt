@@ -4,4 +4,7 @@ pub mod FateLaws
 mod CaseLaws
 pub mod FineLaws
 pub mod WordLaws
+pub mod LostLaws
+pub mod WarnLaws
+mod LostRows
 pub mod TellLaws

@@ -15,6 +15,7 @@ use Rattle.event.specs.declared.setting.Config.{Config}
 use Rattle.event.specs.declared.retiming.Decision.{Decision}
 use Rattle.event.specs.declared.retiming.Decision.the-variants.{Strange, Dropped, Kept}
 use Rattle.event.specs.Hit.{Found, miss, hit, findHit, metOf}
+use Rattle.event.specs.Lost.{lostRule}
 use Rattle.event.specs.Decide.{retimedBy, limitedHit, decideIn}
 
 abbrev pub Words : Decision → Type 0
@@ -60,7 +61,7 @@ hit-words : (c : Config) (a b : ℕ) (f : Found) → Words (limitedHit c a b f)
 hit-words c a b miss = tt
 hit-words c a b (hit i x xs) =
     tested-words (endBad (sourceOf x) (x .duration)) (endBad (outputStartOf x) (x .duration))
-    (Kept (retimedBy (startWithin (c .kind) (c .timescale)) (endWithin (c .kind) (c .timescale)) a b (metOf i x xs)))
+    (Kept (retimedBy (startWithin (c .kind) (c .timescale)) (endWithin (c .kind) (c .timescale)) a b (lostRule xs a b) (metOf i x)))
     (start-word (c .kind) (c .timescale) _, end-word (c .kind) (c .timescale) _)
 
 pub decide-words : (c : Config) (m : List Segment) (S E : ℕ) → Words (decideIn c m S E)

@@ -13,32 +13,33 @@ use Rattle.event.specs.declared.meeting.Met.{Met}
 use Rattle.event.specs.declared.retiming.Retimed.{Retimed}
 use Rattle.event.specs.declared.retiming.Decision.{Decision}
 use Rattle.event.specs.declared.retiming.Decision.the-variants.{Strange, Dropped, Kept}
-use Rattle.event.specs.Hit.{Found, miss, hit, findHit, metOf, lostRule}
+use Rattle.event.specs.Hit.{Found, miss, hit, findHit, metOf}
+use Rattle.event.specs.Lost.{lostRule}
 
 -- a tick at or after the source start q, moved by d = o − q
 abbrev pub moved : (q o tick : ℕ) → ℕ
 moved q o k = o + (k - q)
 
--- ticks a to b, cut to the segment x and moved, given how ticks are written
+-- ticks a to b, cut to the segment x and moved, given how ticks are written; lost: what the part-lost rule says of the segments behind x
 module _ (start stop : ℕ → ℕ) where
-  abbrev pub retimedBy : (a b : ℕ) → Met → Retimed
-  retimedBy a b x =
+  abbrev pub retimedBy : (a b : ℕ) → (lost : Bool) → Met → Retimed
+  retimedBy a b lost x =
       record {
         start = start (moved (x .source) (x .output) (max a (x .source)));
         stop = stop (moved (x .source) (x .output) (min b (x .source + x .duration)));
         «start_cut» = ltb a (x .source);
         «end_cut» = ltb (x .source + x .duration) b;
-        lost = ltb (x .source + x .duration) b && lostRule (x .later) (x .span) a b;
+        lost = ltb (x .source + x .duration) b && lost;
       }
 
 -- ---- by document 01
 module _ (T U : ℕ) where
-  abbrev pub retimedAt : (a b : ℕ) → Met → Retimed
-  retimedAt a b x = retimedBy (startUnits T U) (endUnits T U) a b x
+  abbrev pub retimedAt : (a b : ℕ) → (lost : Bool) → Met → Retimed
+  retimedAt a b lost x = retimedBy (startUnits T U) (endUnits T U) a b lost x
 
   abbrev pub decideHit : (a b : ℕ) → Found → Decision
   decideHit a b miss = Dropped
-  decideHit a b (hit i x xs) = Kept (retimedAt a b (metOf i x xs))
+  decideHit a b (hit i x xs) = Kept (retimedAt a b (lostRule xs a b) (metOf i x))
 
   unfoldable pub decideTicks : List Segment → (a b : ℕ) → Decision
   decideTicks m a b = decideHit a b (findHit m a b)
@@ -56,7 +57,7 @@ limitedHit c a b miss = Dropped
 limitedHit c a b (hit i x xs) =
     cond (endBad (sourceOf x) (x .duration)) Strange
     (cond (endBad (outputStartOf x) (x .duration)) Strange
-    (Kept (retimedBy (startWithin (c .kind) (c .timescale)) (endWithin (c .kind) (c .timescale)) a b (metOf i x xs))))
+    (Kept (retimedBy (startWithin (c .kind) (c .timescale)) (endWithin (c .kind) (c .timescale)) a b (lostRule xs a b) (metOf i x))))
 
 unfoldable pub decideIn : Config → List Segment → (S E : ℕ) → Decision
 decideIn c m S E =

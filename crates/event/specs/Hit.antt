@@ -1,9 +1,9 @@
 -- The segment that a caption meets: document 01's hit. a and b are the ticks of the caption's start and end.
-use mathlib.Core.Bool.{Bool, true, false, _&&_, cond}
+use mathlib.Core.Bool.{Bool, _&&_, cond}
 use mathlib.Core.List.{List, [], _∷_}
 use Prim.Native.Nat.{ℕ, suc, _+_}
 use lib.Dec.{ltb}
-use lib.ListN.{length, getD}
+use lib.ListN.{getD}
 use Rattle.segment.specs.declared.segment.Segment.{Segment}
 use Rattle.segment.specs.Segment.{sourceOf, outputStartOf}
 use Rattle.event.specs.declared.meeting.Met.{Met}
@@ -31,44 +31,14 @@ abbrev pub findHit : List Segment → (a b : ℕ) → Found
 findHit m a b = findFrom 0 m a b
 
 -- ---- as numbers
--- the very next segment: its source start and its duration, 0 where there is none
-abbrev pub nextSource : List Segment → ℕ
-nextSource [] = 0
-nextSource (x ∷ xs) = sourceOf x
-
-abbrev pub nextDuration : List Segment → ℕ
-nextDuration [] = 0
-nextDuration (x ∷ xs) = x .duration
-
-abbrev pub metOf : (place : ℕ) → Segment → List Segment → Met
-metOf i x xs =
-    record {
-      place = i;
-      source = sourceOf x;
-      output = outputStartOf x;
-      duration = x .duration;
-      later = nextSource xs;
-      span = nextDuration xs;
-    }
+abbrev pub metOf : (place : ℕ) → Segment → Met
+metOf i x = record { place = i; source = sourceOf x; output = outputStartOf x; duration = x .duration }
 
 -- what the code answers
 abbrev pub hitOf : Found → Hit
 hitOf miss = Miss
-hitOf (hit i x xs) = At (metOf i x xs)
+hitOf (hit i x xs) = At (metOf i x)
 
--- the segment at the head of a row of flat numbers, with the one behind it
+-- the segment at the head of a row of flat numbers
 unfoldable pub metAt : (place : ℕ) → List ℕ → Met
-metAt i t =
-    record {
-      place = i;
-      source = getD t 2 0;
-      output = getD t 4 0;
-      duration = getD t 5 0;
-      later = cond (ltb (length t) 12) 0 (getD t 8 0);
-      span = cond (ltb (length t) 12) 0 (getD t 11 0);
-    }
-
--- ---- document 01's part-lost rule: the very next segment has a positive duration and starts before the end.
--- It is given both ticks; `later` and `span` are the next segment's source start and duration.
-unfoldable pub lostRule : (later span a b : ℕ) → Bool
-lostRule later span a b = ltb 0 span && ltb later b
+metAt i t = record { place = i; source = getD t 2 0; output = getD t 4 0; duration = getD t 5 0 }

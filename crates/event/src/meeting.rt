@@ -3,14 +3,12 @@ ghost use mathlib.Core.Path.{_≡_};
 ghost use Rattle.segment.specs.Segment.{segmentsOf};
 ghost use Rattle.event.specs.Hit.{meetsParts, metAt, findHit, hitOf};
 
-// A segment that is met, its place in the list from 0, and the source start and duration of the very next one.
+// A segment that is met, and its place in the list from 0.
 pub struct Met {
     pub place: usize,
     pub source: u64,
     pub output: u64,
     pub duration: u64,
-    pub later: u64,
-    pub span: u64,
 }
 
 pub enum Hit {
@@ -34,32 +32,15 @@ pub fn meets(source: u64, duration: u64, a: u64, b: u64) -> bool
     a - source < duration
 }
 
-// The segment at the head of a row, with what a hit needs of the very next one.
+// The segment at the head of a row.
 fn met_at(place: usize, t: &[u64]) -> Met
     ensures { λ r. ⌜ r ≡ metAt place (now (t .entry)) ⌝ }
 {
-    let source = base::word(t, 2);
-    let output = base::word(t, 4);
-    let duration = base::word(t, 5);
-    if t.len() < 12 {
-        return Met {
-            place,
-            source,
-            output,
-            duration,
-            later: 0,
-            span: 0,
-        };
-    }
-    let later = base::word(t, 8);
-    let span = base::word(t, 11);
     Met {
         place,
-        source,
-        output,
-        duration,
-        later,
-        span,
+        source: base::word(t, 2),
+        output: base::word(t, 4),
+        duration: base::word(t, 5),
     }
 }
 

@@ -4,10 +4,12 @@ use crate::meeting::Met;
 use crate::setting::Config;
 ghost use mathlib.Core.Path.{_≡_};
 ghost use mathlib.Core.Bool.{true, false, _&&_};
-ghost use Prim.Native.Nat.{_+_, _<_, min, max};
+ghost use Prim.Native.Nat.{_+_, _*_, _≤_, min, max};
+ghost use lib.ListN.{length, drop};
 ghost use Rattle.time.specs.Convert.{startWithin, endWithin};
 ghost use Rattle.segment.specs.Segment.{segmentsOf, endBad};
-ghost use Rattle.event.specs.Hit.{meetsParts, lostRule};
+ghost use Rattle.event.specs.Hit.{meetsParts};
+ghost use Rattle.event.specs.Lost.{lostRule};
 ghost use Rattle.event.specs.Decide.{retimedBy, decideIn};
 
 // A caption that is kept: its new times in units, which of them was cut, whether a part was lost (warning 4).
@@ -38,30 +40,32 @@ fn smaller(a: u64, b: u64) -> u64
     if a < b { a } else { b }
 }
 
-// Document 01's part-lost rule.
-fn lost_rule(later: u64, span: u64, a: u64, b: u64) -> bool
-    ensures { λ r. ⌜ r ≡ lostRule later span a b ⌝ }
+// Whether one of the segments meets the ticks a to b: the part-lost rule of those behind the one that is hit.
+fn lost_rule(behind: &[u64], a: u64, b: u64) -> bool
+    ensures { λ r. ⌜ r ≡ lostRule (segmentsOf (now (behind .entry))) a b ⌝ }
 {
-    if span == 0 {
-        return false;
+    match crate::meeting::find_hit(behind, a, b) {
+        Hit::Miss => false,
+        Hit::At(_) => true,
     }
-    later < b
 }
 
-// The end was cut, and a part of the caption was lost by it.
-fn lost_part(cut: bool, later: u64, span: u64, a: u64, b: u64) -> bool
-    ensures { λ r. ⌜ r ≡ (cut && lostRule later span a b) ⌝ }
+// The end was cut, and a part of the caption was lost by it: `place` is that of the segment that was hit.
+fn lost_part(cut: bool, map: &[u64], place: usize, a: u64, b: u64) -> bool
+    requires { ⌜ 6 * place + 6 ≤ length (now map) ⌝ }
+    ensures { λ r. ⌜ r ≡ (cut && lostRule (segmentsOf (drop (6 * place + 6) (now (map .entry)))) a b) ⌝ }
 {
     if cut {
-        return lost_rule(later, span, a, b);
+        return lost_rule(base::words_rest(map, 6 * place + 6), a, b);
     }
     false
 }
 
 // A caption of ticks a to b that the segment x meets, within the limits.
-fn retime(x: Met, config: Config, a: u64, b: u64) -> Retimed
+fn retime(x: Met, map: &[u64], config: Config, a: u64, b: u64) -> Retimed
+    requires { ⌜ 6 * x .place + 6 ≤ length (now map) ⌝ }
     requires { ⌜ (meetsParts (x .source) (x .duration) a b ≡ true) × (endBad (x .source) (x .duration) ≡ false) × (endBad (x .output) (x .duration) ≡ false) ⌝ }
-    ensures { λ r. ⌜ r ≡ retimedBy (startWithin (config .kind) (config .timescale)) (endWithin (config .kind) (config .timescale)) a b x ⌝ }
+    ensures { λ r. ⌜ r ≡ retimedBy (startWithin (config .kind) (config .timescale)) (endWithin (config .kind) (config .timescale)) a b (lostRule (segmentsOf (drop (6 * x .place + 6) (now (map .entry)))) a b) x ⌝ }
 {
     let source = x.source;
     let output = x.output;
@@ -72,7 +76,7 @@ fn retime(x: Met, config: Config, a: u64, b: u64) -> Retimed
     let stop = time::core_end(to, config.timescale, config.kind);
     let start_cut = a < source;
     let end_cut = last < b;
-    let lost = lost_part(end_cut, x.later, x.span, a, b);
+    let lost = lost_part(end_cut, map, x.place, a, b);
     Retimed {
         start,
         stop,
@@ -97,7 +101,7 @@ pub fn decide(map: &[u64], config: Config, s: u64, e: u64) -> Decision
             if segment::end_bad(x.output, x.duration) {
                 return Decision::Strange;
             }
-            let r = retime(x, config, from, to);
+            let r = retime(x, map, config, from, to);
             Decision::Kept(r)
         }
     }

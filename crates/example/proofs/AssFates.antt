@@ -17,7 +17,8 @@ use Rattle.stamp.specs.Read.{markIn, timeWith, timeIn}
 use Rattle.segment.specs.declared.segment.Segment.{Segment}
 use Rattle.segment.specs.Segment.{flatOf, segmentsOf, endBad, segmentBad, anyBad, mapBad}
 use Rattle.event.specs.declared.setting.Config.{Config}
-use Rattle.event.specs.Hit.{meetsParts, findFrom, lostRule}
+use Rattle.event.specs.Hit.{meetsParts, findFrom}
+use Rattle.event.specs.Lost.{lostLater}
 use Rattle.event.specs.Decide.{decideTicks, decideOf}
 use Rattle.event.specs.Fates.{Fate, dropped, shifted, clipped, Right}
 use Rattle.event.specs.Says.{Cue}
@@ -61,13 +62,13 @@ module _ (out short places : List ℕ) (long : length out ≡ 32768) (few : leng
       (subst (AllRight (setting 0) (segmentsOf (flatOf (plainMap .segments)))) said-is (fates 0 known assFirst assRest out short places long few enough))
 
   pub first-clipped : Right 30000 (unitsOf 0) (plainMap .segments) 5 25 (clipped 5 11)
-  unfolding emitBy decideOf decideTicks findFrom meetsParts lostRule ticksOf startUnits endUnits scaledUp unitsOf
+  unfolding emitBy decideOf decideTicks findFrom meetsParts lostLater ticksOf startUnits endUnits scaledUp unitsOf
   first-clipped = right-of (setting 0) (plainMap .segments) _ _ (ass-fates .1 .1 .0) (clipped 5 11) refl
 
   pub second-dropped : Right 30000 (unitsOf 0) (plainMap .segments) 12 20 dropped
-  unfolding emitBy decideOf decideTicks findFrom meetsParts lostRule ticksOf startUnits endUnits scaledUp unitsOf
+  unfolding emitBy decideOf decideTicks findFrom meetsParts lostLater ticksOf startUnits endUnits scaledUp unitsOf
   second-dropped = right-of (setting 0) (plainMap .segments) _ _ (ass-fates .1 .1 .1 .0) dropped refl
 
   pub last-shifted : Right 30000 (unitsOf 0) (plainMap .segments) 21 25 (shifted 10 15)
-  unfolding emitBy decideOf decideTicks findFrom meetsParts lostRule ticksOf startUnits endUnits scaledUp unitsOf
+  unfolding emitBy decideOf decideTicks findFrom meetsParts lostLater ticksOf startUnits endUnits scaledUp unitsOf
   last-shifted = right-of (setting 0) (plainMap .segments) _ _ (ass-fates .1 .1 .1 .1 .1 .0) (shifted 10 15) refl

@@ -17,7 +17,8 @@ use Rattle.time.specs.Convert.{ticksOf, startUnits, endUnits, scaledUp}
 use Rattle.stamp.specs.Read.{markIn, timeWith, timeIn}
 use Rattle.stamp.specs.Write.{pad, widthUnder, width, textWith, timeText}
 use Rattle.segment.specs.Segment.{flatOf, segmentsOf, endBad, segmentBad, anyBad, mapBad}
-use Rattle.event.specs.Hit.{meetsParts, findFrom, lostRule}
+use Rattle.event.specs.Hit.{meetsParts, findFrom}
+use Rattle.event.specs.Lost.{lostLater}
 use Rattle.event.specs.Decide.{decideTicks, decideOf}
 use Rattle.event.specs.Emit.{emitBy, emitsOf, render, outputOf, warningsOf}
 use Rattle.columns.specs.Columns.{namesIn, placeIn, columnsIn, fields, fieldAt}
@@ -46,7 +47,7 @@ unfolding leadLen secondLow secondHigh tail widthBy charWidth utf8From utf8 code
 heard-is = refl
 
 read-is : readBy 0 plainMap heard ≡ assTold
-unfolding leadLen secondLow secondHigh tail widthBy charWidth utf8From utf8 codeBy codeHead whiteHigh white whiteHead last endsWhite whiteTail headFrom keepFrom trimHead trimTail trim starts equals first contains upTo past piecesFrom pieces digit digits valueFrom natural unsigned number linesOf textOf terminatorLength terminatorOf kindBad unitsOf markOf timeWith markIn timeIn namesIn placeIn columnsIn fields fieldAt holdsAny bracketed inside pieceAt fieldPieces captionSays wordSays textSays lineSays faultUnless _orElse_ lineFault assRead linesSay plainRead flatOf segmentsOf emitBy emitsOf render outputOf warningsOf timeText textWith pad width widthUnder fractionDigits hourDigits decideOf decideTicks findFrom meetsParts lostRule ticksOf startUnits endUnits scaledUp countAll
+unfolding leadLen secondLow secondHigh tail widthBy charWidth utf8From utf8 codeBy codeHead whiteHigh white whiteHead last endsWhite whiteTail headFrom keepFrom trimHead trimTail trim starts equals first contains upTo past piecesFrom pieces digit digits valueFrom natural unsigned number linesOf textOf terminatorLength terminatorOf kindBad unitsOf markOf timeWith markIn timeIn namesIn placeIn columnsIn fields fieldAt holdsAny bracketed inside pieceAt fieldPieces captionSays wordSays textSays lineSays faultUnless _orElse_ lineFault assRead linesSay plainRead flatOf segmentsOf emitBy emitsOf render outputOf warningsOf timeText textWith pad width widthUnder fractionDigits hourDigits decideOf decideTicks findFrom meetsParts lostLater ticksOf startUnits endUnits scaledUp countAll
 read-is = refl
 
 pub known : kindBad 0 ≡ false

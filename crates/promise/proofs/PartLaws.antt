@@ -16,7 +16,8 @@ use Rattle.event.specs.declared.setting.Config.{Config}
 use Rattle.event.specs.declared.retiming.Retimed.{Retimed}
 use Rattle.event.specs.declared.retiming.Decision.{Decision}
 use Rattle.event.specs.declared.retiming.Decision.the-variants.{Strange, Dropped, Kept}
-use Rattle.event.specs.Hit.{meetsParts, meets, Found, miss, hit, findFrom, findHit, nextSource, nextDuration, metOf, lostRule}
+use Rattle.event.specs.Hit.{meetsParts, meets, Found, miss, hit, findFrom, findHit, metOf}
+use Rattle.event.specs.Lost.{lostLater, lostRule}
 use Rattle.event.specs.Decide.{retimedAt, decideHit, decideTicks, decideOf}
 use Rattle.event.specs.Fates.{passed, dropped, shifted, clipped, fateFor, fateBy, fateOf, Meets, NoneMeets, FirstMet}
 use Rattle.event.specs.Says.{Reason, unplaced, short, Cue, Part, stays, passes, cue}
@@ -24,7 +25,7 @@ use Rattle.event.specs.Emit.{Warning, warnIf, decided, Emit, render, cueEmit, e
 use Rattle.event.proofs.FateLaws.{met, fate-right}
 use Rattle.machine.specs.declared.counting.Counts.{Counts}
 use Rattle.machine.specs.Counts.{noCounts, countFate, countAll, countsOf}
-use Rattle.promise.specs.Demand.{lostNext, Warned, Leaves, CueRight, PartRight, AllRight, passings}
+use Rattle.promise.specs.Demand.{lostAmong, Warned, Leaves, CueRight, PartRight, AllRight, passings}
 
 -- ---- the first segment that is met, and those behind it
 meets-true : (x : Segment) (a b : ℕ) → Meets x a b → meets x a b ≡ true
@@ -90,29 +91,36 @@ module _ (c : Config) (m : List Segment) (q : Cue) where
   b = ticksOf T U (q .stop)
 
   -- the part-lost rule by the segments behind
-  lost-next : (xs : List Segment) → lostRule (nextSource xs) (nextDuration xs) a b ≡ lostNext c m xs b
-  unfolding lostRule
-  lost-next [] = refl
-  lost-next (x ∷ xs) = refl
+  lost-among : (xs : List Segment) → lostRule xs a b ≡ lostAmong xs a b
+  unfolding lostLater meetsParts
+  lost-among [] = refl
+  lost-among (x ∷ xs) = go (ltb 0 (x .duration)) (ltb a (sourceEnd x)) (ltb (sourceOf x) b) (lost-among xs)
+    where
+      go : (p q r : Bool) → lostRule xs a b ≡ lostAmong xs a b → cond (p && (q && r)) true (lostRule xs a b) ≡ ((p && (r && q)) || lostAmong xs a b)
+      go true true true e = refl
+      go true true false e = e
+      go true false true e = e
+      go true false false e = e
+      go false q r e = e
 
   abbrev written : (s e : ℕ) → List ℕ
   written s e = render (q .frame) (timeText (c .kind) (q .startMark) s) (timeText (c .kind) (q .stopMark) e)
 
   warned : (x : Segment) (xs : List Segment) (sc ec : Bool) → HitFirst m a b x xs → ltb a (sourceOf x) ≡ sc → ltb (sourceEnd x) b ≡ ec
-      → Warned c m q (warnIf (sc && q .tagged) 3 (q .line) ++ warnIf (ec && lostRule (nextSource xs) (nextDuration xs) a b) 4 (q .line))
+      → Warned c m q (warnIf (sc && q .tagged) 3 (q .line) ++ (warnIf (ec && lostRule xs a b) 4 (q .line) ++ warnIf (q .stamped) 5 (q .line)))
   warned x xs sc ec h p r =
       record {
         segment = x;
         first = h .first;
         warnings =
-            ap₂ (λ (s e : Bool). warnIf (s && q .tagged) 3 (q .line) ++ warnIf (e && lostRule (nextSource xs) (nextDuration xs) a b) 4 (q .line)) (sym p) (sym r)
-            ∙ ap (λ (l : Bool). warnIf (ltb a (sourceOf x) && q .tagged) 3 (q .line) ++ warnIf (ltb (sourceEnd x) b && l) 4 (q .line))
-            (lost-next xs ∙ ap (λ (ys : List Segment). lostNext c m ys b) (sym (h .behind)));
+            ap₂ (λ (s e : Bool). warnIf (s && q .tagged) 3 (q .line) ++ (warnIf (e && lostRule xs a b) 4 (q .line) ++ warnIf (q .stamped) 5 (q .line))) (sym p) (sym r)
+            ∙ ap (λ (l : Bool). warnIf (ltb a (sourceOf x) && q .tagged) 3 (q .line) ++ (warnIf (ltb (sourceEnd x) b && l) 4 (q .line) ++ warnIf (q .stamped) 5 (q .line)))
+            (lost-among xs ∙ ap (λ (ys : List Segment). lostAmong ys a b) (sym (h .behind)));
       }
 
   leaves-by : (x : Segment) (xs : List Segment) (s e : ℕ) (sc ec : Bool) → HitFirst m a b x xs → ltb a (sourceOf x) ≡ sc → ltb (sourceEnd x) b ≡ ec
       → Leaves c m q (cond (sc || ec) (clipped s e) (shifted s e)) (written s e)
-      (warnIf (sc && q .tagged) 3 (q .line) ++ warnIf (ec && lostRule (nextSource xs) (nextDuration xs) a b) 4 (q .line))
+      (warnIf (sc && q .tagged) 3 (q .line) ++ (warnIf (ec && lostRule xs a b) 4 (q .line) ++ warnIf (q .stamped) 5 (q .line)))
   leaves-by x xs s e false false h p r = (refl, refl)
   leaves-by x xs s e false true h p r = (refl, warned x xs false true h p r)
   leaves-by x xs s e true ec h p r = (refl, warned x xs true ec h p r)
@@ -121,7 +129,7 @@ module _ (c : Config) (m : List Segment) (q : Cue) where
       → Leaves c m q (fateBy (decideHit T U a b f)) (cueEmit (c .kind) q (decideHit T U a b f) .out) (cueEmit (c .kind) q (decideHit T U a b f) .warnings)
   hit-leaves miss h = (refl, refl)
   hit-leaves (hit i x xs) h =
-      let r : Retimed = retimedAt T U a b (metOf i x xs) in
+      let r : Retimed = retimedAt T U a b (lostRule xs a b) (metOf i x) in
       leaves-by x xs (r .start) (r .stop) (ltb a (sourceOf x)) (ltb (sourceEnd x) b) h refl refl
 
   caption-fate : (d : Decision) → cueEmit (c .kind) q d .caption ≡ decided (fateBy d)
@@ -161,12 +169,16 @@ fate-keeps r k = go (r .«start_cut») (r .«end_cut»)
     go false true = refl
     go true ec = refl
 
-none-passing : (s t : Bool) (n : ℕ) (ws : List Warning) → passings ((warnIf s 3 n ++ warnIf t 4 n) ++ ws) ≡ passings ws
+none-passing : (s t u : Bool) (n : ℕ) (ws : List Warning) → passings ((warnIf s 3 n ++ (warnIf t 4 n ++ warnIf u 5 n)) ++ ws) ≡ passings ws
 unfolding passings
-none-passing true true n ws = refl
-none-passing true false n ws = refl
-none-passing false true n ws = refl
-none-passing false false n ws = refl
+none-passing true true true n ws = refl
+none-passing true true false n ws = refl
+none-passing true false true n ws = refl
+none-passing true false false n ws = refl
+none-passing false true true n ws = refl
+none-passing false true false n ws = refl
+none-passing false false true n ws = refl
+none-passing false false false n ws = refl
 
 module _ (c : Config) (m : List Segment) where
   cue-counted : (q : Cue) (d : Decision) (es : List Emit) → Counted es → Counted (cueEmit (c .kind) q d ∷ es)
@@ -176,7 +188,7 @@ module _ (c : Config) (m : List Segment) where
   cue-counted q (Kept r) es i k =
       i (countFate (fateFor r) k)
       ∙ ap (λ (n : ℕ). passings (warningsOf es) + n) (fate-keeps r k)
-      ∙ ap (λ (n : ℕ). n + k .passed) (sym (none-passing (r .«start_cut» && q .tagged) (r .lost) (q .line) (warningsOf es)))
+      ∙ ap (λ (n : ℕ). n + k .passed) (sym (none-passing (r .«start_cut» && q .tagged) (r .lost) (q .stamped) (q .line) (warningsOf es)))
 
   pass-counted : (r : Reason) (n : ℕ) (l : List ℕ) (es : List Emit) → Counted es → Counted (emitOf c m (passes r n l) ∷ es)
   unfolding countAll warningsOf emitBy passings

@@ -1,6 +1,6 @@
 -- Demand 3: for every list of feeds and finishes, what the calls answered, wrote, warned of and counted is what the text says, each part put through the map.
 use mathlib.Core.Path.{_≡_}
-use mathlib.Core.Bool.{Bool, true, false, _&&_}
+use mathlib.Core.Bool.{Bool, true, false, _&&_, _||_}
 use mathlib.Core.List.{List, [], _∷_, _++_}
 use Prim.Native.Nat.{ℕ, suc}
 use lib.Dec.{ltb, leb}
@@ -23,24 +23,24 @@ use Rattle.promise.specs.Plain.{plainRead}
 use Rattle.promise.specs.Again.{AllAgain}
 
 -- ---- what is right for each part, in plain words
+-- some segment has duration > 0, source start < b and source end > a
+abbrev pub lostAmong : List Segment → (a b : ℕ) → Bool
+lostAmong [] a b = false
+lostAmong (x ∷ xs) a b = (ltb 0 (x .duration) && (ltb (sourceOf x) b && ltb a (sourceEnd x))) || lostAmong xs a b
+
 module _ (c : Config) (m : List Segment) where
   -- the ticks of a time that was read
   abbrev pub ticks : ℕ → ℕ
   ticks S = ticksOf (c .timescale) (unitsOf (c .kind)) S
 
-  -- the very next segment is of positive length and starts before tick b
-  abbrev pub lostNext : List Segment → (b : ℕ) → Bool
-  lostNext [] b = false
-  lostNext (x ∷ xs) b = ltb 0 (x .duration) && ltb (sourceOf x) b
-
-  -- warnings of a cue that is kept: 3 where its start was cut and it has a relative tag, then 4 where its end was cut and a part was lost, then 5 where times
-  -- stand in its lines
+  -- warnings of a cue that is kept: 3 where its start was cut and it has a relative tag, then 4 where its end was cut and a segment later
+  -- in the list has a part of it, by its times as they were read, then 5 where times stand in its lines
   pub record Warned (q : Cue) (ws : List Warning) : Type 0 where
     pub segment : Segment
     pub first : FirstMet m (ticks (q .start)) (ticks (q .stop)) segment
     pub warnings : ws
         ≡ warnIf (ltb (ticks (q .start)) (sourceOf segment) && q .tagged) 3 (q .line)
-        ++ (warnIf (ltb (sourceEnd segment) (ticks (q .stop)) && lostNext (first .others) (ticks (q .stop))) 4 (q .line)
+        ++ (warnIf (ltb (sourceEnd segment) (ticks (q .stop)) && lostAmong (first .others) (ticks (q .start)) (ticks (q .stop))) 4 (q .line)
         ++ warnIf (q .stamped) 5 (q .line))
 
   -- a dropped cue leaves nothing; a kept one is written with its new times in the places of the old ones

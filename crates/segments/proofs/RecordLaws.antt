@@ -12,30 +12,18 @@ use Rattle.base.specs.Put.{put, putAt, placed, placedAt}
 use Rattle.base.specs.Refusal.{faultUnless}
 use Rattle.base.proofs.PutLaws.{put-append, then-put, then-placed, placed-yes, placed-no}
 use Rattle.segment.specs.declared.segment.Segment.{Segment}
-use Rattle.segment.specs.Segment.{sourceOf, numbersOf, flatOf, segmentsOf}
+use Rattle.segment.specs.Segment.{numbersOf, flatOf, segmentsOf}
 use Rattle.segmap.proofs.Built.{flat-length}
 use Rattle.event.specs.declared.meeting.Hit.the-variants.{Miss}
-use Rattle.event.specs.Hit.{meets, findFrom, hitOf, nextSource, nextDuration}
+use Rattle.event.specs.Hit.{meets, findFrom, hitOf}
 use Rattle.segments.specs.Records.{recorded, flatNumber, noSegment, narrowed, segmentAt, hitAt}
 
 -- ---- the first record that is met
-next-source : (l : List Segment) (i : ℕ) → nextSource (drop i l) ≡ sourceOf (getD l i noSegment)
-next-source [] zero = refl
-next-source [] (suc i) = refl
-next-source (x ∷ l) zero = refl
-next-source (x ∷ l) (suc i) = next-source l i
-
-next-duration : (l : List Segment) (i : ℕ) → nextDuration (drop i l) ≡ getD l i noSegment .duration
-next-duration [] zero = refl
-next-duration [] (suc i) = refl
-next-duration (x ∷ l) zero = refl
-next-duration (x ∷ l) (suc i) = next-duration l i
-
 -- the record at i is met, or is not; past the end there is none
 pub hit-here : (l : List Segment) (i a b : ℕ) → i < length l → meets (getD l i noSegment) a b ≡ true
-    → hitOf (findFrom i (drop i l) a b) ≡ hitAt i (getD l i noSegment) (getD l (i + 1) noSegment)
+    → hitOf (findFrom i (drop i l) a b) ≡ hitAt i (getD l i noSegment)
 unfolding findFrom
-hit-here l i a b h t = rw (drop-cons l i noSegment h, t, add-one i, next-source l (suc i), next-duration l (suc i))
+hit-here l i a b h t = rw (drop-cons l i noSegment h, t)
 
 pub hit-next : (l : List Segment) (i a b : ℕ) → i < length l → meets (getD l i noSegment) a b ≡ false → findFrom i (drop i l) a b ≡ findFrom (i + 1) (drop (i + 1) l) a b
 unfolding findFrom

@@ -40,6 +40,6 @@ narrowed (x ∷ xs) = narrow x ∷ narrowed xs
 abbrev pub segmentAt : List ℕ → ℕ → Segment
 segmentAt l i = narrow (segment (getD l i 0) (getD l (i + 1) 0) (getD l (i + 2) 0) (getD l (i + 3) 0) (getD l (i + 4) 0) (getD l (i + 5) 0))
 
--- the answer of a segment that is met, given the very next one, or zeros
-abbrev pub hitAt : (place : ℕ) (x next : Segment) → Hit
-hitAt i x next = At record { place = i; source = sourceOf x; output = outputStartOf x; duration = x .duration; later = sourceOf next; span = next .duration }
+-- the answer of a segment that is met
+abbrev pub hitAt : (place : ℕ) → Segment → Hit
+hitAt i x = At record { place = i; source = sourceOf x; output = outputStartOf x; duration = x .duration }

@@ -16,7 +16,8 @@ use Rattle.stamp.specs.Read.{markIn, timeWith, timeIn}
 use Rattle.stamp.specs.Write.{pad, widthUnder, width, textWith, timeText}
 use Rattle.segment.specs.declared.segment.Segment.{Segment}
 use Rattle.segment.specs.Segment.{segment}
-use Rattle.event.specs.Hit.{meetsParts, findFrom, lostRule}
+use Rattle.event.specs.Hit.{meetsParts, findFrom}
+use Rattle.event.specs.Lost.{lostLater}
 use Rattle.event.specs.Decide.{decideTicks, decideOf}
 use Rattle.event.specs.Fates.{fateOf}
 use Rattle.event.specs.Emit.{emitBy, render}
@@ -33,12 +34,14 @@ use Rattle.table.specs.Table.{Table}
 use Rattle.table.proofs.TheMap.{segments-is}
 
 rows : Table (segment 0 3 0 3 0 3003 ∷ segment 6 10 6006 4 3003 4004 ∷ [])
-unfolding leadLen secondLow secondHigh tail widthBy charWidth codeBy codeHead whiteHigh white whiteHead last endsWhite whiteTail headFrom keepFrom trimHead trimTail trim starts equals first contains upTo past piecesFrom pieces digit digits valueFrom natural unsigned number linesOf textOf terminatorLength terminatorOf kindBad unitsOf markOf timeWith markIn timeIn namesIn placeIn columnsIn fields fieldAt holdsAny bracketed inside pieceAt fieldPieces captionSays wordSays textSays lineSays emitBy render timeText textWith pad width widthUnder fractionDigits hourDigits fateOf decideOf decideTicks findFrom meetsParts lostRule ticksOf startUnits endUnits scaledUp srtEnd endIn stampsIn timingOf afterArrow timingLineSays blockSays
+unfolding leadLen secondLow secondHigh tail widthBy charWidth codeBy codeHead whiteHigh white whiteHead last endsWhite whiteTail headFrom keepFrom trimHead trimTail trim starts equals first contains upTo past piecesFrom pieces digit digits valueFrom natural unsigned number linesOf textOf terminatorLength terminatorOf kindBad unitsOf markOf timeWith markIn timeIn namesIn placeIn columnsIn fields fieldAt holdsAny bracketed inside pieceAt fieldPieces captionSays wordSays textSays lineSays emitBy render timeText textWith pad width widthUnder fractionDigits hourDigits fateOf decideOf decideTicks findFrom meetsParts lostLater ticksOf startUnits endUnits scaledUp srtEnd endIn stampsIn timingOf afterArrow timingLineSays blockSays
 rows =
     record {
       across = refl;
       across-lost = refl;
       across-warned = refl;
+      across-empty = refl;
+      before-unwarned = refl;
       between = refl;
       second = refl;
       second-edge = refl;

@@ -60,6 +60,10 @@ pub record Table (m : List Segment) : Type 0 where
   pub across : fateOf (setting 0) m 5 25 ≡ clipped 5 11
   pub across-lost : decideOf (setting 0) m 5 25 ≡ Kept (record { start = 5; stop = 11; «start_cut» = false; «end_cut» = true; lost = true })
   pub across-warned : warns m (lineSays inPlace 2 (lf "Dialogue:0:0:0.05,0:0:0.25,c")) ≡ warning 4 3 ∷ []
+  -- request 2.7: a segment without length between the two hides nothing; 22–30 (6600 to 9000 ticks) has no part in a segment that lies before it
+  pub across-empty : warns (segment 0 3 0 3 0 3003 ∷ segment 5 5 5000 0 3003 0 ∷ segment 6 10 6006 4 3003 4004 ∷ []) (lineSays inPlace 2 (lf "Dialogue:0:0:0.05,0:0:0.25,c"))
+      ≡ warning 4 3 ∷ []
+  pub before-unwarned : warns (segment 6 7 6006 1 0 1000 ∷ segment 0 3 0 3 1000 3003 ∷ []) (lineSays inPlace 2 (lf "Dialogue:0:0:0.22,0:0:0.30,c")) ≡ []
   -- 12–20 dropped; 21–25 → 10–15 shifted; 20–21 → 10–11 clipped; 0–0 dropped; 5–5 → 5–5; 7–5 → 7–5 shifted
   pub between : fateOf (setting 0) m 12 20 ≡ dropped
   pub second : fateOf (setting 0) m 21 25 ≡ shifted 10 15

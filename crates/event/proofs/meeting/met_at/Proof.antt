@@ -1,4 +1,4 @@
-use Rattle.event.proofs.HitLaws.{met-short, met-long}
+use Rattle.event.proofs.HitLaws.{met-told}
 use borrow.Author.Needs.{needs}
 use Rattle.event.proofs.meeting.met_at.Statement.{statement}
 use Rattle.event.proofs.meeting.met_at.Tie as tie
@@ -16,16 +16,7 @@ word-requires-3 : tie.Need-word-requires-3
 word-requires-3 c κs = search needs
 
 returns : tie.Need-returns
-returns c = search met-short
-
-word-requires-4 : tie.Need-word-requires-4
-word-requires-4 c κs = search needs
-
-word-requires-5 : tie.Need-word-requires-5
-word-requires-5 c κs = search needs
-
-returns-2 : tie.Need-returns-2
-returns-2 c = search met-long
+returns c = search met-told
 
 pub met-at-spec : {M : Type 1} → statement M
 met-at-spec =
@@ -34,7 +25,4 @@ met-at-spec =
     word-requires
     word-requires-2
     word-requires-3
-    returns
-    word-requires-4
-    word-requires-5
-    returns-2)
+    returns)

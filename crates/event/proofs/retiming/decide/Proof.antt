@@ -1,5 +1,6 @@
 use mathlib.Core.Path.{sym, _∙_}
 use Rattle.event.proofs.DecideLaws.{decide-gone, decide-source, decide-output, decide-kept, hit-meets}
+use Rattle.event.proofs.HitLaws.{hit-room, hit-others}
 use borrow.Author.Needs.{needs}
 use Rattle.event.proofs.retiming.decide.Statement.{statement}
 use Rattle.event.proofs.retiming.decide.Tie as tie
@@ -38,13 +39,13 @@ returns-2 : tie.Need-returns-2
 returns-2 c = search decide-output depth 18
 
 retime-requires : tie.Need-retime-requires
-retime-requires c κs = (search hit-meets, sym (c .before .before .before .end-bad .ensures) ∙ c .before .before .if1 .left, sym (c .before .end-bad2 .ensures) ∙ c .if2 .left)
+retime-requires c κs = (search hit-room, (search hit-meets, sym (c .before .before .before .end-bad .ensures) ∙ c .before .before .if1 .left, sym (c .before .end-bad2 .ensures) ∙ c .if2 .left))
 
 returns-3 : tie.Need-returns-3
 returns-3 c = search decide-gone depth 16
 
 returns-4 : tie.Need-returns-4
-returns-4 c = search decide-kept depth 20
+returns-4 c = search (decide-kept, hit-others) depth 22
 
 pub decide-spec : {M : Type 1} → statement M
 decide-spec =

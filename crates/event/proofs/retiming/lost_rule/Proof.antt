@@ -1,15 +1,25 @@
-use Rattle.event.proofs.HitLaws.{lost-1, lost-2}
+use Rattle.event.proofs.HitLaws.{lost-none, lost-some}
 use borrow.Author.Needs.{needs}
 use Rattle.event.proofs.retiming.lost_rule.Statement.{statement}
 use Rattle.event.proofs.retiming.lost_rule.Tie as tie
 use Rattle.event.proofs.retiming.lost_rule.Reads as reads
 use Rattle.event.proofs.retiming.lost_rule.Lts as lts
+use Rattle.event.proofs.meeting.find_hit.Reads as find-hit-reads
+
+find-hit-requires : tie.Need-find-hit-requires
+find-hit-requires c κs = search needs
+
+enum-told : tie.Need-enum-told
+enum-told c = search needs
+
+enum-told-2 : tie.Need-enum-told-2
+enum-told-2 c = search needs
 
 returns : tie.Need-returns
-returns c = search lost-1
+returns c = search lost-none
 
 returns-2 : tie.Need-returns-2
-returns-2 c = search lost-2
+returns-2 c = search lost-some
 
 pub lost-rule-spec : {M : Type 1} → statement M
-lost-rule-spec = tie.close (tie.spec returns returns-2)
+lost-rule-spec = tie.close (tie.spec find-hit-requires enum-told enum-told-2 returns returns-2)

@@ -12,11 +12,11 @@ use Rattle.time.proofs.core_end.Reads as core-end-reads
 use Rattle.time.proofs.core_start.Reads as core-start-reads
 
 -- what the segment that is met gives
-facts : (c : tie.After-struct-known) → let x = c .before .args .x in Fits (x .source) (x .output) (x .duration) (c .before .args .a) (c .before .args .b)
-facts c = let p = c .before .pre in let x = c .before .args .x in fits (x .source) (x .output) (x .duration) (c .before .args .a) (c .before .args .b) (p .0) (p .1) (p .2)
+facts : (c : tie.After-shared-slice-known) → let x = c .before .args .x in Fits (x .source) (x .output) (x .duration) (c .before .args .a) (c .before .args .b)
+facts c = let p = c .before .pre .1 in let x = c .before .args .x in fits (x .source) (x .output) (x .duration) (c .before .args .a) (c .before .args .b) (p .0) (p .1) (p .2)
 
 add-last : tie.Need-add-last
-add-last c = let k = facts c in omega arith
+add-last c = let k = facts (c .before) in omega arith
 
 larger-requires : tie.Need-larger-requires
 larger-requires c κs = search needs
@@ -25,16 +25,16 @@ sub-from : tie.Need-sub-from
 sub-from c = search needs
 
 add-from : tie.Need-add-from
-add-from c = let k = facts (c .before) in omega arith
+add-from c = let k = facts (c .before .before) in omega arith
 
 smaller-requires : tie.Need-smaller-requires
 smaller-requires c κs = search needs
 
 sub-to : tie.Need-sub-to
-sub-to c = let k = facts (c .before .before) in omega arith
+sub-to c = let k = facts (c .before .before .before) in omega arith
 
 add-to : tie.Need-add-to
-add-to c = let k = facts (c .before .before) in omega arith
+add-to c = let k = facts (c .before .before .before) in omega arith
 
 core-start-requires : tie.Need-core-start-requires
 core-start-requires c κs = search needs

@@ -62,10 +62,6 @@ use Rattle.segments.proofs.meeting.is_met as is
 use Rattle.segments.proofs.meeting.is_met.Symbol as is-def
 use Rattle.segments.proofs.meeting.is_met.Symbol.{name as #is-met}
 use Rattle.segments.proofs.meeting.is_met.Met as is-thm
-use Rattle.segments.proofs.meeting.record_at as rec
-use Rattle.segments.proofs.meeting.record_at.Symbol as rec-def
-use Rattle.segments.proofs.meeting.record_at.Symbol.{name as #record-at}
-use Rattle.segments.proofs.meeting.record_at.Met as rec-thm
 use Rattle.segments.proofs.meeting.hit_at as hit
 use Rattle.segments.proofs.meeting.hit_at.Symbol as hit-def
 use Rattle.segments.proofs.meeting.hit_at.Symbol.{name as #hit-at}
@@ -84,16 +80,12 @@ module _ {M : Type 1} (𝓤 : URA M) (H : Heap 𝓤) (A : Atoms 𝓤) (mem : Mem
   abbrev IsMet : Contract 𝓤
   IsMet = tripleOf 𝓤 H A is.signature (is.spec 𝓤 H A mem run)
 
-  abbrev RecordAt : Contract 𝓤
-  RecordAt = tripleOf 𝓤 H A rec.signature (rec.spec 𝓤 H A mem run)
-
   abbrev HitAt : Contract 𝓤
   HitAt = tripleOf 𝓤 H A hit.signature (hit.spec 𝓤 H A mem run)
 
   -- and that the callees meet them
   record Known (𝓣 : Tables 𝓤 H) : Type 2 where
     is-met : Triple 𝓤 (𝓣 .C #is-met) IsMet
-    record-at : Triple 𝓤 (𝓣 .C #record-at) RecordAt
     hit-at : Triple 𝓤 (𝓣 .C #hit-at) HitAt
 
 module _ {M : Type 1} (𝓤 : URA M) (H : Heap 𝓤) (A : Atoms 𝓤) (W : Given 𝓤 H A) (mem : Memory → SProp 𝓤) (run : Routine → Fun 𝓤) (κ : Lft) (q : Share) (b o : ℕ) (γ : GName) (ys : List Segment) (x y : ℕ) (gx : x < 2 ^ 64) (gy : y < 2 ^ 64) (gn : Room T.the-row (length ys)) where
@@ -149,39 +141,28 @@ module _ {M : Type 1} (𝓤 : URA M) (H : Heap 𝓤) (A : Atoms 𝓤) (W : Given
     said-is : (r : Bool) → ent 𝓤 (ensured 𝓤 H A is.ended (is.clauses 𝓤 H A mem run) tt (to-is .0 .3) tt r) (fact 𝓤 (r ≡ meets s x y))
     said-is r = exE 𝓤 _ (λ ws. snd∗ 𝓤 (sem 𝓤 H A (lasts is.ended tt (to-is .0 .3) ws)) (fact 𝓤 (r ≡ meets s x y)))
 
-  -- the record at j,
-  module _ (j : ℕ) where
-    abbrev to-rec : RecordAt 𝓤 H A mem run .Ghost
-    to-rec = (((κ, tt), (q, tt), tt, (map, (j, tt)), (sliceVal (b, o) n ∷ [], (vint w64 j ∷ [], tt))), tt)
-
-    asked-rec : ent 𝓤 (onEntry 𝓤 H A rec.signature (κ, tt) (q, tt) (to-rec .0 .3) (to-rec .0 .4)) (RecordAt 𝓤 H A mem run .pre to-rec)
-    asked-rec = qed W ((‵ (flft κ q) ⊛ ‵ ftrue) ∷ ‵ (owns (ShrSlice (named 0) κ T.the-row ∷ usize ∷ []) (to-rec .0 .3) (to-rec .0 .4)) ∷ []) ∵ join ! $ frame ! $ done !
-
-    said-rec : (r : Segment) → ent 𝓤 (ensured 𝓤 H A rec.ended (rec.clauses 𝓤 H A mem run) (κ, tt) (to-rec .0 .3) tt r) (fact 𝓤 (r ≡ getD ys j noSegment))
-    said-rec r = exE 𝓤 _ (λ ws. snd∗ 𝓤 (sem 𝓤 H A (lasts rec.ended (κ, tt) (to-rec .0 .3) ws)) (fact 𝓤 (r ≡ getD ys j noSegment)))
-
-  -- and the answer of the record s at j with the next one z, whose machine value is v
-  module _ (j : ℕ) (s z : Segment) (v : Val) where
+  -- and the answer of the record s at j
+  module _ (j : ℕ) (s : Segment) where
     abbrev to-hit : HitAt 𝓤 H A mem run .Ghost
-    to-hit = ((tt, tt, tt, (j, (s, (z, tt))), (vint w64 j ∷ [], (T′.lowered s ∷ [], (v ∷ [], tt)))), tt)
+    to-hit = ((tt, tt, tt, (j, (s, tt)), (vint w64 j ∷ [], (T′.lowered s ∷ [], tt))), tt)
 
     asked-hit : ent 𝓤 (onEntry 𝓤 H A hit.signature tt tt (to-hit .0 .3) (to-hit .0 .4)) (HitAt 𝓤 H A mem run .pre to-hit)
-    asked-hit = qed W (‵ ftrue ∷ ‵ (owns (usize ∷ T.the-row ∷ T.the-row ∷ []) (to-hit .0 .3) (to-hit .0 .4)) ∷ []) ∵ join ! $ frame ! $ done !
+    asked-hit = qed W (‵ ftrue ∷ ‵ (owns (usize ∷ T.the-row ∷ []) (to-hit .0 .3) (to-hit .0 .4)) ∷ []) ∵ join ! $ frame ! $ done !
 
-    said-hit : (r : Hit) → ent 𝓤 (ensured 𝓤 H A hit.ended (hit.clauses 𝓤 H A mem run) tt (to-hit .0 .3) tt r) (fact 𝓤 (r ≡ hitAt j s z))
-    said-hit r = exE 𝓤 _ (λ ws. snd∗ 𝓤 (sem 𝓤 H A (lasts hit.ended tt (to-hit .0 .3) ws)) (fact 𝓤 (r ≡ hitAt j s z)))
+    said-hit : (r : Hit) → ent 𝓤 (ensured 𝓤 H A hit.ended (hit.clauses 𝓤 H A mem run) tt (to-hit .0 .3) tt r) (fact 𝓤 (r ≡ hitAt j s))
+    said-hit r = exE 𝓤 _ (λ ws. snd∗ 𝓤 (sem 𝓤 H A (lasts hit.ended tt (to-hit .0 .3) ws)) (fact 𝓤 (r ≡ hitAt j s)))
 
-  module _ (𝓣 : Tables 𝓤 H) (l₀ l₁ l₂ l₃ l₄ l₅ l₆ l₇ l₈ l₉ l₁₀ l₁₁ l₁₂ : ℕ) where
+  module _ (𝓣 : Tables 𝓤 H) (l₀ l₁ l₂ l₃ l₄ l₅ l₆ l₇ l₈ l₉ l₁₀ : ℕ) where
     abbrev En : Env 𝓤 H
-    En = (H′.mir, l₀) ∷ (records (named 0) imm, l₁) ∷ (word, l₂) ∷ (word, l₃) ∷ (word, l₄) ∷ (T′.mir, l₅) ∷ (T′.mir, l₆) ∷ (word, l₇) ∷ (tyBool, l₈) ∷ (tyPtr, l₉) ∷ (T′.mir, l₁₀) ∷ (tyBool, l₁₁) ∷ (word, l₁₂) ∷ []
+    En = (H′.mir, l₀) ∷ (records (named 0) imm, l₁) ∷ (word, l₂) ∷ (word, l₃) ∷ (word, l₄) ∷ (T′.mir, l₅) ∷ (word, l₆) ∷ (tyBool, l₇) ∷ (tyPtr, l₈) ∷ (T′.mir, l₉) ∷ (tyBool, l₁₀) ∷ []
 
     -- that each local dies
     abbrev Die : List (Item 𝓤)
-    Die = ‵ (fdies H′.mir l₀) ∷ ‵ (fdies (records (named 0) imm) l₁) ∷ ‵ (fdies word l₂) ∷ ‵ (fdies word l₃) ∷ ‵ (fdies word l₄) ∷ ‵ (fdies T′.mir l₅) ∷ ‵ (fdies T′.mir l₆) ∷ ‵ (fdies word l₇) ∷ ‵ (fdies tyBool l₈) ∷ ‵ (fdies tyPtr l₉) ∷ ‵ (fdies T′.mir l₁₀) ∷ ‵ (fdies tyBool l₁₁) ∷ ‵ (fdies word l₁₂) ∷ []
+    Die = ‵ (fdies H′.mir l₀) ∷ ‵ (fdies (records (named 0) imm) l₁) ∷ ‵ (fdies word l₂) ∷ ‵ (fdies word l₃) ∷ ‵ (fdies word l₄) ∷ ‵ (fdies T′.mir l₅) ∷ ‵ (fdies word l₆) ∷ ‵ (fdies tyBool l₇) ∷ ‵ (fdies tyPtr l₈) ∷ ‵ (fdies T′.mir l₉) ∷ ‵ (fdies tyBool l₁₀) ∷ []
 
-    -- room for _5 to _12 and for _0
+    -- room for _5 to _10 and for _0
     abbrev Empty : List (Item 𝓤)
-    Empty = ‵ (froom T′.mir l₅ 0) ∷ ‵ (froom T′.mir l₆ 0) ∷ ‵ (froom word l₇ 0) ∷ ‵ (froom tyBool l₈ 0) ∷ ‵ (froom tyPtr l₉ 0) ∷ ‵ (froom T′.mir l₁₀ 0) ∷ ‵ (froom tyBool l₁₁ 0) ∷ ‵ (froom word l₁₂ 0) ∷ ‵ (froom H′.mir l₀ 0) ∷ Die
+    Empty = ‵ (froom T′.mir l₅ 0) ∷ ‵ (froom word l₆ 0) ∷ ‵ (froom tyBool l₇ 0) ∷ ‵ (froom tyPtr l₈ 0) ∷ ‵ (froom T′.mir l₉ 0) ∷ ‵ (froom tyBool l₁₀ 0) ∷ ‵ (froom H′.mir l₀ 0) ∷ Die
 
     -- the invariant: the token; what the slice owns; _1; _2; _3; _4; and those
     abbrev I : Turn → List (Item 𝓤)
@@ -198,8 +179,7 @@ module _ {M : Type 1} (𝓤 : URA M) (H : Heap 𝓤) (A : Atoms 𝓤) (W : Given
     leaves : (r : Hit) (v : Val) → Is H₀.the-row r (v ∷ []) → r ≡ hitOf (findHit ys x y)
         → Sq W (‵ (flft κ q) ∷ ‵ Own ∷ ‵ (froom (records (named 0) imm) l₁ 0) ∷ ‵ (froom word l₂ 0) ∷ ‵ (froom word l₃ 0) ∷ ‵ (froom word l₄ 0) ∷ Empty) (frees En (prop (Post v)))
     leaves r v g e =
-        move ! (14 ∷ 15 ∷ []) $ free1 ! $ move ! (2 ∷ 14 ∷ []) $ free1 ! $ move ! (2 ∷ 13 ∷ []) $ free1 ! $ move ! (2 ∷ 12 ∷ []) $ free1 ! $ move ! (2 ∷ 11 ∷ []) $ free1 ! $ move ! (2 ∷ 10 ∷ []) $ free1 ! $ move ! (2 ∷ 9 ∷ []) $ free1 ! $
-        move ! (2 ∷ 8 ∷ []) $ free1 ! $ move ! (2 ∷ 7 ∷ []) $ free1 ! $ move ! (2 ∷ 6 ∷ []) $ free1 ! $ move ! (2 ∷ 5 ∷ []) $ free1 ! $ move ! (2 ∷ 4 ∷ []) $ free1 ! $ move ! (2 ∷ 3 ∷ []) $ free1 ! $ free0 ! $ by ! (exits r v g e)
+        move ! (12 ∷ 13 ∷ []) $ free1 ! $ move ! (2 ∷ 12 ∷ []) $ free1 ! $ move ! (2 ∷ 11 ∷ []) $ free1 ! $ move ! (2 ∷ 10 ∷ []) $ free1 ! $ move ! (2 ∷ 9 ∷ []) $ free1 ! $ move ! (2 ∷ 8 ∷ []) $ free1 ! $ move ! (2 ∷ 7 ∷ []) $ free1 ! $ move ! (2 ∷ 6 ∷ []) $ free1 ! $ move ! (2 ∷ 5 ∷ []) $ free1 ! $ move ! (2 ∷ 4 ∷ []) $ free1 ! $ move ! (2 ∷ 3 ∷ []) $ free1 ! $ free0 ! $ by ! (exits r v g e)
 
     -- the turn that leaves the loop, and the rest of the body
     over : (t : Turn) → ltb (t .i) n ≡ false → Sq W (I t) (runs (𝓣 .C) (𝓣 .Λ) En mir.turn-1 (Turns t))
@@ -207,11 +187,11 @@ module _ {M : Type 1} (𝓤 : URA M) (H : Heap 𝓤) (A : Atoms 𝓤) (W : Given
     over t e =
         let left : n ≤ t .i = ltb-false (t .i) n e in
         let g : Is H₀.the-row Miss (EL.val H₀.the-type H′.the-laws Miss ∷ []) = EL.owes H₀.the-type H′.the-laws Miss tt in
-        assigns ! (of-opd ! (load ! (from ! (fld ! refl (stop !))) (look-in ! 2 (sub ! 1 refl (whole !))))) (from ! (stop !)) (init ! 8 refl (tt, record { fits = gn .0 })) $
-        assigns ! (bin ! (load ! (from ! (stop !)) (look ! 5 refl)) (load ! (from ! (stop !)) (look ! 8 refl)) tt) (from ! (stop !)) (init ! 9 refl (tt, tt)) $
-        rewrite ! 9 (λ (z : Bool). ‵ (fat fullShare tyBool l₈ 0 (vbool z))) e refl $ leaves-loop ! (load ! (from ! (stop !)) (look ! 9 refl)) $ exec ! (𝓣 .C) (𝓣 .Λ) En mir.t-3 (atRet En Post) $
-        assigns ! (agg ! (and-then ! (lit ! tt) (no-more !))) (from ! (stop !)) (init ! 14 refl (EL.lawful H₀.the-type H′.the-laws 𝓤 H A W tt .typed Miss _ g .0)) $
-        returns ! (look ! 14 refl) $ forget ! 2 refl $ forget ! 3 refl $ forget ! 4 refl $ forget ! 5 refl $ forget ! 8 refl $ forget ! 9 refl $ forget ! 14 refl $
+        assigns ! (of-opd ! (load ! (from ! (fld ! refl (stop !))) (look-in ! 2 (sub ! 1 refl (whole !))))) (from ! (stop !)) (init ! 7 refl (tt, record { fits = gn .0 })) $
+        assigns ! (bin ! (load ! (from ! (stop !)) (look ! 5 refl)) (load ! (from ! (stop !)) (look ! 7 refl)) tt) (from ! (stop !)) (init ! 8 refl (tt, tt)) $
+        rewrite ! 8 (λ (z : Bool). ‵ (fat fullShare tyBool l₇ 0 (vbool z))) e refl $ leaves-loop ! (load ! (from ! (stop !)) (look ! 8 refl)) $ exec ! (𝓣 .C) (𝓣 .Λ) En mir.t-3 (atRet En Post) $
+        assigns ! (agg ! (and-then ! (lit ! tt) (no-more !))) (from ! (stop !)) (init ! 12 refl (EL.lawful H₀.the-type H′.the-laws 𝓤 H A W tt .typed Miss _ g .0)) $
+        returns ! (look ! 12 refl) $ forget ! 2 refl $ forget ! 3 refl $ forget ! 4 refl $ forget ! 5 refl $ forget ! 7 refl $ forget ! 8 refl $ forget ! 12 refl $
         leaves Miss _ g (sym (ap hitOf (t .so) ∙ record-miss ys (t .i) x y left (t .within)))
 
     module _ (known : Known 𝓤 H A mem run 𝓣) where
@@ -225,51 +205,43 @@ module _ {M : Type 1} (𝓤 : URA M) (H : Heap 𝓤) (A : Atoms 𝓤) (W : Given
           let next-fits : t .i + 1 < 2 ^ 64 = omega arith in
           let fits : t .i < 2 ^ 64 = omega arith in
           let s : Segment = getD ys (t .i) noSegment in
-          assigns ! (of-opd ! (load ! (from ! (fld ! refl (stop !))) (look-in ! 2 (sub ! 1 refl (whole !))))) (from ! (stop !)) (init ! 8 refl (tt, record { fits = gn .0 })) $
-          assigns ! (bin ! (load ! (from ! (stop !)) (look ! 5 refl)) (load ! (from ! (stop !)) (look ! 8 refl)) tt) (from ! (stop !)) (init ! 9 refl (tt, tt)) $
-          rewrite ! 9 (λ (z : Bool). ‵ (fat fullShare tyBool l₈ 0 (vbool z))) e refl $ stays ! (load ! (from ! (stop !)) (look ! 9 refl)) $
-          assigns ! (bin ! (load ! (from ! (stop !)) (look ! 5 refl)) (lit ! tt) (record { fits = scaled })) (from ! (stop !)) (store ! 8 refl (tt, record { fits = scaled })) $
-          assigns ! (bin ! (load ! (from ! (fld ! refl (stop !))) (look-in ! 2 (sub ! 0 refl (whole !)))) (load ! (from ! (stop !)) (look ! 8 refl)) tt) (from ! (stop !)) (init ! 10 refl (tt, tt)) $
-          rewrite ! 10 (λ (p : ℕ). ‵ (fat fullShare tyPtr l₉ 0 (vptr b p))) (sym (place-is 40 o (t .i))) refl $
+          assigns ! (of-opd ! (load ! (from ! (fld ! refl (stop !))) (look-in ! 2 (sub ! 1 refl (whole !))))) (from ! (stop !)) (init ! 7 refl (tt, record { fits = gn .0 })) $
+          assigns ! (bin ! (load ! (from ! (stop !)) (look ! 5 refl)) (load ! (from ! (stop !)) (look ! 7 refl)) tt) (from ! (stop !)) (init ! 8 refl (tt, tt)) $
+          rewrite ! 8 (λ (z : Bool). ‵ (fat fullShare tyBool l₇ 0 (vbool z))) e refl $ stays ! (load ! (from ! (stop !)) (look ! 8 refl)) $
+          assigns ! (bin ! (load ! (from ! (stop !)) (look ! 5 refl)) (lit ! tt) (record { fits = scaled })) (from ! (stop !)) (store ! 7 refl (tt, record { fits = scaled })) $
+          assigns ! (bin ! (load ! (from ! (fld ! refl (stop !))) (look-in ! 2 (sub ! 0 refl (whole !)))) (load ! (from ! (stop !)) (look ! 7 refl)) tt) (from ! (stop !)) (init ! 9 refl (tt, tt)) $
+          rewrite ! 9 (λ (p : ℕ). ‵ (fat fullShare tyPtr l₈ 0 (vptr b p))) (sym (place-is 40 o (t .i))) refl $
           -- of a copy of what the slice owns the fractured borrow is kept
           move ! (1 ∷ []) $ use1 W (‵ Own ⊛ ‵ Own) (shr-slice-copy 𝓤 H A W (named 0) κ T.the-row .twice map (at .0)) $ split ! $ fsplit ! $ dropped ! $ fsplit ! $ dropped ! $ move ! (0 ∷ 2 ∷ []) $
           looks-slice ! tt T.the-row (Is T.the-row) (shows 𝓤 H A T.the-row) vals (LL.tells T.the-type T′.the-laws) (LL.copy T.the-type T′.the-copy 𝓤 H A W) ys b o (λ q′. elem-out ! T.the-row (Is T.the-row) (shows 𝓤 H A T.the-row) vals (LL.tells T.the-type T′.the-laws) q′ ys (t .i) noSegment b o l (λ g.
-          -- [map[i]; what it owns; the others; what shuts; the fractured borrow; what the slice owns; _1; _2; _3; _4; room for _5, _6; _7; _8; _9; room for _10, _11, _12, _0; …]
-          assigns ! (of-opd ! (load ! (from ! (hop ! (look ! 14 refl) (stop !))) (look-raw ! 0 refl))) (from ! (stop !)) (init ! 15 refl (LL.lawful T.the-type T′.the-laws 𝓤 H A W .typed s _ g .0)) $
-          assigns ! (of-opd ! (load ! (from ! (stop !)) (look ! 15 refl))) (from ! (stop !)) (init ! 10 refl (LL.lawful T.the-type T′.the-laws 𝓤 H A W .typed s _ g .0)) $
+          -- [map[i]; what it owns; the others; what shuts; the fractured borrow; what the slice owns; _1; _2; _3; _4; room for _5; _6; _7; _8; room for _9, _10, _0; …]
+          assigns ! (of-opd ! (load ! (from ! (hop ! (look ! 13 refl) (stop !))) (look-raw ! 0 refl))) (from ! (stop !)) (init ! 14 refl (LL.lawful T.the-type T′.the-laws 𝓤 H A W .typed s _ g .0)) $
+          assigns ! (of-opd ! (load ! (from ! (stop !)) (look ! 14 refl))) (from ! (stop !)) (init ! 10 refl (LL.lawful T.the-type T′.the-laws 𝓤 H A W .typed s _ g .0)) $
           elem-back ! T.the-row q′ ys (t .i) noSegment (T′.lowered s ∷ []) b o l $ shuts-slice ! tt T.the-row q′ ys b o $ move ! (1 ∷ []) $ dropped ! $
-          -- [as the invariant, with _5, _7 to _10]: whether it is met
+          -- [as the invariant, with _5 to _9]: whether it is met
           nothing ! $ owned ! u64 (Is u64) (uint-makes 𝓤 H A W w64) y _ (refl, gy) $ fjoin ! $ owned ! u64 (Is u64) (uint-makes 𝓤 H A W w64) x _ (refl, gx) $ fjoin ! $
           owned ! T.the-row (Is T.the-row) (LL.makes T.the-type T′.the-plain 𝓤 H A) s _ g $ fjoin ! $ nothing ! $ use2 W (raw (IsMet 𝓤 H A mem run .pre (to-is s))) (asked-is s) $
           calls-at ! (fmOf 𝓤 H (W .laws) 𝓣) (IsMet 𝓤 H A mem run) (known .is-met) (to-is s) (and-then ! (load ! (from ! (stop !)) (look ! 7 refl)) (and-then ! (load ! (from ! (stop !)) (look ! 4 refl)) (and-then ! (load ! (from ! (stop !)) (look ! 5 refl)) (no-more !)))) (λ u.
           use1 W (later (some (λ (r : Bool). (‵ ftrue ⊛ ‵ (bool .own r (u ∷ []))) ⊛ raw (ensured 𝓤 H A is.ended (is.clauses 𝓤 H A mem run) tt (to-is s .0 .3) tt r)))) (id⊢ 𝓤 _) $ await ! tt $ pick ! (λ r.
           split ! $ move ! (1 ∷ []) $ use1 W (raw (fact 𝓤 (r ≡ meets s x y))) (said-is s r) $ heard ! (r ≡ meets s x y) (λ is. split ! $ dropped ! $
           peeks ! bool (Is bool) (shows 𝓤 H A bool) r (u ∷ []) (λ ok. dropped ! $
-          land ! (from ! (stop !)) (init ! 12 refl (bool-lawful 𝓤 H A W .typed r (u ∷ []) ok .0)) $
-          rewrite ! 12 (λ (w : Val). ‵ (fat fullShare tyBool l₁₁ 0 w)) (ap only (bool-tells r (u ∷ []) ok)) refl $
-          first ! $ branches ! (load ! (from ! (stop !)) (look ! 12 refl))
-          -- it is: the next record is read, the answer is made, and the function returns
-          (λ h. assigns ! (bin ! (load ! (from ! (stop !)) (look ! 5 refl)) (lit ! tt) (record { fits = next-fits })) (from ! (stop !)) (init ! 13 refl (tt, record { fits = next-fits })) $
-          move ! (1 ∷ []) $ use1 W (‵ Own ⊛ ‵ Own) (shr-slice-copy 𝓤 H A W (named 0) κ T.the-row .twice map (at .0)) $ split ! $ nothing ! $ owned ! usize (Is usize) (uint-makes 𝓤 H A W w64) (t .i + 1) _ (refl, next-fits) $ fjoin ! $ move ! (1 ∷ 0 ∷ []) $ fjoin ! $
-          nothing ! $ move ! (3 ∷ 0 ∷ []) $ join ! $ use2 W (raw (RecordAt 𝓤 H A mem run .pre (to-rec (t .i + 1)))) (asked-rec (t .i + 1)) $
-          calls-at ! (fmOf 𝓤 H (W .laws) 𝓣) (RecordAt 𝓤 H A mem run) (known .record-at) (to-rec (t .i + 1)) (and-then ! (load ! (from ! (stop !)) (look ! 2 refl)) (and-then ! (load ! (from ! (stop !)) (look ! 13 refl)) (no-more !))) (λ v.
-          use1 W (later (some (λ (z : Segment). ((‵ (flft κ q) ⊛ ‵ ftrue) ⊛ ‵ (T.the-row .own z (v ∷ []))) ⊛ raw (ensured 𝓤 H A rec.ended (rec.clauses 𝓤 H A mem run) (κ, tt) (to-rec (t .i + 1) .0 .3) tt z)))) (id⊢ 𝓤 _) $ await ! tt $ pick ! (λ z.
-          split ! $ move ! (1 ∷ []) $ use1 W (raw (fact 𝓤 (z ≡ getD ys (t .i + 1) noSegment))) (said-rec (t .i + 1) z) $ heard ! (z ≡ getD ys (t .i + 1) noSegment) (λ nx. split ! $ split ! $ move ! (2 ∷ []) $
-          peeks ! T.the-row (Is T.the-row) (shows 𝓤 H A T.the-row) z (v ∷ []) (λ gz. dropped ! $ move ! (1 ∷ []) $ dropped ! $
-          land ! (from ! (stop !)) (init ! 7 refl (LL.lawful T.the-type T′.the-laws 𝓤 H A W .typed z (v ∷ []) gz .0)) $
-          nothing ! $ owned ! T.the-row (Is T.the-row) (LL.makes T.the-type T′.the-plain 𝓤 H A) z (v ∷ []) gz $ fjoin ! $ owned ! T.the-row (Is T.the-row) (LL.makes T.the-type T′.the-plain 𝓤 H A) s _ g $ fjoin ! $
-          owned ! usize (Is usize) (uint-makes 𝓤 H A W w64) (t .i) _ (refl, fits) $ fjoin ! $ nothing ! $ use2 W (raw (HitAt 𝓤 H A mem run .pre (to-hit (t .i) s z v))) (asked-hit (t .i) s z v) $
-          calls-at ! (fmOf 𝓤 H (W .laws) 𝓣) (HitAt 𝓤 H A mem run) (known .hit-at) (to-hit (t .i) s z v) (and-then ! (load ! (from ! (stop !)) (look ! 6 refl)) (and-then ! (load ! (from ! (stop !)) (look ! 7 refl)) (and-then ! (load ! (from ! (stop !)) (look ! 8 refl)) (no-more !)))) (λ w.
-          use1 W (later (some (λ (f : Hit). (‵ ftrue ⊛ ‵ (H₀.the-row .own f (w ∷ []))) ⊛ raw (ensured 𝓤 H A hit.ended (hit.clauses 𝓤 H A mem run) tt (to-hit (t .i) s z v .0 .3) tt f)))) (id⊢ 𝓤 _) $ await ! tt $ pick ! (λ f.
-          split ! $ move ! (1 ∷ []) $ use1 W (raw (fact 𝓤 (f ≡ hitAt (t .i) s z))) (said-hit (t .i) s z v f) $ heard ! (f ≡ hitAt (t .i) s z) (λ fs. split ! $ dropped ! $
+          land ! (from ! (stop !)) (init ! 11 refl (bool-lawful 𝓤 H A W .typed r (u ∷ []) ok .0)) $
+          rewrite ! 11 (λ (w : Val). ‵ (fat fullShare tyBool l₁₀ 0 w)) (ap only (bool-tells r (u ∷ []) ok)) refl $
+          first ! $ branches ! (load ! (from ! (stop !)) (look ! 11 refl))
+          -- it is: the answer is made, and the function returns
+          (λ h. nothing ! $ owned ! T.the-row (Is T.the-row) (LL.makes T.the-type T′.the-plain 𝓤 H A) s _ g $ fjoin ! $
+          owned ! usize (Is usize) (uint-makes 𝓤 H A W w64) (t .i) _ (refl, fits) $ fjoin ! $ nothing ! $ use2 W (raw (HitAt 𝓤 H A mem run .pre (to-hit (t .i) s))) (asked-hit (t .i) s) $
+          calls-at ! (fmOf 𝓤 H (W .laws) 𝓣) (HitAt 𝓤 H A mem run) (known .hit-at) (to-hit (t .i) s) (and-then ! (load ! (from ! (stop !)) (look ! 6 refl)) (and-then ! (load ! (from ! (stop !)) (look ! 7 refl)) (no-more !))) (λ w.
+          use1 W (later (some (λ (f : Hit). (‵ ftrue ⊛ ‵ (H₀.the-row .own f (w ∷ []))) ⊛ raw (ensured 𝓤 H A hit.ended (hit.clauses 𝓤 H A mem run) tt (to-hit (t .i) s .0 .3) tt f)))) (id⊢ 𝓤 _) $ await ! tt $ pick ! (λ f.
+          split ! $ move ! (1 ∷ []) $ use1 W (raw (fact 𝓤 (f ≡ hitAt (t .i) s))) (said-hit (t .i) s f) $ heard ! (f ≡ hitAt (t .i) s) (λ fs. split ! $ dropped ! $
           peeks ! H₀.the-row (Is H₀.the-row) (shows 𝓤 H A H₀.the-row) f (w ∷ []) (λ gf. dropped ! $
-          land ! (from ! (stop !)) (init ! 14 refl (EL.lawful H₀.the-type H′.the-laws 𝓤 H A W tt .typed f (w ∷ []) gf .0)) $
-          returns-within ! Post refl (look ! 14 refl) $ forget ! 2 refl $ forget ! 3 refl $ forget ! 4 refl $ forget ! 5 refl $ forget ! 6 refl $ forget ! 7 refl $ forget ! 8 refl $ forget ! 9 refl $ forget ! 10 refl $ forget ! 11 refl $ forget ! 12 refl $ forget ! 13 refl $ forget ! 14 refl $
-          leaves f w gf (fs ∙ ap (hitAt (t .i) s) nx ∙ sym (ap hitOf (t .so) ∙ hit-here ys (t .i) x y l (sym is ∙ holds r h))))))))))))
+          land ! (from ! (stop !)) (init ! 12 refl (EL.lawful H₀.the-type H′.the-laws 𝓤 H A W tt .typed f (w ∷ []) gf .0)) $
+          returns-within ! Post refl (look ! 12 refl) $ forget ! 2 refl $ forget ! 3 refl $ forget ! 4 refl $ forget ! 5 refl $ forget ! 6 refl $ forget ! 7 refl $ forget ! 8 refl $ forget ! 9 refl $ forget ! 10 refl $ forget ! 11 refl $ forget ! 12 refl $
+          leaves f w gf (fs ∙ sym (ap hitOf (t .so) ∙ hit-here ys (t .i) x y l (sym is ∙ holds r h))))))))
           -- it is not: the next turn
           (λ h. skips ! $ exec ! (𝓣 .C) (𝓣 .Λ) En (assign (place 4 []) (op2 (add unsigned) (copy (place 4 [])) (int w64 1))) (Turns t) $
           assigns-last ! (bin ! (load ! (from ! (stop !)) (look ! 5 refl)) (lit ! tt) (record { fits = next-fits })) (from ! (stop !)) (store ! 5 refl (tt, record { fits = next-fits })) $
-          forget ! 6 refl $ forget ! 8 refl $ forget ! 9 refl $ forget ! 10 refl $ forget ! 11 refl $ forget ! 12 refl $
+          forget ! 6 refl $ forget ! 7 refl $ forget ! 8 refl $ forget ! 9 refl $ forget ! 10 refl $ forget ! 11 refl $
           again ! falls I t (record { i = t .i + 1; within = omega arith; so = t .so ∙ hit-next ys (t .i) x y l (sym is ∙ fails r h) }) (omega arith))))))))
 
       turn : (t : Turn) → Sq W (I t) (runs (𝓣 .C) (𝓣 .Λ) En mir.turn-1 (Turns t))
@@ -287,12 +259,12 @@ module _ {M : Type 1} (𝓤 : URA M) (H : Heap 𝓤) (A : Atoms 𝓤) (W : Given
   walk : (𝓣 : Tables 𝓤 H) → Known 𝓤 H A mem run 𝓣 → ent 𝓤 (onEntry 𝓤 H A fn.signature (κ, tt) (q, tt) a at) (WpFn 𝓤 H (𝓣 .C) (𝓣 .Λ) code.function (sliceVal (b, o) n ∷ vint w64 x ∷ vint w64 y ∷ []) Post)
   walk 𝓣 known =
       qed W ((‵ (flft κ q) ⊛ ‵ ftrue) ∷ ‵ (owns (ShrSlice (named 0) κ T.the-row ∷ u64 ∷ u64 ∷ []) a at) ∷ []) ∵ enter ! (𝓣 .C) (𝓣 .Λ) code.function (sliceVal (b, o) n ∷ vint w64 x ∷ vint w64 y ∷ []) _ $
-      alloc1 ! (λ l₀. alloc1 ! (λ l₁. alloc1 ! (λ l₂. alloc1 ! (λ l₃. alloc1 ! (λ l₄. alloc1 ! (λ l₅. alloc1 ! (λ l₆. alloc1 ! (λ l₇. alloc1 ! (λ l₈. alloc1 ! (λ l₉. alloc1 ! (λ l₁₀. alloc1 ! (λ l₁₁. alloc1 ! (λ l₁₂. alloc0 ! $ params1 ! $
-      pass1 ! (init ! 22 refl (tt, (tt, (record { fits = gn .0 }, tt)))) $ pass1 ! (init ! 20 refl (tt, record { fits = gx })) $ pass1 ! (init ! 18 refl (tt, record { fits = gy })) $ pass0 ! $
-      assigns ! (of-opd ! (lit ! tt)) (from ! (stop !)) (init ! 16 refl (tt, record { fits = lit< tt })) $
-      -- [_12; …; _1; …; room for _0; …; the token; what the parameters own]
-      move ! (27 ∷ []) $ fsplit ! $ move ! (1 ∷ []) $ dropped ! $ move ! (27 ∷ []) $ split ! $ move ! (1 ∷ []) $ dropped ! $
-      keep ! (0 ∷ 1 ∷ 24 ∷ 22 ∷ 20 ∷ 18 ∷ 16 ∷ 14 ∷ 12 ∷ 10 ∷ 8 ∷ 6 ∷ 4 ∷ 2 ∷ 26 ∷ 27 ∷ 25 ∷ 23 ∷ 21 ∷ 19 ∷ 17 ∷ 15 ∷ 13 ∷ 11 ∷ 9 ∷ 7 ∷ 5 ∷ 3 ∷ []) $ looped 𝓣 l₀ l₁ l₂ l₃ l₄ l₅ l₆ l₇ l₈ l₉ l₁₀ l₁₁ l₁₂ known)))))))))))))
+      alloc1 ! (λ l₀. alloc1 ! (λ l₁. alloc1 ! (λ l₂. alloc1 ! (λ l₃. alloc1 ! (λ l₄. alloc1 ! (λ l₅. alloc1 ! (λ l₆. alloc1 ! (λ l₇. alloc1 ! (λ l₈. alloc1 ! (λ l₉. alloc1 ! (λ l₁₀. alloc0 ! $ params1 ! $
+      pass1 ! (init ! 18 refl (tt, (tt, (record { fits = gn .0 }, tt)))) $ pass1 ! (init ! 16 refl (tt, record { fits = gx })) $ pass1 ! (init ! 14 refl (tt, record { fits = gy })) $ pass0 ! $
+      assigns ! (of-opd ! (lit ! tt)) (from ! (stop !)) (init ! 12 refl (tt, record { fits = lit< tt })) $
+      -- [_10; …; _1; …; room for _0; …; the token; what the parameters own]
+      move ! (23 ∷ []) $ fsplit ! $ move ! (1 ∷ []) $ dropped ! $ move ! (23 ∷ []) $ split ! $ move ! (1 ∷ []) $ dropped ! $
+      keep ! (0 ∷ 1 ∷ 20 ∷ 18 ∷ 16 ∷ 14 ∷ 12 ∷ 10 ∷ 8 ∷ 6 ∷ 4 ∷ 2 ∷ 22 ∷ 23 ∷ 21 ∷ 19 ∷ 17 ∷ 15 ∷ 13 ∷ 11 ∷ 9 ∷ 7 ∷ 5 ∷ 3 ∷ []) $ looped 𝓣 l₀ l₁ l₂ l₃ l₄ l₅ l₆ l₇ l₈ l₉ l₁₀ known)))))))))))
 
 module _ {M : Type 1} (𝓤 : URA M) (H : Heap 𝓤) (A : Atoms 𝓤) (W : Given 𝓤 H A) (mem : Memory → SProp 𝓤) (run : Routine → Fun 𝓤) where
   walks : (𝓣 : Tables 𝓤 H) → Known 𝓤 H A mem run 𝓣 → Walks 𝓤 H A fn.ended stayed (WpFn 𝓤 H (𝓣 .C) (𝓣 .Λ) code.function) (fn.clauses 𝓤 H A mem run)
@@ -312,6 +284,5 @@ find-hit-spec 𝓤 H 𝓜 𝓖 𝓡 =
     (meets-it 𝓤 H (𝓖 .A) (givenOf 𝓤 H 𝓜 𝓖) (𝓜 .mem) (𝓡 .run) (tablesOf 𝓤 H 𝓜 (tables 𝓤 H 𝓜 𝓡 code.env))
     (record {
       is-met = cited 𝓤 H (IsMet 𝓤 H (𝓖 .A) (𝓜 .mem) (𝓡 .run)) 𝓜 𝓡 code.env #is-met is-def.routine code.calls-segments·meeting·is-met (is-thm.met 𝓤 H 𝓜 𝓖 𝓡);
-      record-at = cited 𝓤 H (RecordAt 𝓤 H (𝓖 .A) (𝓜 .mem) (𝓡 .run)) 𝓜 𝓡 code.env #record-at rec-def.routine code.calls-segments·meeting·record-at (rec-thm.met 𝓤 H 𝓜 𝓖 𝓡);
       hit-at = cited 𝓤 H (HitAt 𝓤 H (𝓖 .A) (𝓜 .mem) (𝓡 .run)) 𝓜 𝓡 code.env #hit-at hit-def.routine code.calls-segments·meeting·hit-at (hit-thm.met 𝓤 H 𝓜 𝓖 𝓡);
     }))
