@@ -157,3 +157,26 @@ def answer(text, t, rows):
     if number:
         return b'refused %d\n' % number
     return b'retimed %d %d %d %d\n' % counts + b''.join(b'warning %d %d\n' % w for w in warnings) + b'output %d\n' % len(out) + out + b'\n'
+
+
+def parts(case):
+    """Head, X, Y and the text of a case."""
+    n, m = struct.unpack('<2I', case[20:28])
+    return case[:32], case[32:32 + n], case[32 + n:32 + n + m], case[32 + n + m:]
+
+
+def map_case(case):
+    """The case of op 2 that asks for the map of a case of op 3."""
+    head, x, y, _ = parts(case)
+    return lib.case(2, struct.unpack('<I', head[4:8])[0], x=x, y=y)
+
+
+def told(case, made, number):
+    """The answer to a case of kind 2. made: the oracle's answer to `map_case`, for op 3; number: what op 5 is refused by, or 0."""
+    head, x, _, text = parts(case)
+    if head[0] == 5:
+        return b'refused %d\n' % number if number else answer(text, struct.unpack('<I', head[4:8])[0], rows_in(x))
+    lines = made.split(b'\n')
+    if not lines[0].startswith(b'timescale'):
+        return lines[0] + b'\n'
+    return answer(text, int(lines[0].split()[1]), [tuple(map(int, l.split())) for l in lines[1:] if l])
