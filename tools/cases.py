@@ -405,7 +405,7 @@ def through_given(r):
     if r.random() < 0.005:
         x = x[:r.randrange(len(x) + 1)]
     a = t if r.random() < 0.998 else r.choice([0, 1000001, 0xFFFFFFFF])
-    return case(5, a, kind if r.random() < 0.998 else 2, 0, plan(r), x, b'', caption_text(r, kind, t, edges, span))
+    return case(5, a, kind if r.random() < 0.998 else 3, 0, plan(r), x, b'', caption_text(r, kind, t, edges, span))
 
 
 def fitting_list(r, n, gap):
@@ -556,7 +556,7 @@ def number_of(case):
             return 15
         if any(max(x[0], x[1], x[3]) > 0xFFFFFFFF or x[2] + x[5] > 1 << 52 or x[4] + x[5] > 1 << 52 for x in rows):
             return 15
-        if b > 1:
+        if b > 2:
             return 16
     return text_number(b, case[32 + n + m:])
 

@@ -38,6 +38,9 @@ chooses-ass t m v p = record { kind = 0; known = omega arith; runs = p }
 pub chooses-srt : (t : ℕ) (m : List ℕ) (v : ℕ) → Runs 1 t m v → Chooses t m v
 chooses-srt t m v p = record { kind = 1; known = omega arith; runs = p }
 
+pub chooses-vtt : (t : ℕ) (m : List ℕ) (v : ℕ) → Runs 2 t m v → Chooses t m v
+chooses-vtt t m v p = record { kind = 2; known = omega arith; runs = p }
+
 -- ---- the whole
 module _ (s l : List ℕ) where
   pub retimes-large : 65536 < length s → Retimes s l 11

@@ -25,7 +25,7 @@ fn open_text(folder: &[u8], name: &[u8]) -> i32 {
     os::open_read(base::front(&path, k))
 }
 
-// One pass over `subs.ass`, or over `subs.srt` where that cannot be opened; neither: an empty text.
+// One pass over `subs.ass`, or where that cannot be opened over `subs.srt`, or over `subs.vtt`; none of them: an empty text, of kind SRT.
 fn run(folder: &[u8], timescale: u32, map: &[u64], writing: bool) -> u32
     ensures { λ r. ⌜ Chooses timescale (now (map .entry)) r ⌝ }
 {
@@ -33,7 +33,15 @@ fn run(folder: &[u8], timescale: u32, map: &[u64], writing: bool) -> u32
     if 0 <= fd {
         return run_file(fd, 0, timescale, map, writing);
     }
-    run_file(open_text(folder, b"subs.srt"), 1, timescale, map, writing)
+    let second = open_text(folder, b"subs.srt");
+    if 0 <= second {
+        return run_file(second, 1, timescale, map, writing);
+    }
+    let third = open_text(folder, b"subs.vtt");
+    if 0 <= third {
+        return run_file(third, 2, timescale, map, writing);
+    }
+    run_file(third, 1, timescale, map, writing)
 }
 
 // The map, outward, then the text dry, then writing where nothing was refused. A sheet above 65,536 bytes is 11.
