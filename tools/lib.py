@@ -8,7 +8,7 @@ root = os.path.dirname(os.path.dirname(os.path.abspath(__file__)))
 name = os.path.basename(sys.argv[0])
 
 # requests of document 02 that have landed, as the oracle's program takes them
-LANDED = ['2.2', '2.7']
+LANDED = ['2.2', '2.5', '2.7']
 
 
 # ---- arguments
@@ -152,6 +152,30 @@ def sheet(n, timescale=30000, sync=lambda i: i in (0, 3, 6), decode=lambda i: i,
 
 def as_bytes(words):
     return struct.pack('<%dI' % len(words), *words)
+
+
+# ---- answers to a stream of cases
+def each_answer(program, out, count):
+    """The answers in a program's output, one for each case."""
+    found, at = [], 0
+    for k in range(count):
+        mark = b'case %d\n' % k
+        if not out.startswith(mark, at):
+            stop('%s: no answer to case %d of %d' % (program[0], k, count))
+        start = end = at + len(mark)
+        if out.startswith(b'retimed ', start):
+            i = out.index(b'\noutput ', start) + 8
+            j = out.index(b'\n', i)
+            end = j + 1 + int(out[i:j])
+        i = out.find(b'\ncase %d\n' % (k + 1), end - 1)
+        at = i + 1 if i >= 0 else len(out)
+        found.append(out[start:at])
+    return found
+
+
+def whole(case):
+    """The same case in pieces of 1,024 bytes."""
+    return case[:16] + bytes(4) + case[20:]
 
 
 # ---- times as text, in units of 1/100 s (ASS) and 1/1000 s (SRT)

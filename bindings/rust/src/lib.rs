@@ -31,7 +31,7 @@ pub enum Kind {
     Ass,
     /// Thousandths of a second.
     Srt,
-    /// Thousandths of a second.
+    /// WebVTT: thousandths of a second.
     Vtt,
 }
 
