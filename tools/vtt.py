@@ -61,13 +61,9 @@ def moved(start, end, t, rows):
     for k, (_, _, source, _, output, length) in enumerate(rows):
         if length > 0 and a < source + length and b > source:
             first, last = max(a, source), min(b, source + length)
-            near = rows[k + 1:]
-            if '2.7' not in lib.LANDED:
-                near = [x for x in near[:1] if x[5] > 0 and x[2] < b]
-            else:
-                near = [x for x in near if x[5] > 0 and x[2] < b and x[2] + x[5] > a]
+            later = [x for x in rows[k + 1:] if x[5] > 0 and x[2] < b and x[2] + x[5] > a]
             shift = output - source
-            return floor(Fraction((first + shift) * U, t)), ceil(Fraction((last + shift) * U, t)), (first, last) != (a, b), last < b and near != []
+            return floor(Fraction((first + shift) * U, t)), ceil(Fraction((last + shift) * U, t)), (first, last) != (a, b), last < b and later != []
     return None
 
 
