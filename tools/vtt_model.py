@@ -187,6 +187,22 @@ def retime_vtt(text, T, segments, finished=True):
     return number, r.out, r.warnings, (r.shifted, r.clipped, r.dropped, 0)
 
 
+def answer_of(text, T, segments):
+    """The answer to a case, as the oracle and `replay` print it."""
+    number, out, warnings, counts = retime_vtt(text, T, segments)
+    if number:
+        return b"refused %d\n" % number
+    return b"retimed %d %d %d %d\n" % counts + b"".join(b"warning %d %d\n" % w for w in warnings) + b"output %d\n" % len(out) + out + b"\n"
+
+
+def through(map_answer, text):
+    """The same through a map as the oracle prints it: `timescale T` and a line of six numbers a stretch, or `refused N`."""
+    if map_answer.startswith(b"refused"):
+        return map_answer
+    lines = map_answer.decode().split("\n")
+    return answer_of(text, int(lines[0].split()[1]), [tuple(map(int, l.split())) for l in lines[1:] if l])
+
+
 # ---- cases: document 01's map (T 30000; in milliseconds 0 to 100.1 and 200.2 to 333.67 are kept). Each: name, text, number, out, warnings, counts.
 T01 = 30000
 MAP01 = [(0, 3, 0, 3, 0, 3003), (6, 10, 6006, 4, 3003, 4004)]
