@@ -8,7 +8,7 @@ import sys
 
 sys.path.insert(0, os.path.dirname(os.path.abspath(__file__)))
 import lib
-import vtt
+import vtt_model
 from lib import as_bytes, case, place, seal
 
 WHITE = [' ', '\t', '\u3000', '\u00a0', '\u2003', '\u0085', '\u1680', '\u205f', '\r', '\u2029']
@@ -578,7 +578,7 @@ def pointed(case):
 def text_number(kind, text):
     """19 to 22 of a text, or 0, in document 01's order; for WebVTT, 24 too, by its model."""
     if kind == 2:
-        return vtt.read(text, 1, [])[0]
+        return vtt_model.retime_vtt(text, 1, [])[0]
     lines = text.split(b'\n')
     lines = [l + b'\n' for l in lines[:-1]] + ([lines[-1]] if lines[-1] else [])
     state, block = [False, []], []
