@@ -160,7 +160,7 @@ module _ (kind : ℕ) where
     pub parts : read x n bs .parts ≡ blocksSaid kind n before
     pub stops : BlocksStop kind (markBehind x (blockLines before)) (n + lineCount (blockLines before)) rest (read x n bs .fault)
 
-  stops-same : (rest : List Block) (x y n m k j : ℕ) → x ≡ y → n ≡ m → k ≡ j → BlocksStop kind x n rest k → BlocksStop kind y m rest j
+  pub stops-same : (rest : List Block) (x y n m k j : ℕ) → x ≡ y → n ≡ m → k ≡ j → BlocksStop kind x n rest k → BlocksStop kind y m rest j
   stops-same rest x y n m k j p r s h =
       subst (λ (i : ℕ). BlocksStop kind y m rest i) s
       (subst (λ (i : ℕ). BlocksStop kind y i rest k) r
@@ -331,4 +331,3 @@ module _ (kind : ℕ) where
   pub rest-none : (x n k : ℕ) (rest : List Block) → BlocksStop kind x n rest k → k ≡ 0 → rest ≡ []
   rest-none x n k [] h e = refl
   rest-none x n k (b ∷ bs) h e = absurd (let z : 0 < k = h .1 in omega arith)
-

@@ -17,7 +17,7 @@ use Rattle.machine.specs.Reader.{Reading, fails, _⊕_}
 use Rattle.promise.specs.Plain.{markLength, unlessFault, markBehind, headFault, vttRead, blocksRead, linesSay, opened, plainRead}
 use Rattle.promise.specs.Whole.{VttWhole, BlocksStop, endsBlank, FirstStops, VttAtFirst, VttBehind, VttBefore}
 use Rattle.promise.proofs.WholeAss.{mark-none, mark-back}
-use Rattle.promise.proofs.WholeBlocks.{read, Cut, cut-blocks, rest-none}
+use Rattle.promise.proofs.WholeBlocks.{read, stops-same, cut-blocks, rest-none}
 
 -- ---- a text behind its BOM, where b says whether there is one
 abbrev readBy : (b : Bool) → (x : ℕ) → List (List ℕ) → Reading
@@ -60,12 +60,6 @@ first-stop text x ls k ex el e f =
           (subst (λ (y : ℕ). FirstStops y (linesOf (behindMark text)) k) ex (subst (λ (ms : List (List ℕ)). FirstStops x ms k) el f));
     }
 
-stop-same : (rest : List Block) (x y n m k j : ℕ) → x ≡ y → n ≡ m → k ≡ j → BlocksStop 2 x n rest k → BlocksStop 2 y m rest j
-stop-same rest x y n m k j p r s h =
-    subst (λ (i : ℕ). BlocksStop 2 y m rest i) s
-    (subst (λ (i : ℕ). BlocksStop 2 y i rest k) r
-    (subst (λ (i : ℕ). BlocksStop 2 i n rest k) p h))
-
 behind-first : (text : List ℕ) (l : List ℕ) (ls : List (List ℕ)) → linesOf (behindMark text) ≡ l ∷ ls → headFault (markLength text) l ≡ 0 → VttBehind text
 unfolding plainRead linesSay
 behind-first text l ls el e =
@@ -89,7 +83,7 @@ behind-first text l ls el e =
           ∙ ap (λ (ps : List Part). markWritten (marked text) ++ (stays l ∷ ps)) (c .parts ∙ ap (blocksSaid 2 1) (sym head));
       stops =
           subst (λ (bs : List Block). BlocksStop 2 0 (suc (lineCount (blockLines (c .before)))) bs (readBy (marked text) (markLength text) (linesOf (behindMark text)) .fault)) (sym tail)
-          (stop-same (c .rest) (markBehind 0 (blockLines (c .before))) 0 (1 + lineCount (blockLines (c .before))) (suc (lineCount (blockLines (c .before))))
+          (stops-same 2 (c .rest) (markBehind 0 (blockLines (c .before))) 0 (1 + lineCount (blockLines (c .before))) (suc (lineCount (blockLines (c .before))))
           (read 2 0 1 (blocksOf 2 ls) .fault) (readBy (marked text) (markLength text) (linesOf (behindMark text)) .fault)
           (mark-none (blockLines (c .before))) m (sym fault) (c .stops));
     }
