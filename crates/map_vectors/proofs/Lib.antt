@@ -1,2 +1,3 @@
 pub mod Stretches
 pub mod BlankList
+pub mod StillMaps

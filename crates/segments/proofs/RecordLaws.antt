@@ -13,7 +13,7 @@ use Rattle.base.specs.Refusal.{faultUnless}
 use Rattle.base.proofs.PutLaws.{put-append, then-put, then-placed, placed-yes, placed-no}
 use Rattle.segment.specs.declared.segment.Segment.{Segment}
 use Rattle.segment.specs.Segment.{numbersOf, flatOf, segmentsOf}
-use Rattle.segmap.proofs.Built.{flat-length}
+use Rattle.segmap.proofs.KeptLaws.{flat-length}
 use Rattle.event.specs.declared.meeting.Hit.the-variants.{Miss}
 use Rattle.event.specs.Hit.{meets, findFrom, hitOf}
 use Rattle.segments.specs.Records.{recorded, flatNumber, noSegment, narrowed, segmentAt, hitAt}

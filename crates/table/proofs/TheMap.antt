@@ -49,12 +49,8 @@ snapped-is : snappedOf smallSheet theList 0 ≡ snapped
 unfolding snappedOf rangesFor
 snapped-is = rw (small-frames, list-told, list-ranges) snaps
 
-overlap-none : overlapsFault 0 snapped ≡ 0
-unfolding overlapsFault faultUnless _orElse_
-overlap-none = refl
-
-ranges-good : rangesFault smallSheet 10 snapped ≡ 0
-unfolding rangesFault rangeFault faultUnless _orElse_ smallSheet decodeOf recordWord wordAt longOf
+ranges-good : keptNumber smallSheet 10 snapped ≡ 0
+unfolding keptNumber keptTicks rangeTicks ticksFrom overlapsFault rangesFault rangeFault faultUnless _orElse_ smallSheet decodeOf durationOf recordWord wordAt longOf
 ranges-good = refl
 
 segments-are : segmentsIn smallSheet 0 snapped ≡ segment 0 3 0 3 0 3003 ∷ segment 6 10 6006 4 3003 4004 ∷ []
@@ -62,8 +58,8 @@ unfolding segmentsIn segmentIn sourceStart rangeTicks ticksFrom smallSheet decod
 segments-are = refl
 
 number-is : mapNumber smallSheet theList 0 6144 mostWork ≡ 0
-unfolding mapNumber cutNumber faultUnless _orElse_ keptNumber keptTicks rangeTicks
-number-is = rw (small-number, list-number, snapped-is, small-frames, overlap-none, ranges-good)
+unfolding mapNumber cutNumber faultUnless _orElse_
+number-is = rw (small-number, list-number, snapped-is, small-frames, ranges-good)
 
 -- all that `mapper` prints
 pub map-is : theMap ≡ record { number = 0; timescale = 30000; count = 2; segments = segment 0 3 0 3 0 3003 ∷ segment 6 10 6006 4 3003 4004 ∷ [] }
