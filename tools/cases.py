@@ -506,7 +506,7 @@ def given_map(r, t):
         k = r.randrange(len(rows))
         rows[k][r.choice([0, 1, 2, 3, 4, 5])] = r.choice([0, 1, 4294967295, 4294967296, (1 << 53) - 1, 1 << 53, (1 << 53) + 1, (1 << 64) - 1])
     if rows and r.random() < 0.05:  # output far behind
-        o = (1 << 53) - at - r.choice([0, 0, 1, 5, 1000])
+        o = max(0, (1 << 53) - at - r.choice([0, 0, 1, 5, 1000]))
         for row in rows:
             row[4] = min(row[4] + o, (1 << 64) - 1)
     edges = [x for row in rows for x in (row[2], row[2] + row[5])]
