@@ -1,21 +1,28 @@
 -- Laws of what a record of a sheet says.
 use Prim.Native.Nat.{ℕ, _+_, _*_, _/_, _%_}
 use mathlib.Core.List.{List}
-use mathlib.Core.Path.{_≡_, _∙_}
+use mathlib.Core.Path.{_≡_, sym, _∙_}
 use mathlib.Core.Bool.{Bool, true, false}
 use native.Mathlib.Omega.{arith}
 use lib.Dec.{leb, eqb}
 use Rattle.blocks.specs.Block.{wordAt}
-use Rattle.frames.specs.Frames.{longOf, recordWord, decodeIn, decodeOf, syncOf, durationOf}
+use Rattle.frames.specs.Frames.{longOf, recordWord, decodeIn, decodeBy, decodeOf, syncOf, durationOf}
 
 pub long-is : (s : List ℕ) (x : ℕ) → x ≡ wordAt s 5 → eqb x 1 ≡ longOf s
 unfolding longOf
 long-is s x e = rw e
 
+-- the layout told as a constant
+pub told-as : (t u v : Bool) → t ≡ u → t ≡ v → v ≡ u
+told-as t u v e f = sym f ∙ e
+
 -- x is the word at w, t the layout, d the decode index in the word
-pub decode-is : (s : List ℕ) (i w x d : ℕ) (t : Bool) → t ≡ longOf s → w ≡ recordWord t i → x ≡ wordAt s w → d ≡ decodeIn x → d ≡ decodeOf s i
+pub decode-by-is : (s : List ℕ) (i w x d : ℕ) (t : Bool) → w ≡ recordWord t i → x ≡ wordAt s w → d ≡ decodeIn x → d ≡ decodeBy t s i
+decode-by-is s i w x d t ew ex ed = ed ∙ rw (ex, ew)
+
+pub decode-is : (s : List ℕ) (i d : ℕ) (t : Bool) → t ≡ longOf s → d ≡ decodeBy t s i → d ≡ decodeOf s i
 unfolding decodeOf
-decode-is s i w x d t et ew ex ed = ed ∙ rw (ex, ew, et)
+decode-is s i d t et ed = ed ∙ rw et
 
 pub sync-is : (s : List ℕ) (i w x : ℕ) (t : Bool) → t ≡ longOf s → w ≡ recordWord t i → x ≡ wordAt s w → leb 2147483648 x ≡ syncOf s i
 unfolding syncOf

@@ -46,8 +46,11 @@ abbrev pub decodeIn : ℕ → ℕ
 decodeIn w = w % 2 ^ 31
 
 -- the decode index of display frame i
+abbrev pub decodeBy : (long : Bool) → List ℕ → ℕ → ℕ
+decodeBy t s i = decodeIn (wordAt s (recordWord t i))
+
 unfoldable pub decodeOf : List ℕ → ℕ → ℕ
-decodeOf s i = decodeIn (wordAt s (recordWord (longOf s) i))
+decodeOf s i = decodeBy (longOf s) s i
 
 -- bit 31: display frame i is a sync frame
 unfoldable pub syncOf : List ℕ → ℕ → Bool

@@ -3,7 +3,7 @@ use order::DecodeIdx;
 use order::DisplayIdx;
 ghost use mathlib.Core.Path.{_≡_};
 ghost use Prim.Native.Nat.{_<_, _^_};
-ghost use Rattle.frames.specs.Frames.{timescaleOf, framesOf, rateNumOf, rateDenOf, longOf, recordWord, decodeIn, decodeOf, syncOf, durationOf};
+ghost use Rattle.frames.specs.Frames.{timescaleOf, framesOf, rateNumOf, rateDenOf, longOf, recordWord, decodeIn, decodeBy, decodeOf, syncOf, durationOf};
 
 // T, ticks a second.
 pub fn timescale(s: &[u8]) -> u32
@@ -58,12 +58,19 @@ pub fn decode_in(first: u32) -> DecodeIdx
     DecodeIdx(first % 2147483648)
 }
 
+// The decode index of a display frame, by a layout that is told: for a pass over all records.
+pub fn decode_by(s: &[u8], long: bool, i: DisplayIdx) -> DecodeIdx
+    ensures { λ r. ⌜ r .0 ≡ decodeBy long (now (s .entry)) (i .0) ⌝ }
+{
+    let w = record_word(long, i.0);
+    decode_in(blocks::word(s, w))
+}
+
 // The decode index of a display frame.
 pub fn decode_at(s: &[u8], i: DisplayIdx) -> DecodeIdx
     ensures { λ r. ⌜ r .0 ≡ decodeOf (now (s .entry)) (i .0) ⌝ }
 {
-    let w = record_word(long(s), i.0);
-    decode_in(blocks::word(s, w))
+    decode_by(s, long(s), i)
 }
 
 // Whether a display frame is a sync frame.

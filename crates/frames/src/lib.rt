@@ -2,6 +2,7 @@
 mod access;
 
 pub use access::decode_at;
+pub use access::decode_by;
 pub use access::decode_in;
 pub use access::duration_at;
 pub use access::frames;

@@ -6,6 +6,7 @@ ghost use mathlib.Core.Path.{_≡_};
 ghost use Prim.Native.Nat.{_*_, _^_, _≤_, _<_};
 ghost use lib.ListN.{length, replicate};
 ghost use Rattle.base.specs.Refusal.{firstOf};
+ghost use Rattle.frames.specs.Frames.{longOf, decodeOf};
 ghost use Rattle.once.specs.Once.{repeatFault, workBytes, onceNumber, workOnce};
 
 // How many work bytes n frames need.
@@ -15,14 +16,22 @@ fn work_bytes(n: u32) -> usize
     (n as usize + 7) / 8
 }
 
+// The decode index of display frame i, where the layout is known.
+fn decode_told(s: &[u8], two: bool, i: u32) -> u32
+    requires { ⌜ two ≡ longOf (now s) ⌝ }
+    ensures { λ r. ⌜ r ≡ decodeOf (now (s .entry)) i ⌝ }
+{
+    frames::decode_by(s, two, DisplayIdx(i)).0
+}
+
 // The first of n records whose decode index is not below n, or was met before (25); 0 for none. The bits are clear at first.
-fn pass(s: &[u8], n: u32, bits: &mut [u8]) -> u32
-    requires { ⌜ (n ≤ 8 * length (now bits)) × (now bits ≡ replicate (length (now bits)) 0) ⌝ }
+fn pass(s: &[u8], two: bool, n: u32, bits: &mut [u8]) -> u32
+    requires { ⌜ (two ≡ longOf (now s)) × (n ≤ 8 * length (now bits)) × (now bits ≡ replicate (length (now bits)) 0) ⌝ }
     ensures { λ r. ⌜ r ≡ firstOf (repeatFault (now (s .entry)) n) 0 n ⌝ }
 {
     let mut i: u32 = 0;
     while i < n {
-        let d = frames::decode_at(s, DisplayIdx(i)).0;
+        let d = decode_told(s, two, i);
         if n <= d {
             return 25;
         }
@@ -34,13 +43,24 @@ fn pass(s: &[u8], n: u32, bits: &mut [u8]) -> u32
     0
 }
 
+// The same by the sheet's layout, told as a constant.
+fn pass_by_layout(s: &[u8], n: u32, bits: &mut [u8]) -> u32
+    requires { ⌜ (n ≤ 8 * length (now bits)) × (now bits ≡ replicate (length (now bits)) 0) ⌝ }
+    ensures { λ r. ⌜ r ≡ firstOf (repeatFault (now (s .entry)) n) 0 n ⌝ }
+{
+    if frames::long(s) {
+        return pass(s, true, n, bits);
+    }
+    pass(s, false, n, bits)
+}
+
 // The pass over bytes of any value, which end zero.
 fn clean_pass(s: &[u8], n: u32, bits: &mut [u8]) -> u32
     requires { ⌜ n ≤ 8 * length (now bits) ⌝ }
     ensures { λ r. ⌜ (r ≡ firstOf (repeatFault (now (s .entry)) n) 0 n) × (now (bits .exit) ≡ replicate (length (now (bits .entry))) 0) ⌝ }
 {
     clear(bits);
-    let f = pass(s, n, bits);
+    let f = pass_by_layout(s, n, bits);
     clear(bits);
     f
 }

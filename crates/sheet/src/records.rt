@@ -106,7 +106,10 @@ fn block_fault(s: &[u8], long: bool, n: usize, b: usize) -> u32
     if f != 0 {
         return f;
     }
-    records_fault(s, long, n, b)
+    if long {
+        return records_fault(s, true, n, b);
+    }
+    records_fault(s, false, n, b)
 }
 
 // How many blocks hold the records of n frames.

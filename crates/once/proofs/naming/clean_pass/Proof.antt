@@ -6,13 +6,13 @@ use Rattle.once.proofs.naming.clean_pass.Tie as tie
 use Rattle.once.proofs.naming.clean_pass.Reads as reads
 use Rattle.once.proofs.naming.clean_pass.Lts as lts
 use Rattle.once.proofs.marks.clear.Reads as clear-reads
-use Rattle.once.proofs.naming.pass.Reads as pass-reads
+use Rattle.once.proofs.naming.pass_by_layout.Reads as pass-by-layout-reads
 
 clear-requires : tie.Need-clear-requires
 clear-requires c κs = search needs
 
-pass-requires : tie.Need-pass-requires
-pass-requires c κs = (omega arith, search clear-now)
+pass-by-layout-requires : tie.Need-pass-by-layout-requires
+pass-by-layout-requires c κs = (omega arith, search clear-now)
 
 clear-requires-2 : tie.Need-clear-requires-2
 clear-requires-2 c κs = search needs
@@ -25,4 +25,4 @@ returns c = (search needs, search clear-all)
 
 pub clean-pass-spec : {M : Type 1} → statement M
 clean-pass-spec =
-    tie.close (tie.spec clear-requires pass-requires clear-requires-2 same-length returns)
+    tie.close (tie.spec clear-requires pass-by-layout-requires clear-requires-2 same-length returns)

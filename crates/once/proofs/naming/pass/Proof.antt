@@ -11,20 +11,20 @@ use Rattle.once.proofs.naming.pass.Statement.{statement}
 use Rattle.once.proofs.naming.pass.Tie as tie
 use Rattle.once.proofs.naming.pass.Reads as reads
 use Rattle.once.proofs.naming.pass.Lts as lts
-use Rattle.frames.proofs.decode_at.Reads as decode-at-reads
+use Rattle.once.proofs.naming.decode_told.Reads as decode-told-reads
 use Rattle.once.proofs.marks.mark.Reads as mark-reads
 
 abbrev Inv-loop : tie.InvT-loop
-Inv-loop s n bits₀ i₀ bits i = (i ≤ n) × (length bits ≡ length bits₀) × Seen s i bits × (firstOf (repeatFault s n) i (n - i) ≡ firstOf (repeatFault s n) 0 n)
+Inv-loop s two n bits₀ i₀ bits i = (i ≤ n) × (length bits ≡ length bits₀) × Seen s i bits × (firstOf (repeatFault s n) i (n - i) ≡ firstOf (repeatFault s n) 0 n)
 
 abbrev μ-loop : tie.MeasureT-loop
-μ-loop s n bits₀ i₀ bits i = n - i
+μ-loop s two n bits₀ i₀ bits i = n - i
 
 loop-holds : tie.Need-loop-holds Inv-loop μ-loop
 loop-holds c = (search needs, search needs, search seen-none, left-start _ _ _ _ (omega arith))
 
-decode-at-requires : tie.Need-decode-at-requires Inv-loop μ-loop
-decode-at-requires c κs = search needs
+decode-told-requires : tie.Need-decode-told-requires Inv-loop μ-loop
+decode-told-requires c κs = search needs
 
 same-length : tie.Need-same-length Inv-loop μ-loop
 same-length c = search needs
@@ -66,7 +66,7 @@ pass-spec =
     Inv-loop
     μ-loop
     loop-holds
-    decode-at-requires
+    decode-told-requires
     same-length
     returns
     cast-mark

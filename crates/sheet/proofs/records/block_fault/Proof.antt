@@ -1,4 +1,5 @@
 use Rattle.sheet.proofs.FaultLaws.{block-check, block-records}
+use Rattle.frames.proofs.FrameLaws.{told-as}
 use borrow.Author.Needs.{needs}
 use Rattle.sheet.proofs.records.block_fault.Statement.{statement}
 use Rattle.sheet.proofs.records.block_fault.Tie as tie
@@ -14,11 +15,17 @@ returns : tie.Need-returns
 returns c = search block-check
 
 records-fault-requires : tie.Need-records-fault-requires
-records-fault-requires c κs = search needs
+records-fault-requires c κs = (search told-as, search needs, search needs)
 
 returns-2 : tie.Need-returns-2
-returns-2 c = search block-records
+returns-2 c = search (block-records, told-as)
+
+records-fault-requires-2 : tie.Need-records-fault-requires-2
+records-fault-requires-2 c κs = (search told-as, search needs, search needs)
+
+returns-3 : tie.Need-returns-3
+returns-3 c = search (block-records, told-as)
 
 pub block-fault-spec : {M : Type 1} → statement M
 block-fault-spec =
-    tie.close (tie.spec check-fault-requires returns records-fault-requires returns-2)
+    tie.close (tie.spec check-fault-requires returns records-fault-requires returns-2 records-fault-requires-2 returns-3)
