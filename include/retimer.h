@@ -24,7 +24,7 @@ uint32_t retimer_sheet_check(const uint8_t *sheet, size_t length, uint8_t *work,
 /* 0 for a good trim list, or a blank one, which keeps the whole play; else 2 to 7, or 20 for bytes that are not UTF-8. */
 uint32_t retimer_list_check(const uint8_t *list, size_t length);
 
-/* Conversions. kind: 0 ASS (hundredths), 1 SRT (thousandths); timescale: ticks a second, 1 to 1000000000.
+/* Conversions. kind: 0 ASS (hundredths), 1 SRT and 2 WebVTT (thousandths); timescale: ticks a second, 1 to 1000000000.
  * A value of units is at most 2^36, one of ticks at most 2^53. Refused, they return 0; the number says so. */
 uint64_t retimer_units_to_ticks(uint64_t value, uint32_t timescale, uint32_t kind);
 uint64_t retimer_ticks_to_units_floor(uint64_t value, uint32_t timescale, uint32_t kind);

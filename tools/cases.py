@@ -8,6 +8,7 @@ import sys
 
 sys.path.insert(0, os.path.dirname(os.path.abspath(__file__)))
 import lib
+import vtt_model
 from lib import as_bytes, case, place, seal
 
 # how many of the trim lists are blank (02, 2.4)
@@ -354,11 +355,71 @@ def srt_text(r, t, edges, span, plain):
     return out
 
 
+HEADS = ['WEBVTT'] * 6 + ['WEBVTT - A play', 'WEBVTT\ttab', 'WEBVTT ', 'WEBVTT 00:00.000 --> 00:01.000', 'WEBVTT 日本', 'WEBVTT \r']
+NO_HEADS = ['WEBVTTX', 'webvtt', 'WEBVTT\r', 'WEBVTT\rx', 'WEBVT', '', ' WEBVTT', 'WEBVTT\u00a0x', 'WEBVTT:', '\ufeffWEBVTT', 'NOTE', 'WEBVTT\u3000']
+BESIDE = ['NOTE x', 'NOTE\nseveral\nlines', 'STYLE\n::cue { color: red }', 'REGION\nid:fred width:40% lines:3', '7', 'bare text', ' ', '\t', '\r', '<1>', 'NOTE <1 -> 2>']
+SETTINGS = [''] * 8 + [' align:start position:10%,line-left size:35%', '\tline:0', ' ', '\t ', ' region:fred <1>', '\u00a0', '\u3000 vertical:rl', '\r', ' \r', ' --> 1', '\u00a0x', 'x', '<2>']
+SPOKEN = ['<00:00:18.500>', '<1', '<3 you', '<b>4</b>', '< 3', '<\u0663', 'a<', '&lt;5', '<v Roger Bingham>', '<c.loud>x</c>', '<<9', '5<', '<a1>', '-', '']
+
+
+def vtt_time(r, v, plain):
+    h, m, s, f = v // 3600000, v // 60000 % 60, v // 1000 % 60, v % 1000
+    text = '%02d:%02d:%02d.%03d' % (h, m, s, f)
+    if h == 0 and r.random() < 0.5:
+        text = text[3:]
+    if r.random() < plain:
+        return text
+    how = r.randrange(9)
+    if how == 0:
+        return '%d:%02d:%02d.%03d' % (h, m, s, f)
+    if how == 1:
+        return '0' * r.randint(0, 9) + '%02d:%02d:%02d.%03d' % (h, m, s, f)
+    if how == 2:
+        return white(r) + text + white(r)
+    if how == 3:
+        bad = [h, m, s, f]
+        bad[r.randrange(4)] = r.choice([0, 59, 60, 61, 99, 100, 999, 1000, 9999, 10000, 10 ** 25])
+        return '%02d:%02d:%02d.%03d' % tuple(bad)
+    i = r.randrange(len(text))
+    if how == 4:
+        return text[:i] + text[i + 1:]
+    if how == 5:
+        return text[:i] + r.choice(['+', '-', ' ', '\t', ':', '.', ',', '1', '0', '９', '\u3000', 'x']) + text[i:]
+    if how == 6:
+        return text[:i] + r.choice(['+', '-', ' ', ':', '.', ',', '1', '٣', 'x']) + text[i + 1:]
+    if how == 7:
+        return text.replace('.', ',')
+    return r.choice(['', '+', ':', '::', '00:00', '00:00.', '00.000', ':00:00.000', '00:00:00:00.000', '1:2.3', '00:00.00 0', '000:00:00.000'])
+
+
+def vtt_text(r, t, edges, span, plain):
+    ends = r.choice([['\n'], ['\n'], ['\r\n'], ['\n', '\r\n'], ['\n', '\r\n', '\r\r\n']])
+    lines = [r.choice(HEADS if r.random() < 0.96 else NO_HEADS)]
+    if r.random() < 0.1:
+        lines += r.choice(['Kind: captions\nLanguage: ja', 'x', ' ']).split('\n')
+    if r.random() < 0.9:
+        lines.append('')
+    for k in range(how_many(r)):
+        if r.random() < 0.12:
+            lines += r.choice(BESIDE).split('\n')
+        if r.random() < 0.5:
+            lines += [r.choice(['1 - Title', 'transcription-line', str(k + 1), '<1>'])] * r.choice([1, 1, 2])
+        if r.random() < 0.97:
+            a, b = pair(r, 1000, t, edges, span)
+            arrow = r.choice([' --> '] * 6 + ['-->', ' -->', '--> ', '\t-->\u3000']) if r.random() < 0.99 + 0.01 * plain else r.choice([' ->', ' ---> ', '-- >', ' --> --> '])
+            after = r.choice(SETTINGS[:12] if r.random() < 0.97 + 0.03 * plain else SETTINGS)
+            lines.append(vtt_time(r, a, plain) + arrow + vtt_time(r, b, plain) + after)
+        for _ in range(r.choice([0, 1, 1, 2, 3])):
+            lines.append((r.choice(SPOKEN) if r.random() < 0.4 else '') + words(r) or r.choice(['x', ' ', '']))
+        lines += [''] * (r.choice([0, 2, 3]) if r.random() < 0.1 else 1)
+    return ''.join(l + r.choice(ends) for l in lines)
+
+
 def long_text(r, kind, text):
-    """A line, or a block of SRT, near 4,096 bytes."""
+    """A line, or a block of SRT or WebVTT, near 4,096 bytes."""
     if kind == 0 or r.random() < 0.5:
         lines = text.splitlines(keepends=True) or ['']
-        i = r.randrange(len(lines))
+        i = 0 if kind == 2 and r.random() < 0.3 else r.randrange(len(lines))
         body = lines[i].rstrip('\r\n')
         end = lines[i][len(body):]
         size = r.choice([4095, 4096, 4097, 4098]) - len((body + end).encode())
@@ -367,11 +428,11 @@ def long_text(r, kind, text):
         lines[i] = body + pad * n + 'b' * (size - n * len(pad.encode()) if pad else 0) + end
         return ''.join(lines)
     size = r.choice([4094, 4095, 4096, 4097, 4098])
-    block = '1\n00:00:00,050 --> 00:00:09,060\n'
+    block = '1\n00:00:00,050 --> 00:00:09,060\n'.replace(',', ',,.'[kind])
     while len(block) < size:
         n = min(size - len(block), r.choice([2, 50, 1000, 3000]))
         block += 'c' * (n - 1) + '\n'
-    cut = r.choice([0, len(text)])
+    cut = r.choice([0, len(text)]) if kind == 1 else len(text)
     return text[:cut] + ('\n' if cut else '') + block + r.choice(['\n', '', '\r\n', ' \n']) + text[cut:]
 
 
@@ -398,7 +459,7 @@ def damaged_text(r, b):
 def caption_text(r, kind, t, edges, span):
     """A text of the kind, for a map with these edges, in ticks, and this span."""
     plain = r.choice([1.0, 1.0, 1.0, 0.99, 0.97, 0.8])
-    text = (ass_text if kind == 0 else srt_text)(r, t, edges, span, plain)
+    text = (ass_text, srt_text, vtt_text)[kind](r, t, edges, span, plain)
     if r.random() < 0.03:
         text = long_text(r, kind, text)
     if r.random() < 0.3 and text.endswith('\n'):
@@ -407,7 +468,7 @@ def caption_text(r, kind, t, edges, span):
     if r.random() < 0.15:
         b = b'\xef\xbb\xbf' + b
     if r.random() < 0.02:
-        b = r.choice([b'', b'\xef\xbb\xbf', b'\xef\xbb', b'\xef', b'\n', b'\r', b'\r\n', b'\xef\xbb\xbf\n', b'\xef\xbb\xbf\xef\xbb\xbf'])
+        b = r.choice([b'', b'\xef\xbb\xbf', b'\xef\xbb', b'\xef', b'\n', b'\r', b'\r\n', b'\xef\xbb\xbf\n', b'\xef\xbb\xbf\xef\xbb\xbf'] + ([b'WEBVTT', b'\xef\xbb\xbfWEBVTT', b'WEBVTT\r'] if kind == 2 else []))
     while r.random() < 0.1:
         b = damaged_text(r, b)
     return b
@@ -452,15 +513,14 @@ def given_map(r, t):
     return [x for row in rows for x in row], edges, span
 
 
-def through_given(r):
-    kind = r.randrange(2)
+def through_given(r, kind):
     t = r.choice(TIMESCALES + [r.randint(1, 1000000000)])
     numbers, edges, span = given_map(r, t)
     x = struct.pack('<%dQ' % len(numbers), *numbers)
     if r.random() < 0.005:
         x = x[:r.randrange(len(x) + 1)]
     a = t if r.random() < 0.998 else r.choice([0, 1000000001, 0xFFFFFFFF])
-    return case(5, a, kind if r.random() < 0.998 else 2, 0, plan(r), x, b'', caption_text(r, kind, t, edges, span))
+    return case(5, a, kind if r.random() < 0.998 else 3, 0, plan(r), x, b'', caption_text(r, kind, t, edges, span))
 
 
 def fitting_list(r, n, gap):
@@ -474,8 +534,7 @@ def fitting_list(r, n, gap):
     return r.choice([' ++ ', '++', '\n++ ']).join(tokens).encode()
 
 
-def through_made(r):
-    kind = r.randrange(2)
+def through_made(r, kind):
     if r.random() < 0.2:
         w, gap = sheet_words(r), 0
     else:
@@ -573,7 +632,9 @@ def pointed(case):
 
 
 def text_number(kind, text):
-    """19 to 22 of a text, or 0, in document 01's order."""
+    """19 to 22 of a text, or 0, in document 01's order; for WebVTT, 24 too, by its model."""
+    if kind == 2:
+        return vtt_model.retime_vtt(text, 1, [])[0]
     lines = text.split(b'\n')
     lines = [l + b'\n' for l in lines[:-1]] + ([lines[-1]] if lines[-1] else [])
     state, block = [False, []], []
@@ -612,12 +673,15 @@ def number_of(case):
             return 15
         if any(max(x[0], x[1], x[3]) > 0xFFFFFFFF or x[2] + x[5] > 1 << 53 or x[4] + x[5] > 1 << 53 for x in rows):
             return 15
-        if b > 1:
+        if b > 2:
             return 16
     return text_number(b, case[32 + n + m:])
 
 
-def one(r, op):
+def one(r, op, kind=None):
+    """A case of the op; texts are of the kind, or ASS or SRT."""
+    if op in (3, 5) and kind is None:
+        kind = r.randrange(2)
     if op == 1:
         return case(1, x=trim_list(r))
     if op == 2:
@@ -628,11 +692,11 @@ def one(r, op):
             x, n = as_bytes(w), w[2]
         return case(2, 0 if r.random() < 0.5 else 1 if r.random() < 0.96 else r.choice([2, 0xFFFFFFFF]), c=work_lent(r, n), x=x, y=trim_list(r, n, 0.15))
     if op == 3:
-        return through_made(r)
+        return through_made(r, kind)
     if op == 4:
         return conversion(r)
     if op == 5:
-        return through_given(r)
+        return through_given(r, kind)
     raise SystemExit('no cases for op %d' % op)
 
 

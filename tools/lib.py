@@ -8,7 +8,7 @@ root = os.path.dirname(os.path.dirname(os.path.abspath(__file__)))
 name = os.path.basename(sys.argv[0])
 
 # requests of document 02 that have landed, as the oracle's program takes them
-LANDED = ['2.7', '2.2', '2.4', '2.6', '2.9']
+LANDED = ['2.7', '2.2', '2.4', '2.6', '2.9', '2.5']
 
 
 # ---- arguments
@@ -180,6 +180,30 @@ def asked(one):
     op, a, b, c, d, n, m, _ = struct.unpack('<8I', one[:32])
     x, y, z = one[32:32 + n], one[32 + n:32 + n + m], one[32 + n + m:]
     return case(op, a, b, c, d, x, whole_play(x), z) if op in (2, 3) and blank(y) else one
+
+
+# ---- answers to a stream of cases
+def each_answer(program, out, count):
+    """The answers in a program's output, one for each case."""
+    found, at = [], 0
+    for k in range(count):
+        mark = b'case %d\n' % k
+        if not out.startswith(mark, at):
+            stop('%s: no answer to case %d of %d' % (program[0], k, count))
+        start = end = at + len(mark)
+        if out.startswith(b'retimed ', start):
+            i = out.index(b'\noutput ', start) + 8
+            j = out.index(b'\n', i)
+            end = j + 1 + int(out[i:j])
+        i = out.find(b'\ncase %d\n' % (k + 1), end - 1)
+        at = i + 1 if i >= 0 else len(out)
+        found.append(out[start:at])
+    return found
+
+
+def whole(case):
+    """The same case in pieces of 1,024 bytes."""
+    return case[:16] + bytes(4) + case[20:]
 
 
 # ---- times as text, in units of 1/100 s (ASS) and 1/1000 s (SRT)

@@ -35,7 +35,7 @@ fn main() {
                 let kind = match b {
                     100 => 0,
                     1000 => 1,
-                    _ => 2,
+                    _ => 3,
                 };
                 let refused = match c {
                     0 => retimer::raw::units_number(value, a, kind),

@@ -31,6 +31,8 @@ pub enum Kind {
     Ass,
     /// Thousandths of a second.
     Srt,
+    /// WebVTT: thousandths of a second.
+    Vtt,
 }
 
 impl Kind {
@@ -38,6 +40,7 @@ impl Kind {
         match self {
             Kind::Ass => 0,
             Kind::Srt => 1,
+            Kind::Vtt => 2,
         }
     }
 }

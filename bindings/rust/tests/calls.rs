@@ -109,11 +109,20 @@ fn conversions() {
     assert_eq!(units_to_ticks(1 << 36, 1_000_000_000, Kind::Ass), Ok(687194767360000000));
     assert_eq!(units_to_ticks(1, 0, Kind::Ass), Err(Refused(15)));
     assert_eq!(units_to_ticks(1, 1_000_000_001, Kind::Ass), Err(Refused(15)));
+    // WebVTT: 210 to 250 ms, moved in the same way, are 109 to 150
+    let start = units_to_ticks(210, 30000, Kind::Vtt).unwrap();
+    let end = units_to_ticks(250, 30000, Kind::Vtt).unwrap();
+    assert_eq!((start, end), (6300, 7500));
+    assert_eq!(ticks_to_units_floor(start - 3003, 30000, Kind::Vtt), Ok(109));
+    assert_eq!(ticks_to_units_ceil(end - 3003, 30000, Kind::Vtt), Ok(150));
+    assert_eq!(units_to_ticks((1 << 36) + 1, 1, Kind::Vtt), Err(Refused(16)));
+    assert_eq!(raw::units_to_ticks(1 << 36, 1, 2), (1u64 << 36) / 1000);
     // a bad timescale comes before a bad kind, and the value of a refusal is 0
-    assert_eq!(raw::units_number(u64::MAX, 0, 2), 15);
-    assert_eq!(raw::units_number(5, 1, 2), 16);
+    assert_eq!(raw::units_number(u64::MAX, 0, 3), 15);
+    assert_eq!(raw::units_number(5, 1, 3), 16);
+    assert_eq!(raw::ticks_number(5, 1, 3), 16);
     assert_eq!(raw::ticks_number(5, 1, u32::MAX), 16);
-    assert_eq!(raw::units_to_ticks(5, 1, 2), 0);
+    assert_eq!(raw::units_to_ticks(5, 1, 3), 0);
     assert_eq!(raw::ticks_to_units_floor(u64::MAX, 1, 0), 0);
     assert_eq!(raw::ticks_to_units_ceil(u64::MAX, 1, 0), 0);
 }

@@ -50,7 +50,7 @@ abbrev SaysSmall : (kind : ℕ) → (ℕ → ℕ → Decision) → (n : ℕ) →
 SaysSmall kind d n (faulty f) = Unit {0}
 SaysSmall kind d n (says c p) = Small n (emitBy kind d p)
 
-two-of : (t l : Bool) (n : ℕ) → length (warnIf t 3 n ++ warnIf l 4 n) ≤ 2
+two-of : (t l : Bool) (n : ℕ) → length (warnIf t 3 n ++ (warnIf l 4 n ++ [])) ≤ 2
 two-of true true n = omega arith
 two-of true false n = omega arith
 two-of false true n = omega arith

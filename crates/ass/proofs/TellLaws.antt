@@ -1,7 +1,7 @@
 -- Laws of what the functions of a caption tell: lines that stay, captions that pass, and captions that are kept.
 use mathlib.Core.Path.{_≡_, refl, sym, ap, _∙_}
 use mathlib.Core.Bool.{Bool, true, false, cond, _&&_}
-use mathlib.Core.List.{List, [], _∷_, _++_}
+use mathlib.Core.List.{List, [], _∷_, _++_, append-nil}
 use Prim.Native.Nat.{ℕ, zero, suc, _+_, _*_, _-_, _≤_, _<_, _^_}
 use native.Mathlib.Omega.{arith}
 use lib.ListN.{length, length-append}
@@ -121,8 +121,9 @@ module _ (kind x S a E b : ℕ) (c : Columns) (v r y : List ℕ) (R : Retimed) (
       let en = timeText kind b (R .stop) in
       let f : length (render F st en) ≤ length o = omega (arith, render-most F st en (text-23 kind a (R .start) hs) (text-23 kind b (R .stop) he)) in
       let fp = frame-put st en F o f in
-      let z : placesOf (warnIf t 3 x ++ warnIf (R .lost) 4 x) ≡ placesOf (warnIf (R .«start_cut» && tagged (fieldAt (c .columns) (fields (c .columns) r))) 3 x ++ warnIf (R .lost) 4 x) =
-      ap (λ (u : Bool). placesOf (warnIf u 3 x ++ warnIf (R .lost) 4 x)) et in
+      let z : placesOf (warnIf t 3 x ++ warnIf (R .lost) 4 x) ≡ placesOf (warnIf (R .«start_cut» && tagged (fieldAt (c .columns) (fields (c .columns) r))) 3 x ++ (warnIf (R .lost) 4 x ++ [])) =
+      ap (λ (u : Bool). placesOf (warnIf u 3 x ++ warnIf (R .lost) 4 x)) et
+      ∙ ap (λ (ws : List Warning). placesOf (warnIf (R .«start_cut» && tagged (fieldAt (c .columns) (fields (c .columns) r))) 3 x ++ ws)) (sym (append-nil (warnIf (R .lost) 4 x))) in
       record {
         number = refl;
         counted = eC;

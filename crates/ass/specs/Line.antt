@@ -42,6 +42,7 @@ lineCue c n word fs end S a E b =
       stop = E;
       stopMark = b;
       tagged = tagged (fieldAt (c .columns) fs);
+      stamped = false;
       frame = lineFrame c word fs end;
     }
 

@@ -254,6 +254,7 @@ module _ (c : Columns) (n : ℕ) (l w r : List ℕ) (word : Word w) (ev : c .eve
           stop = e;
           stopMark = 46;
           tagged = tag-back i;
+          stamped = false;
           frame = bytes w ∷ (new-pieces (c .start) (c .«end») (timeText 0 46 s) (timeText 0 46 e) 1 Old i ++ (bytes (terminatorOf l) ∷ []));
         }))
 

@@ -1,4 +1,5 @@
 -- A written caption, read again, says the same cue with the new times.
 pub mod AssLine
-pub mod SrtLine
-pub mod SrtBlock
+pub mod TimingLine
+pub mod TimingBlock
+pub mod BlockKinds

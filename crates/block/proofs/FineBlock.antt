@@ -13,6 +13,7 @@ use Rattle.text.proofs.LineLaws.{Finished, lines-back, line-last}
 use Rattle.stamp.specs.declared.read.Time.{Time}
 use Rattle.stamp.specs.declared.read.Time.the-variants.{At, Bad}
 use Rattle.time.specs.Kind.{unitsOf}
+use Rattle.time.proofs.Limits.{units-high}
 use Rattle.stamp.specs.Read.{timeIn}
 use Rattle.stamp.proofs.Reading.{time-below, time-marks}
 use Rattle.segment.specs.Segment.{segmentsOf, mapBad}
@@ -21,67 +22,67 @@ use Rattle.event.specs.Says.{Cue, stays, passes, cue}
 use Rattle.event.specs.Emit.{emitBy}
 use Rattle.event.specs.Told.{partIn}
 use Rattle.event.proofs.FineLaws.{Set, cue-fine}
-use Rattle.timing.specs.Style.{Style, srt}
+use Rattle.timing.specs.Style.{Style, stampsIn, styleOf}
 use Rattle.timing.specs.Arrow
 use Rattle.timing.specs.Arrow.{arrow, timingOf, Timing}
 use Rattle.block.specs.Block.{blockFrame, bothSay, endText, trailing, timingLineSays, timingSays, blockSays, BlockSays, faulty, says}
 use Rattle.block.specs.Answer.{blockAnswer, blockAnswerIn, blockIn}
 
 -- ---- what is known of the cue that a block says: times below 10,000 hours, each with a comma or a point; no tag
-pub record Timely (q : Cue) : Type 0 where
-  pub start-below : q .start < 36000000 * unitsOf 1
-  pub stop-below : q .stop < 36000000 * unitsOf 1
+pub record Timely (kind : ℕ) (q : Cue) : Type 0 where
+  pub start-below : q .start < 36000000 * unitsOf kind
+  pub stop-below : q .stop < 36000000 * unitsOf kind
   pub start-mark : (q .startMark ≡ 44) ⊎ (q .startMark ≡ 46)
   pub stop-mark : (q .stopMark ≡ 44) ⊎ (q .stopMark ≡ 46)
   pub untagged : q .tagged ≡ false
 
-abbrev Timed : BlockSays → Type 0
-Timed (faulty f) = Unit {0}
-Timed (says (stays l)) = Unit {0}
-Timed (says (passes r n l)) = ⊥
-Timed (says (cue q)) = Timely q
+abbrev Timed : (kind : ℕ) → BlockSays → Type 0
+Timed kind (faulty f) = Unit {0}
+Timed kind (says (stays l)) = Unit {0}
+Timed kind (says (passes r n l)) = ⊥
+Timed kind (says (cue q)) = Timely kind q
 
-line-timed : (k : ℕ) (b l a : List ℕ) → Timed (timingLineSays srt k b l a)
+line-timed : (kind k : ℕ) (b l a : List ℕ) → Timed kind (timingLineSays (styleOf kind) k b l a)
 unfolding timingLineSays
-line-timed k b l a = go (timeIn 1 (upTo arrow (textOf l))) (timeIn 1 (endText srt (textOf l))) refl refl
+line-timed kind k b l a = go (timeIn kind (upTo arrow (textOf l))) (timeIn kind (endText (styleOf kind) (textOf l))) refl refl
   where
-    go : (X Y : Time) → timeIn 1 (upTo arrow (textOf l)) ≡ X → timeIn 1 (endText srt (textOf l)) ≡ Y
-        → Timed (bothSay k (blockFrame b (trailing srt (textOf l)) (terminatorOf l) a) X Y)
+    go : (X Y : Time) → timeIn kind (upTo arrow (textOf l)) ≡ X → timeIn kind (endText (styleOf kind) (textOf l)) ≡ Y
+        → Timed kind (bothSay k (stampsIn kind a) (blockFrame b (trailing (styleOf kind) (textOf l)) (terminatorOf l) a) X Y)
     go Bad Y p q = tt
     go (At S i) Bad p q = tt
     go (At S i) (At E j) p q =
         record {
-          start-below = time-below 1 S i _ p;
-          stop-below = time-below 1 E j _ q;
-          start-mark = time-marks 1 S i _ p;
-          stop-mark = time-marks 1 E j _ q;
+          start-below = time-below kind S i _ p;
+          stop-below = time-below kind E j _ q;
+          start-mark = time-marks kind S i _ p;
+          stop-mark = time-marks kind E j _ q;
           untagged = refl;
         }
 
-timing-timed : (first : ℕ) (ls : List (List ℕ)) (t : Timing) → Timed (timingSays srt first ls t)
-timing-timed first ls Arrow.untimed = tt
-timing-timed first ls (Arrow.timed b l a) = line-timed (first + lineCount b) (concat b) l (concat a)
+timing-timed : (kind first : ℕ) (ls : List (List ℕ)) (t : Timing) → Timed kind (timingSays (styleOf kind) first ls t)
+timing-timed kind first ls Arrow.untimed = tt
+timing-timed kind first ls (Arrow.timed b l a) = line-timed kind (first + lineCount b) (concat b) l (concat a)
 
-block-timed : (first : ℕ) (ls : List (List ℕ)) → Timed (blockSays srt first ls)
+block-timed : (kind first : ℕ) (ls : List (List ℕ)) → Timed kind (blockSays (styleOf kind) first ls)
 unfolding blockSays
-block-timed first ls = timing-timed first ls (timingOf ls)
+block-timed kind first ls = timing-timed kind first ls (timingOf ls)
 
-pub block-timely : (first : ℕ) (ls : List (List ℕ)) (q : Cue) → blockSays srt first ls ≡ says (cue q) → Timely q
-block-timely first ls q e = subst Timed e (block-timed first ls)
+pub block-timely : (kind first : ℕ) (ls : List (List ℕ)) (q : Cue) → blockSays (styleOf kind) first ls ≡ says (cue q) → Timely kind q
+block-timely kind first ls q e = subst (Timed kind) e (block-timed kind first ls)
 
 -- ---- the answer
-answer-fine : (c : Config) → Set c → (m : List ℕ) → mapBad m ≡ false → (b : BlockSays) → Timed b → blockAnswerIn c (segmentsOf m) b ≡ blockAnswer c (segmentsOf m) b
+answer-fine : (c : Config) → Set c → (m : List ℕ) → mapBad m ≡ false → (b : BlockSays) → Timed (c .kind) b → blockAnswerIn c (segmentsOf m) b ≡ blockAnswer c (segmentsOf m) b
 unfolding partIn emitBy unitsOf
 answer-fine c set m g (faulty f) h = refl
 answer-fine c set m g (says (stays l)) h = refl
 answer-fine c set m g (says (passes r n l)) h = absurd h
-answer-fine c set m g (says (cue q)) h = cue-fine c set m g q (omega (arith, h .start-below)) (omega (arith, h .stop-below))
+answer-fine c set m g (says (cue q)) h = cue-fine c set m g q (omega (arith, h .start-below, units-high (c .kind) (set .kind-known))) (omega (arith, h .stop-below, units-high (c .kind) (set .kind-known)))
 
-pub block-fine : (c : Config) → Set c → (m : List ℕ) → mapBad m ≡ false → (first : ℕ) (s : List ℕ) (room places : ℕ) → 3 * length s ≤ room → 2 ≤ places
-    → blockIn c (segmentsOf m) first s room places ≡ blockAnswer c (segmentsOf m) (blockSays srt first (linesOf s))
+pub block-fine : (c : Config) → Set c → (m : List ℕ) → mapBad m ≡ false → (first : ℕ) (s : List ℕ) (room places : ℕ) → 3 * length s ≤ room → 4 ≤ places
+    → blockIn c (segmentsOf m) first s room places ≡ blockAnswer c (segmentsOf m) (blockSays (styleOf (c .kind)) first (linesOf s))
 unfolding blockIn
 block-fine c set m g first s room places h i =
-    rw (le-ltb room (3 * length s) h, le-ltb places 2 i) (answer-fine c set m g (blockSays srt first (linesOf s)) (block-timed first (linesOf s)))
+    rw (le-ltb room (3 * length s) h, le-ltb places 4 i) (answer-fine c set m g (blockSays (styleOf (c .kind)) first (linesOf s)) (block-timed (c .kind) first (linesOf s)))
 
 -- ---- a block as its lines: finished ones, and at a finish a last one without LF
 module _ (ls : List (List ℕ)) (f : Finished ls) where

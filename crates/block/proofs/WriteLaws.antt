@@ -19,7 +19,7 @@ use Rattle.stamp.specs.Write.{timeText}
 use Rattle.stamp.proofs.Reading.{time-long}
 use Rattle.stamp.proofs.Written.{text-23}
 use Rattle.event.specs.Emit.{warnIf, placesOf, render}
-use Rattle.timing.specs.Style.{srtEnd, srt}
+use Rattle.timing.specs.Style.{endIn, styleOf}
 use Rattle.timing.specs.Arrow.{arrow, afterArrow}
 use Rattle.block.specs.Block.{writtenArrow, blockFrame, endText, trailing}
 
@@ -68,28 +68,47 @@ module _ (b S E t x a o l1 l2 l3 l4 l5 l6 l7 : List ℕ) (n1 n2 n3 n4 n5 n6 n7 :
       (q7 .0 ∙ ap (λ (y : List ℕ). put y o) (sym f), q7 .1 ∙ ap length (sym f))
 
 -- a timing line whose times are read has 17 bytes beside what is trailing and its terminator
-pub line-long : (l : List ℕ) (S E i j : ℕ) → timeIn 1 (upTo arrow (textOf l)) ≡ At S i → timeIn 1 (endText srt (textOf l)) ≡ At E j
-    → 17 + length (trailing srt (textOf l)) + length (terminatorOf l) ≤ length l
+pub line-long : (kind : ℕ) (l : List ℕ) (S E i j : ℕ) → timeIn kind (upTo arrow (textOf l)) ≡ At S i → timeIn kind (endText (styleOf kind) (textOf l)) ≡ At E j
+    → 17 + length (trailing (styleOf kind) (textOf l)) + length (terminatorOf l) ≤ length l
 unfolding afterArrow
-line-long l S E i j eS eE =
+line-long kind l S E i j eS eE =
     let T = textOf l in
     let r = trimHead (past arrow T) in
-    let a = time-long 1 S i (upTo arrow T) eS in
-    let b = time-long 1 E j (take (srtEnd r) r) eE in
-    let c : length (take (srtEnd r) r) + length (drop (srtEnd r) r) ≡ length r = part-lengths (srtEnd r) r in
+    let a = time-long kind S i (upTo arrow T) eS in
+    let b = time-long kind E j (take (endIn kind r) r) eE in
+    let c : length (take (endIn kind r) r) + length (drop (endIn kind r) r) ≡ length r = part-lengths (endIn kind r) r in
     let d = trim-head-length (past arrow T) in
     let u : length (upTo arrow T) + length arrow + length (past arrow T) ≡ length T = up-past arrow T (omega arith) in
     let v : length T + length (terminatorOf l) ≡ length l = sym (length-append T (terminatorOf l)) ∙ ap length (text-terminator l) in
     omega arith
 
--- ---- the warning
-pub warn-yes : (b : Bool) (n k : ℕ) (w w′ : List ℕ) → 2 ≤ length w → b ≡ true → (k ≡ placeAfter 0 (4 ∷ n ∷ []) w) × (w′ ≡ placedAt 0 (4 ∷ n ∷ []) w)
-    → (w′ ≡ put (placesOf (warnIf b 4 n)) w) × (k ≡ length (placesOf (warnIf b 4 n)))
-unfolding placesOf
-warn-yes b n k w w′ h e p =
-    let q : (w′ ≡ put (4 ∷ n ∷ []) w) × (k ≡ length (4 ∷ n ∷ [])) = then-placed 0 k [] (4 ∷ n ∷ []) w w w′ (sym (put-nil w)) refl (omega arith) (p .0) (p .1) in
-    rw e q
+-- ---- the warnings
+module _ (tag lost : Bool) (x : ℕ) (w : List ℕ) (room : 4 ≤ length w) where
+  abbrev Places : List ℕ
+  Places = placesOf (warnIf tag 4 x ++ warnIf lost 5 x)
 
-pub warn-no : (b : Bool) (n : ℕ) (w : List ℕ) → b ≡ false → (w ≡ put (placesOf (warnIf b 4 n)) w) × (0 ≡ length (placesOf (warnIf b 4 n)))
-unfolding placesOf
-warn-no b n w e = rw e (sym (put-nil w), refl)
+  by-places : (l : List ℕ) (v : List ℕ) (n : ℕ) → Places ≡ l → (v ≡ put l w) × (n ≡ length l) → (n ≡ length Places) × (v ≡ put Places w)
+  by-places l v n e p = (p .1 ∙ ap length (sym e), p .0 ∙ ap (λ (y : List ℕ). put y w) (sym e))
+
+  module _ (w₁ : List ℕ) (n₁ : ℕ) (p₁ : (n₁ ≡ placeAfter 0 (4 ∷ x ∷ []) w) × (w₁ ≡ placedAt 0 (4 ∷ x ∷ []) w)) (t : tag ≡ true) where
+    four : (w₁ ≡ put (4 ∷ x ∷ []) w) × (n₁ ≡ 2)
+    four = then-placed 0 n₁ [] (4 ∷ x ∷ []) w w w₁ (sym (put-nil w)) refl (omega arith) (p₁ .0) (p₁ .1)
+
+    pub warn-tag : lost ≡ false → (n₁ ≡ length Places) × (w₁ ≡ put Places w)
+    unfolding placesOf
+    warn-tag l = by-places (4 ∷ x ∷ []) w₁ n₁ (rw (t, l)) four
+
+    pub warn-both : (w₂ : List ℕ) (n₂ : ℕ) → lost ≡ true → (n₂ ≡ placeAfter n₁ (5 ∷ x ∷ []) w₁) × (w₂ ≡ placedAt n₁ (5 ∷ x ∷ []) w₁) → (n₂ ≡ length Places) × (w₂ ≡ put Places w)
+    unfolding placesOf
+    warn-both w₂ n₂ l p₂ =
+        by-places (4 ∷ x ∷ 5 ∷ x ∷ []) w₂ n₂ (rw (t, l))
+        (then-placed n₁ n₂ (4 ∷ x ∷ []) (5 ∷ x ∷ []) w w₁ w₂ (four .0) (four .1) (omega arith) (p₂ .0) (p₂ .1))
+
+  pub warn-lost : (w₁ : List ℕ) (n₁ : ℕ) → tag ≡ false → lost ≡ true → (n₁ ≡ placeAfter 0 (5 ∷ x ∷ []) w) × (w₁ ≡ placedAt 0 (5 ∷ x ∷ []) w) → (n₁ ≡ length Places) × (w₁ ≡ put Places w)
+  unfolding placesOf
+  warn-lost w₁ n₁ t l p =
+      by-places (5 ∷ x ∷ []) w₁ n₁ (rw (t, l)) (then-placed 0 n₁ [] (5 ∷ x ∷ []) w w w₁ (sym (put-nil w)) refl (omega arith) (p .0) (p .1))
+
+  pub warn-none : tag ≡ false → lost ≡ false → (0 ≡ length Places) × (w ≡ put Places w)
+  unfolding placesOf
+  warn-none t l = by-places [] w 0 (rw (t, l)) (sym (put-nil w), refl)

@@ -1,4 +1,4 @@
--- What the code answers to an SRT block at every input: the block said, then put through the map.
+-- What the code answers to a block at every input: the block said, then put through the map.
 use mathlib.Core.Bool.{cond}
 use mathlib.Core.List.{List}
 use Prim.Native.Nat.{ℕ, _*_}
@@ -15,7 +15,7 @@ use Rattle.event.specs.Told.{Answer, refusal, answered, partIn}
 use Rattle.block.specs.declared.srt.Times.{Times}
 use Rattle.block.specs.declared.srt.Reading.{Reading}
 use Rattle.block.specs.declared.srt.Reading.the-variants.{Bad, Both}
-use Rattle.timing.specs.Style.{srt}
+use Rattle.timing.specs.Style.{styleOf}
 use Rattle.block.specs.Block.{BlockSays, faulty, says, blockSays}
 
 -- by document 01: a fault's number, or what the part becomes through the map
@@ -28,12 +28,12 @@ abbrev pub blockAnswerIn : Config → List Segment → BlockSays → Answer
 blockAnswerIn s m (faulty f) = refusal (faultNumber f)
 blockAnswerIn s m (says p) = partIn s m p
 
--- 16 where the lent output has less than three bytes for each of the block, or fewer than two warning places
+-- 16 where the lent output has less than three bytes for each of the block, or fewer than four warning places
 unfoldable pub blockIn : Config → List Segment → (first : ℕ) → (block : List ℕ) → (room places : ℕ) → Answer
 blockIn s m first b room places =
     cond (ltb room (3 * length b)) (refusal 16)
-    (cond (ltb places 2) (refusal 16)
-    (blockAnswerIn s m (blockSays srt first (linesOf b))))
+    (cond (ltb places 4) (refusal 16)
+    (blockAnswerIn s m (blockSays (styleOf (s .kind)) first (linesOf b))))
 
 -- what is read of a start and an end
 abbrev pub timesRead : Time → Time → Reading

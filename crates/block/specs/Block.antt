@@ -1,5 +1,5 @@
 -- What a block says by the text alone. A block is its non-blank lines, each with its terminator; the last may have none.
-use mathlib.Core.Bool.{false}
+use mathlib.Core.Bool.{Bool, false}
 use mathlib.Core.List.{List, [], _∷_}
 use Prim.Native.Nat.{ℕ, _+_}
 use lib.ListN.{take, drop}
@@ -24,15 +24,15 @@ abbrev pub blockFrame : (before trailing terminator after : List ℕ) → List P
 blockFrame before trailing terminator after =
     bytes before ∷ start ∷ bytes writtenArrow ∷ stop ∷ bytes trailing ∷ bytes terminator ∷ bytes after ∷ []
 
--- a block's cue; n is the timing line's number
-abbrev pub blockCue : (n S a E b : ℕ) → List Piece → Cue
-blockCue n S a E b ps = record { line = n; start = S; startMark = a; stop = E; stopMark = b; tagged = false; frame = ps }
+-- a block's cue; n is the timing line's number, z whether times stand in the lines below it
+abbrev pub blockCue : (n S a E b : ℕ) → (z : Bool) → List Piece → Cue
+blockCue n S a E b z ps = record { line = n; start = S; startMark = a; stop = E; stopMark = b; tagged = false; stamped = z; frame = ps }
 
 -- both times must read
-abbrev pub bothSay : (n : ℕ) → List Piece → Time → Time → BlockSays
-bothSay n ps Bad y = faulty badTime
-bothSay n ps (At S a) Bad = faulty badTime
-bothSay n ps (At S a) (At E b) = says (cue (blockCue n S a E b ps))
+abbrev pub bothSay : (n : ℕ) → (z : Bool) → List Piece → Time → Time → BlockSays
+bothSay n z ps Bad y = faulty badTime
+bothSay n z ps (At S a) Bad = faulty badTime
+bothSay n z ps (At S a) (At E b) = says (cue (blockCue n S a E b z ps))
 
 module _ (k : Style) where
   abbrev pub endText : List ℕ → List ℕ
@@ -44,7 +44,7 @@ module _ (k : Style) where
   -- the timing line, between the bytes before and after it
   unfoldable pub timingLineSays : (n : ℕ) → (before line after : List ℕ) → BlockSays
   timingLineSays n before l after =
-      bothSay n (blockFrame before (trailing (textOf l)) (terminatorOf l) after)
+      bothSay n (k .stamps after) (blockFrame before (trailing (textOf l)) (terminatorOf l) after)
       (k .time (upTo arrow (textOf l)))
       (k .time (endText (textOf l)))
 

@@ -12,6 +12,7 @@ use timing::before_arrow;
 use timing::end_length;
 use timing::locate;
 ghost use mathlib.Core.Path.{_≡_};
+ghost use mathlib.Core.List.{_++_};
 ghost use Prim.Native.Nat.{_+_, _*_, _≤_};
 ghost use lib.ListN.{length};
 ghost use Rattle.base.specs.Put.{put, placedAt, placeAfter};
@@ -22,7 +23,7 @@ ghost use Rattle.event.specs.declared.retiming.Decision.the-variants.{Kept};
 ghost use Rattle.event.specs.Decide.{decideIn};
 ghost use Rattle.event.specs.Emit.{warnIf, placesOf, render};
 ghost use Rattle.event.specs.Told.{cueIn, Tells};
-ghost use Rattle.timing.specs.Style.{srt};
+ghost use Rattle.timing.specs.Style.{stampsIn, styleOf};
 ghost use Rattle.block.specs.Block.{writtenArrow, blockFrame, blockCue, timingLineSays};
 ghost use Rattle.block.specs.Answer.{timesRead, blockAnswerIn, blockIn};
 
@@ -68,13 +69,20 @@ fn write_kept(
     base::bytes_at(out, f, after)
 }
 
-// The warning of a part that was lost, two places.
-fn warn(lost: bool, line: u64, warnings: &mut [u64]) -> usize
-    requires { ⌜ 2 ≤ length (now warnings) ⌝ }
-    ensures { λ r. ⌜ (now (warnings .exit) ≡ put (placesOf (warnIf lost 4 line)) (now (warnings .entry))) × (r ≡ length (placesOf (warnIf lost 4 line))) ⌝ }
+// Warning 4, and then warning 5.
+fn warn(lost: bool, stamped: bool, line: u64, warnings: &mut [u64]) -> usize
+    requires { ⌜ 4 ≤ length (now warnings) ⌝ }
+    ensures { λ r. ⌜ (r ≡ length (placesOf (warnIf lost 4 line ++ warnIf stamped 5 line))) × (now (warnings .exit) ≡ put (placesOf (warnIf lost 4 line ++ warnIf stamped 5 line)) (now (warnings .entry))) ⌝ }
 {
     if lost {
-        return base::pair_at(warnings, 0, 4, line);
+        let at = base::pair_at(warnings, 0, 4, line);
+        if stamped {
+            return base::pair_at(warnings, at, 5, line);
+        }
+        return at;
+    }
+    if stamped {
+        return base::pair_at(warnings, 0, 5, line);
     }
     0
 }
@@ -92,8 +100,8 @@ fn keep(
     out: &mut [u8],
     warnings: &mut [u64],
 ) -> Told
-    requires { ⌜ (length (now before) + length (now trailing) + length (now end) + length (now after) + 51 ≤ length (now out)) × (2 ≤ length (now warnings)) ⌝ }
-    ensures { λ r. ⌜ Tells (cueIn kind (blockCue line (old .start) (old .«start_mark») (old .stop) (old .«stop_mark») (blockFrame (now (before .entry)) (now (trailing .entry)) (now (end .entry)) (now (after .entry)))) (Kept new)) r (now (out .entry)) (now (out .exit)) (now (warnings .entry)) (now (warnings .exit)) ⌝ }
+    requires { ⌜ (length (now before) + length (now trailing) + length (now end) + length (now after) + 51 ≤ length (now out)) × (4 ≤ length (now warnings)) ⌝ }
+    ensures { λ r. ⌜ Tells (cueIn kind (blockCue line (old .start) (old .«start_mark») (old .stop) (old .«stop_mark») (stampsIn kind (now (after .entry))) (blockFrame (now (before .entry)) (now (trailing .entry)) (now (end .entry)) (now (after .entry)))) (Kept new)) r (now (out .entry)) (now (out .exit)) (now (warnings .entry)) (now (warnings .exit)) ⌝ }
 {
     let times = Times {
         start: new.start,
@@ -102,9 +110,10 @@ fn keep(
         stop_mark: old.stop_mark,
     };
     let lost = new.lost;
+    let stamped = timing::stamps_in(kind, after);
     let counted = counted_by(new);
     let written = write_kept(kind, times, before, trailing, end, after, out);
-    let warned = warn(lost, line, warnings);
+    let warned = warn(lost, stamped, line, warnings);
     Told {
         number: 0,
         counted,
@@ -126,8 +135,8 @@ fn settle(
     out: &mut [u8],
     warnings: &mut [u64],
 ) -> Told
-    requires { ⌜ (length (now before) + length (now trailing) + length (now end) + length (now after) + 51 ≤ length (now out)) × (2 ≤ length (now warnings)) ⌝ }
-    ensures { λ r. ⌜ Tells (cueIn (config .kind) (blockCue line (old .start) (old .«start_mark») (old .stop) (old .«stop_mark») (blockFrame (now (before .entry)) (now (trailing .entry)) (now (end .entry)) (now (after .entry)))) (decideIn config (segmentsOf (now (map .entry))) (old .start) (old .stop))) r (now (out .entry)) (now (out .exit)) (now (warnings .entry)) (now (warnings .exit)) ⌝ }
+    requires { ⌜ (length (now before) + length (now trailing) + length (now end) + length (now after) + 51 ≤ length (now out)) × (4 ≤ length (now warnings)) ⌝ }
+    ensures { λ r. ⌜ Tells (cueIn (config .kind) (blockCue line (old .start) (old .«start_mark») (old .stop) (old .«stop_mark») (stampsIn (config .kind) (now (after .entry))) (blockFrame (now (before .entry)) (now (trailing .entry)) (now (end .entry)) (now (after .entry)))) (decideIn config (segmentsOf (now (map .entry))) (old .start) (old .stop))) r (now (out .entry)) (now (out .exit)) (now (warnings .entry)) (now (warnings .exit)) ⌝ }
 {
     let kind = config.kind;
     match event::decide(map, config, old.start, old.stop) {
@@ -154,13 +163,13 @@ fn settle(
 }
 
 // The start's text and the end's, read.
-fn read_times(start: &[u8], stop: &[u8]) -> Reading
-    ensures { λ r. ⌜ r ≡ timesRead (timeIn 1 (now (start .entry))) (timeIn 1 (now (stop .entry))) ⌝ }
+fn read_times(kind: u32, start: &[u8], stop: &[u8]) -> Reading
+    ensures { λ r. ⌜ r ≡ timesRead (timeIn kind (now (start .entry))) (timeIn kind (now (stop .entry))) ⌝ }
 {
-    let Time::At(from, from_mark) = stamp::read_time(start, 1) else {
+    let Time::At(from, from_mark) = stamp::read_time(start, kind) else {
         return Reading::Bad;
     };
-    let Time::At(to, to_mark) = stamp::read_time(stop, 1) else {
+    let Time::At(to, to_mark) = stamp::read_time(stop, kind) else {
         return Reading::Bad;
     };
     Reading::Both(Times {
@@ -182,15 +191,15 @@ fn timed(
     out: &mut [u8],
     warnings: &mut [u64],
 ) -> Told
-    requires { ⌜ (3 * (length (now before) + length (now line) + length (now after)) ≤ length (now out)) × (2 ≤ length (now warnings)) ⌝ }
-    ensures { λ r. ⌜ Tells (blockAnswerIn config (segmentsOf (now (map .entry))) (timingLineSays srt number (now (before .entry)) (now (line .entry)) (now (after .entry)))) r (now (out .entry)) (now (out .exit)) (now (warnings .entry)) (now (warnings .exit)) ⌝ }
+    requires { ⌜ (3 * (length (now before) + length (now line) + length (now after)) ≤ length (now out)) × (4 ≤ length (now warnings)) ⌝ }
+    ensures { λ r. ⌜ Tells (blockAnswerIn config (segmentsOf (now (map .entry))) (timingLineSays (styleOf (config .kind)) number (now (before .entry)) (now (line .entry)) (now (after .entry)))) r (now (out .entry)) (now (out .exit)) (now (warnings .entry)) (now (warnings .exit)) ⌝ }
 {
     let text = text::text_of(line);
     let behind = after_arrow(text);
-    let n = end_length(behind);
+    let n = end_length(config.kind, behind);
     let trailing = base::rest(behind, n);
     let end = text::terminator_of(line);
-    match read_times(before_arrow(text), base::front(behind, n)) {
+    match read_times(config.kind, before_arrow(text), base::front(behind, n)) {
         Reading::Bad => refused(22),
         Reading::Both(old) => settle(
             config,
@@ -221,7 +230,7 @@ pub fn block(
     if out.len() / 3 < text.len() {
         return refused(16);
     }
-    if warnings.len() < 2 {
+    if warnings.len() < 4 {
         return refused(16);
     }
     let p = locate(text);

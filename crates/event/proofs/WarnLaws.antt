@@ -2,7 +2,7 @@
 -- source without overlap these are those by document 01's and more.
 use mathlib.Core.Path.{_≡_, refl, sym, ap, ap₂, _∙_}
 use mathlib.Core.Bool.{Bool, true, false, _&&_}
-use mathlib.Core.List.{List, [], _∷_, _++_, append-nil}
+use mathlib.Core.List.{List, [], _∷_, _++_}
 use Prim.Native.Nat.{ℕ}
 use lib.Dec.{ltb}
 use Rattle.time.specs.Kind.{unitsOf}
@@ -38,13 +38,16 @@ module _ (c : Config) (m : List Segment) where
   warns-later [] = refl
   warns-later (p ∷ ps) = ap₂ (λ (x y : List Warning). x ++ y) (part-warns p) (warns-later ps)
 
--- ---- the warnings of a part by 2.7's rule are those by document 01's, and more
+-- ---- the warnings of a part by 2.7's rule are those by document 01's, and more in one place among them
 pub record More (old new : List Warning) : Type 0 where
+  pub before : List Warning
   pub more : List Warning
-  pub added : new ≡ old ++ more
+  pub behind : List Warning
+  pub were : old ≡ before ++ behind
+  pub added : new ≡ before ++ (more ++ behind)
 
 more-none : (ws : List Warning) → More ws ws
-more-none ws = record { more = []; added = sym (append-nil ws) }
+more-none ws = record { before = []; more = []; behind = ws; were = refl; added = refl }
 
 found-adds : (q : Cue) (m : List Segment) (a b : ℕ) (f : Found) → Apart m → StandsIn m a b f → More (foundWarns lostNext q a b f) (foundWarns lostLater q a b f)
 found-adds q m a b miss w s = more-none []
@@ -53,11 +56,20 @@ found-adds q m a b (hit i x xs) w s = go (ltb (sourceEnd x) b) (lostNext xs a b)
     three : List Warning
     three = warnIf (ltb a (sourceOf x) && q .tagged) 3 (q .line)
 
-    go : (cut old new : Bool) → (old ≡ true → new ≡ true) → More (three ++ warnIf (cut && old) 4 (q .line)) (three ++ warnIf (cut && new) 4 (q .line))
-    go false old new h = more-none (three ++ [])
-    go true true new h = record { more = []; added = ap (λ (t : Bool). three ++ warnIf t 4 (q .line)) (h refl) ∙ sym (append-nil (three ++ warnIf true 4 (q .line))) }
-    go true false new h =
-        record { more = warnIf new 4 (q .line); added = ap (λ (l : List Warning). l ++ warnIf new 4 (q .line)) (sym (append-nil three)) }
+    five : List Warning
+    five = warnIf (q .stamped) 5 (q .line)
+
+    go : (cut old new : Bool) → (old ≡ true → new ≡ true) → More (three ++ (warnIf (cut && old) 4 (q .line) ++ five)) (three ++ (warnIf (cut && new) 4 (q .line) ++ five))
+    go false old new h = more-none (three ++ five)
+    go true true new h =
+        record {
+          before = three;
+          more = [];
+          behind = warnIf true 4 (q .line) ++ five;
+          were = refl;
+          added = ap (λ (t : Bool). three ++ (warnIf t 4 (q .line) ++ five)) (h refl);
+        }
+    go true false new h = record { before = three; more = warnIf new 4 (q .line); behind = five; were = refl; added = refl }
 
 pub part-adds : (c : Config) (m : List Segment) (p : Part) → Apart m → More (partWarns lostNext c m p) (partWarns lostLater c m p)
 unfolding partWarns

@@ -12,7 +12,7 @@ use Rattle.event.specs.Decide.{decideOf}
 use Rattle.event.specs.Fates.{Fate, passed, dropped, fateFor}
 use Rattle.event.specs.Says.{Piece, bytes, start, stop, reasonNumber, Cue, Part, stays, passes, cue}
 
--- a warning: its kind (1 to 4) and its line, from 1
+-- a warning: its kind (1 to 5) and its line, from 1
 pub record Warning : Type 0 where
   pub kind : ℕ
   pub line : ℕ
@@ -45,12 +45,12 @@ render (start ∷ ps) s e = s ++ render ps s e
 render (stop ∷ ps) s e = e ++ render ps s e
 
 -- a cue that is kept: both times written with the marks that they were read with;
--- warning 3 where the start was cut and a tag stands in it, then 4 where a part was lost
+-- warning 3 where the start was cut and a tag stands in it, then 4 where a part was lost, then 5 where times stand in its lines
 abbrev pub keptEmit : (kind : ℕ) → Cue → Retimed → Emit
 keptEmit kind q r =
     emit
     (render (q .frame) (timeText kind (q .startMark) (r .start)) (timeText kind (q .stopMark) (r .stop)))
-    (warnIf (r .«start_cut» && q .tagged) 3 (q .line) ++ warnIf (r .lost) 4 (q .line))
+    (warnIf (r .«start_cut» && q .tagged) 3 (q .line) ++ (warnIf (r .lost) 4 (q .line) ++ warnIf (q .stamped) 5 (q .line)))
     (decided (fateFor r))
 
 -- a strange decision is none of document 01's (`decide-fine`): it comes with a map that 15 refuses

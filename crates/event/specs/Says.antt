@@ -19,7 +19,7 @@ reasonNumber unplaced = 1
 reasonNumber short = 2
 
 -- a caption whose times are read: its line from 1, the times in units with the mark before each fraction, whether a relative timing tag
--- stands in it, and the frame around the times
+-- stands in it, whether times stand in its lines (WebVTT), and the frame around the times
 pub record Cue : Type 0 where
   pub line : ℕ
   pub start : ℕ
@@ -27,6 +27,7 @@ pub record Cue : Type 0 where
   pub stop : ℕ
   pub stopMark : ℕ
   pub tagged : Bool
+  pub stamped : Bool
   pub frame : List Piece
 
 -- the same cue with other times
@@ -39,6 +40,7 @@ withTimes q s e =
       stop = e;
       stopMark = q .stopMark;
       tagged = q .tagged;
+      stamped = q .stamped;
       frame = q .frame;
     }
 
@@ -49,13 +51,14 @@ pub data Part : Type 0 where
 
 -- a text fault, and document 01's number: a bad time's is that of the time
 pub data Fault : Type 0 where
-  longLine notUtf8 longBlock badTime : Fault
+  longLine notUtf8 longBlock badTime badHeader : Fault
 
 abbrev pub faultNumber : Fault → ℕ
 faultNumber longLine = 19
 faultNumber notUtf8 = 20
 faultNumber longBlock = 21
 faultNumber badTime = timeNumber Bad
+faultNumber badHeader = 24
 
 -- captions decided: the cues, and the captions that pass
 unfoldable pub captionsIn : List Part → ℕ

@@ -16,10 +16,11 @@ use Rattle.event.specs.Says.{reasonNumber, Cue, Part, stays, passes, cue
 use Rattle.event.specs.Emit.{Warning, warning, warnIf}
 
 -- a cue of ticks a to b, by the segment x that it meets and those behind: 3 where its start was cut and it is tagged, then 4 where its end was
--- cut and the rule says that a part was lost
+-- cut and the rule says that a part was lost, then 5 where times stand in its lines
 abbrev pub foundWarns : Rule → Cue → (a b : ℕ) → Found → List Warning
 foundWarns lost q a b miss = []
-foundWarns lost q a b (hit i x xs) = warnIf (ltb a (sourceOf x) && q .tagged) 3 (q .line) ++ warnIf (ltb (sourceEnd x) b && lost xs a b) 4 (q .line)
+foundWarns lost q a b (hit i x xs) =
+    warnIf (ltb a (sourceOf x) && q .tagged) 3 (q .line) ++ (warnIf (ltb (sourceEnd x) b && lost xs a b) 4 (q .line) ++ warnIf (q .stamped) 5 (q .line))
 
 abbrev pub cueWarns : Rule → List Segment → Cue → (a b : ℕ) → List Warning
 cueWarns lost m q a b = foundWarns lost q a b (findHit m a b)

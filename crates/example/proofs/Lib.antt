@@ -3,3 +3,5 @@ pub mod Four
 pub mod AssRun
 pub mod AssFates
 pub mod SrtRun
+pub mod VttRun
+pub mod VttRows

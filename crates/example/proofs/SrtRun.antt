@@ -21,14 +21,14 @@ use Rattle.event.specs.Hit.{meetsParts, findFrom}
 use Rattle.event.specs.Lost.{lostLater}
 use Rattle.event.specs.Decide.{decideTicks, decideOf}
 use Rattle.event.specs.Emit.{emitBy, emitsOf, render, outputOf, warningsOf}
-use Rattle.timing.specs.Style.{blankIn, srtEnd}
+use Rattle.timing.specs.Style.{blankIn, srtEnd, endIn, stampsIn}
 use Rattle.timing.specs.Arrow.{timingOf, afterArrow}
 use Rattle.block.specs.Block.{timingLineSays, blockSays}
 use Rattle.machine.specs.Counts.{countAll}
 use Rattle.machine.specs.Calls.{Heard, readerRefusal}
 use Rattle.promise.specs.Runs.{outcome}
 use Rattle.whole.specs.Srt.{blocksOf}
-use Rattle.promise.specs.Plain.{lineFault, bodyLineFault, bodyFault, srtRead, linesSay, plainRead}
+use Rattle.promise.specs.Plain.{lineFault, bodyLineFault, bodyFault, blocksRead, linesSay, plainRead}
 use Rattle.example.specs.Worked.{plainMap, openAnswer, madeCalls, toldBy, readBy, plainFour}
 use Rattle.example.specs.Texts.{srtFirst, srtRest, srtTold}
 use Rattle.example.proofs.Four.{worked}
@@ -42,11 +42,11 @@ heard =
     }
 
 heard-is : plainFour 1 srtFirst srtRest ≡ heard
-unfolding leadLen secondLow secondHigh tail widthBy charWidth utf8From utf8 codeBy codeHead whiteHigh white whiteHead last endsWhite whiteTail headFrom keepFrom trimHead trimTail trim starts equals first contains upTo past piecesFrom pieces digit digits valueFrom natural unsigned number linesOf textOf terminatorLength terminatorOf kindBad unitsOf markOf timeWith markIn timeIn blank srtEnd blankIn timingOf afterArrow timingLineSays blockSays faultUnless _orElse_ lineFault bodyLineFault blocksOf bodyFault srtRead linesSay plainRead flatOf segmentsOf endBad segmentBad anyBad mapBad readerRefusal
+unfolding leadLen secondLow secondHigh tail widthBy charWidth utf8From utf8 codeBy codeHead whiteHigh white whiteHead last endsWhite whiteTail headFrom keepFrom trimHead trimTail trim starts equals first contains upTo past piecesFrom pieces digit digits valueFrom natural unsigned number linesOf textOf terminatorLength terminatorOf kindBad unitsOf markOf timeWith markIn timeIn blank srtEnd endIn stampsIn blankIn timingOf afterArrow timingLineSays blockSays faultUnless _orElse_ lineFault bodyLineFault blocksOf bodyFault blocksRead linesSay plainRead flatOf segmentsOf endBad segmentBad anyBad mapBad readerRefusal
 heard-is = refl
 
 read-is : readBy 1 plainMap heard ≡ srtTold
-unfolding leadLen secondLow secondHigh tail widthBy charWidth utf8From utf8 codeBy codeHead whiteHigh white whiteHead last endsWhite whiteTail headFrom keepFrom trimHead trimTail trim starts equals first contains upTo past piecesFrom pieces digit digits valueFrom natural unsigned number linesOf textOf terminatorLength terminatorOf kindBad unitsOf markOf timeWith markIn timeIn blank srtEnd blankIn timingOf afterArrow timingLineSays blockSays faultUnless _orElse_ lineFault bodyLineFault blocksOf bodyFault srtRead linesSay plainRead flatOf segmentsOf emitBy emitsOf render outputOf warningsOf timeText textWith pad width widthUnder fractionDigits hourDigits decideOf decideTicks findFrom meetsParts lostLater ticksOf startUnits endUnits scaledUp countAll
+unfolding leadLen secondLow secondHigh tail widthBy charWidth utf8From utf8 codeBy codeHead whiteHigh white whiteHead last endsWhite whiteTail headFrom keepFrom trimHead trimTail trim starts equals first contains upTo past piecesFrom pieces digit digits valueFrom natural unsigned number linesOf textOf terminatorLength terminatorOf kindBad unitsOf markOf timeWith markIn timeIn blank srtEnd endIn stampsIn blankIn timingOf afterArrow timingLineSays blockSays faultUnless _orElse_ lineFault bodyLineFault blocksOf bodyFault blocksRead linesSay plainRead flatOf segmentsOf emitBy emitsOf render outputOf warningsOf timeText textWith pad width widthUnder fractionDigits hourDigits decideOf decideTicks findFrom meetsParts lostLater ticksOf startUnits endUnits scaledUp countAll
 read-is = refl
 
 known : kindBad 1 ≡ false

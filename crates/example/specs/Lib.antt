@@ -2,3 +2,4 @@
 pub mod Calls
 pub mod Worked
 pub mod Texts
+pub mod VttRows

@@ -39,6 +39,7 @@ assCue n S E z =
       stop = E;
       stopMark = 46;
       tagged = false;
+      stamped = false;
       frame = bytes (ascii "Dialogue:") ∷ start ∷ bytes (ascii ",") ∷ stop ∷ bytes z ∷ [];
     }
 
@@ -77,5 +78,27 @@ srtTold =
       outcome = 0;
       counts = record { shifted = 1; clipped = 2; dropped = 3; passed = 0 };
       taken = 170;
+      ended = true;
+    }
+
+-- ---- WebVTT; the last block is ended by the finish
+abbrev pub vttFirst : List ℕ
+vttFirst = ascii "WEBVTT x\n\n1\n00:00.050 --> 00:00:0"
+
+abbrev pub vttRest : List ℕ
+vttRest =
+    ascii "0.250 line:0\n<1>\n\nNOTE\n\n00:00.120 --> 00:00.200\nb<2\n\n3\n00:00.210-->00:00.250\nc <3\n\n00:00.200 --> 00:00.210"
+
+-- the first line stays; 50–250 clipped to 50–101 with warnings 4 and 5 at line 4, 120–200 dropped with no warning, 210–250 shifted to 109–150 with
+-- warning 5, and 200–210 clipped to 100–110 at the finish
+abbrev pub vttTold : Told
+vttTold =
+    record {
+      numbers = 0 ∷ 16 ∷ 0 ∷ 0 ∷ [];
+      output = ascii "WEBVTT x\n\n1\n00:00:00.050 --> 00:00:00.101 line:0\n<1>\n\nNOTE\n\n\n3\n00:00:00.109 --> 00:00:00.150\nc <3\n\n00:00:00.100 --> 00:00:00.110";
+      warnings = warning 4 4 ∷ warning 5 4 ∷ warning 5 13 ∷ [];
+      outcome = 0;
+      counts = record { shifted = 1; clipped = 2; dropped = 1; passed = 0 };
+      taken = 139;
       ended = true;
     }

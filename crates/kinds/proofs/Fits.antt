@@ -26,9 +26,9 @@ use Rattle.machine.proofs.Native.{GoingOk}
 use Rattle.machine.proofs.Room.{outLen, warnLen, out-none, warn-none, GoingRoom, Room, Roomy, run-room, finish-room}
 use Rattle.kinds.specs.Takes.{State}
 use Rattle.kinds.specs.Kit.{kit}
-use Rattle.kinds.proofs.KindLaws.{known-two, lawful, lawful-fit, lawful-size, lawful-pending, size}
+use Rattle.kinds.proofs.KindLaws.{known-three, lawful, lawful-fit, lawful-size, lawful-pending, size}
 use Rattle.kinds.proofs.Native.{Native, is-native}
-use Rattle.kinds.proofs.KindRoom.{Slim, ass-roomy, srt-roomy}
+use Rattle.kinds.proofs.KindRoom.{Slim, ass-roomy, srt-roomy, vtt-roomy}
 
 pub record Fits (es : List Emit) : Type 0 where
   pub out : length (outputOf es) ≤ leastOutput
@@ -46,7 +46,8 @@ fits-none = record { out = omega arith; places = omega arith }
 roomy : (kind : ℕ) (e : kindBad kind ≡ false) (c : Config) → Set c → (g : List ℕ) → mapBad g ≡ false → Roomy kit kind (lawful kind e) c (segmentsOf g) 3
 roomy zero e c set g good = ass-roomy c set g good
 roomy (suc zero) e c set g good = srt-roomy c set g good
-roomy (suc (suc k)) e c set g good = absurd (known-two k e)
+roomy (suc (suc zero)) e c set g good = vtt-roomy c set g good
+roomy (suc (suc (suc k))) e c set g good = absurd (known-three k e)
 
 module _ (s : Session Columns) (N : Native s) (g : List ℕ) (good : mapBad g ≡ false) where
   abbrev kind : ℕ

@@ -6,22 +6,23 @@ use Prim.Native.Nat.{ℕ, zero, suc, _+_, _-_, _≤_}
 use native.Mathlib.Omega.{arith}
 use lib.Dec.{ltb, leb}
 use lib.ListN.{length, length-append}
-use borrow.Author.Tests.{le-ltb, leb-true}
+use borrow.Author.Tests.{ne-eqb, le-ltb, leb-true}
 use Rattle.base.specs.Limits.{mostLine, mostBlock}
 use Rattle.utf8.specs.Utf8.{utf8}
 use Rattle.text.specs.Line.{concat, lineCount, hasLf, endsLine}
 use Rattle.text.proofs.LineLaws.{Finished}
 use Rattle.time.specs.Kind.{kindBad}
 use Rattle.time.proofs.Limits.{by-kind}
-use Rattle.event.specs.Says.{Part, stays, passes, cue, captionsIn, Fault, notUtf8}
+use Rattle.event.specs.Says.{Part, stays, passes, cue, captionsIn, Fault, notUtf8, badHeader}
 use Rattle.ass.specs.Line.{LineSays, lineSays, faulty as lineFaulty, says as lineSaid}
-use Rattle.timing.specs.Style.{srt, blankIn}
+use Rattle.timing.specs.Style.{styleOf, blankIn}
+use Rattle.timing.specs.Header.{isHeader, headerDue}
 use Rattle.block.specs.Block.{BlockSays, blockSays, faulty as blockFaulty, says as blockSaid}
 use Rattle.machine.specs.Cut.{Cut, cut, isLf, closedLines, unfinished}
 use Rattle.machine.specs.Machine.{Says, faulty, says}
 use Rattle.machine.proofs.CutLaws.{cut-held}
 use Rattle.machine.proofs.Laws.{StepOk, CloseOk, Lawful}
-use Rattle.kinds.specs.Takes.{State, blankState, ofLine, lineTakes, withBlock, ofBlock, closes, adds, blockTakes, takes, ends}
+use Rattle.kinds.specs.Takes.{State, blankState, ofLine, lineTakes, withBlock, ofBlock, closes, adds, blockTakes, headTakes, takes, blockEnds, ends}
 use Rattle.kinds.specs.Kit.{linesBad, heldBad, kit}
 use Rattle.kinds.proofs.ColumnBounds.{Bounded, bounded-good, none-bounded, After, line-bounded}
 
@@ -30,26 +31,34 @@ pub takes-ass : (s : State) (n : ℕ) (l : List ℕ) → takes 0 s n l ≡ lineT
 unfolding takes
 takes-ass s n l = refl
 
-pub takes-srt : (s : State) (n : ℕ) (l : List ℕ) → takes 1 s n l ≡ blockTakes srt s n l
-unfolding takes
+pub takes-srt : (s : State) (n : ℕ) (l : List ℕ) → takes 1 s n l ≡ blockTakes (styleOf 1) s n l
+unfolding takes headerDue
 takes-srt s n l = refl
+
+pub takes-vtt : (s : State) (n : ℕ) (l : List ℕ) → takes 2 s n l ≡ cond (headerDue 2 n (s .block)) (headTakes s l) (blockTakes (styleOf 2) s n l)
+unfolding takes
+takes-vtt s n l = refl
 
 pub ends-ass : (s : State) (n : ℕ) → ends 0 s n ≡ says s []
 unfolding ends
 ends-ass s n = refl
 
-pub ends-srt : (s : State) (n : ℕ) → ends 1 s n ≡ closes srt s n (s .block) []
-unfolding ends
+pub ends-srt : (s : State) (n : ℕ) → ends 1 s n ≡ closes (styleOf 1) s n (s .block) []
+unfolding ends blockEnds headerDue
 ends-srt s n = refl
+
+pub ends-vtt : (s : State) (n : ℕ) → ends 2 s n ≡ cond (headerDue 2 n (s .block)) (faulty badHeader) (closes (styleOf 2) s n (s .block) [])
+unfolding ends blockEnds
+ends-vtt s n = refl
 
 pub held-ass : (h : List ℕ) → heldBad 0 h ≡ (ltb mostLine (length h) || hasLf h)
 unfolding heldBad
 held-ass h = refl
 
-pub held-srt : (h : List ℕ)
-    → heldBad 1 h ≡ (ltb mostBlock (length (concat (closedLines h))) || (linesBad 1 (closedLines h) || ltb mostLine (length (unfinished h))))
+pub held-block : (j : ℕ) (h : List ℕ)
+    → heldBad (suc j) h ≡ (ltb mostBlock (length (concat (closedLines h))) || (linesBad (suc j) (closedLines h) || ltb mostLine (length (unfinished h))))
 unfolding heldBad
-held-srt h = refl
+held-block j h = rw (ne-eqb (suc j) 0 (λ e. omega arith))
 
 -- ---- what holds of a state between two lines: ASS has no block, SRT's is of finished lines
 abbrev pub BlockFit : (kind : ℕ) → List (List ℕ) → Type 0
@@ -119,7 +128,7 @@ unfolding lineTakes
 ass-step s n l h k =
     checked 0 s l (utf8 l) (ofLine s (lineSays (s .columns) n l)) notUtf8 (λ e. said-ok s l (lineSays (s .columns) n l) h (line-bounded (s .columns) n l (h .bounded) k))
 
--- ---- SRT
+-- ---- SRT and WebVTT
 pub concat-snoc : (ls : List (List ℕ)) (l : List ℕ) → concat (ls ++ (l ∷ [])) ≡ concat ls ++ l
 concat-snoc [] l = append-nil l
 concat-snoc (k ∷ ls) l = ap (λ (x : List ℕ). k ++ x) (concat-snoc ls l) ∙ sym (append-assoc k (concat ls) l)
@@ -141,52 +150,71 @@ snoc-open : (ls : List (List ℕ)) (l : List ℕ) → openBlock (ls ++ (l ∷ []
 snoc-open [] l = refl
 snoc-open (k ∷ ls) l = refl
 
-emptied : (s : State) → Fit 1 s → Fit 1 (withBlock [] s)
-emptied s h = record { bounded = h .bounded; small = omega arith; lines = refl; block = tt }
+-- kind suc j
+module _ (j : ℕ) where
+  emptied : (s : State) → Fit (suc j) s → Fit (suc j) (withBlock [] s)
+  emptied s h = record { bounded = h .bounded; small = omega arith; lines = refl; block = tt }
 
-block-ok : (s : State) (l : List ℕ) (x : BlockSays) → Fit 1 s → pending s ≡ 1 → LineOk 1 s l (ofBlock s (stays l ∷ []) x)
-block-ok s l (blockFaulty f) h p = tt
-block-ok s l (blockSaid q) h p =
-    record { fit = λ e. emptied s h; few = omega (arith, part-stays q l); small = omega arith }
+  block-ok : (s : State) (l : List ℕ) (x : BlockSays) → Fit (suc j) s → pending s ≡ 1 → LineOk (suc j) s l (ofBlock s (stays l ∷ []) x)
+  block-ok s l (blockFaulty f) h p = tt
+  block-ok s l (blockSaid q) h p =
+      record { fit = λ e. emptied s h; few = omega (arith, part-stays q l); small = omega arith }
 
-closes-ok : (s : State) (n : ℕ) (l : List ℕ) (b : List (List ℕ)) → s .block ≡ b → Fit 1 s → LineOk 1 s l (closes srt s n b (stays l ∷ []))
-closes-ok s n l [] e h = record { fit = λ z. emptied s h; few = omega (arith, stays-none l); small = omega arith }
-closes-ok s n l (k ∷ ks) e h = block-ok s l (blockSays srt (suc n - lineCount (k ∷ ks)) (k ∷ ks)) h (ap openBlock e)
+  closes-ok : (s : State) (n : ℕ) (l : List ℕ) (b : List (List ℕ)) → s .block ≡ b → Fit (suc j) s → LineOk (suc j) s l (closes (styleOf (suc j)) s n b (stays l ∷ []))
+  closes-ok s n l [] e h = record { fit = λ z. emptied s h; few = omega (arith, stays-none l); small = omega arith }
+  closes-ok s n l (k ∷ ks) e h = block-ok s l (blockSays (styleOf (suc j)) (suc n - lineCount (k ∷ ks)) (k ∷ ks)) h (ap openBlock e)
 
-adds-ok : (s : State) (l : List ℕ) → Fit 1 s → blankIn 1 l ≡ false → utf8 l ≡ true → (t : Bool) → leb (length (concat (s .block)) + length l) mostBlock ≡ t
-    → LineOk 1 s l (adds t s l)
-adds-ok s l h p q false e = tt
-adds-ok s l h p q true e =
-    let k : length (concat (s .block ++ (l ∷ []))) ≡ length (concat (s .block)) + length l = ap length (concat-snoc (s .block) l) ∙ length-append (concat (s .block)) l in
-    record {
-      fit =
-          λ z. record {
-            bounded = h .bounded;
-            small = omega (arith, leb-true (length (concat (s .block)) + length l) mostBlock e);
-            lines = bad-snoc 1 (s .block) l (h .lines) p q;
-            block = finished-snoc (s .block) l (h .block) z;
-          };
-      few = omega (arith, snoc-open (s .block) l, no-part);
-      small = omega arith;
-    }
+  adds-ok : (s : State) (l : List ℕ) → Fit (suc j) s → blankIn (suc j) l ≡ false → utf8 l ≡ true → (t : Bool) → leb (length (concat (s .block)) + length l) mostBlock ≡ t
+      → LineOk (suc j) s l (adds t s l)
+  adds-ok s l h p q false e = tt
+  adds-ok s l h p q true e =
+      let k : length (concat (s .block ++ (l ∷ []))) ≡ length (concat (s .block)) + length l = ap length (concat-snoc (s .block) l) ∙ length-append (concat (s .block)) l in
+      record {
+        fit =
+            λ z. record {
+              bounded = h .bounded;
+              small = omega (arith, leb-true (length (concat (s .block)) + length l) mostBlock e);
+              lines = bad-snoc (suc j) (s .block) l (h .lines) p q;
+              block = finished-snoc (s .block) l (h .block) z;
+            };
+        few = omega (arith, snoc-open (s .block) l, no-part);
+        small = omega arith;
+      }
 
-blank-ok : (s : State) (n : ℕ) (l : List ℕ) → Fit 1 s → utf8 l ≡ true → (b : Bool) → blankIn 1 l ≡ b
-    → LineOk 1 s l (cond b (closes srt s n (s .block) (stays l ∷ [])) (adds (leb (length (concat (s .block)) + length l) mostBlock) s l))
-blank-ok s n l h q true p = closes-ok s n l (s .block) refl h
-blank-ok s n l h q false p = adds-ok s l h p q (leb (length (concat (s .block)) + length l) mostBlock) refl
+  blank-ok : (s : State) (n : ℕ) (l : List ℕ) → Fit (suc j) s → utf8 l ≡ true → (b : Bool) → blankIn (suc j) l ≡ b
+      → LineOk (suc j) s l (cond b (closes (styleOf (suc j)) s n (s .block) (stays l ∷ [])) (adds (leb (length (concat (s .block)) + length l) mostBlock) s l))
+  blank-ok s n l h q true p = closes-ok s n l (s .block) refl h
+  blank-ok s n l h q false p = adds-ok s l h p q (leb (length (concat (s .block)) + length l) mostBlock) refl
 
-pub srt-step : (s : State) (n : ℕ) (l : List ℕ) → Fit 1 s → LineOk 1 s l (blockTakes srt s n l)
-unfolding blockTakes
-srt-step s n l h = checked 1 s l (utf8 l) _ notUtf8 (λ q. blank-ok s n l h q (blankIn 1 l) refl)
+  pub block-step : (s : State) (n : ℕ) (l : List ℕ) → Fit (suc j) s → LineOk (suc j) s l (blockTakes (styleOf (suc j)) s n l)
+  unfolding blockTakes
+  block-step s n l h = checked (suc j) s l (utf8 l) _ notUtf8 (λ q. blank-ok s n l h q (blankIn (suc j) l) refl)
 
--- a finish ends at most the open block
-block-few : (s : State) (x : BlockSays) → pending s ≡ 1 → CloseOk (Fit 1) pending size s (ofBlock s [] x)
-block-few s (blockFaulty f) p = tt
-block-few s (blockSaid q) p = omega (arith, one-part q)
+  -- a finish ends at most the open block
+  block-few : (s : State) (x : BlockSays) → pending s ≡ 1 → CloseOk (Fit (suc j)) pending size s (ofBlock s [] x)
+  block-few s (blockFaulty f) p = tt
+  block-few s (blockSaid q) p = omega (arith, one-part q)
 
-pub srt-close : (s : State) (n : ℕ) (b : List (List ℕ)) → s .block ≡ b → CloseOk (Fit 1) pending size s (closes srt s n b [])
-srt-close s n [] e = omega (arith, no-part)
-srt-close s n (k ∷ ks) e = block-few s (blockSays srt (suc n - lineCount (k ∷ ks)) (k ∷ ks)) (ap openBlock e)
+  pub block-close : (s : State) (n : ℕ) (b : List (List ℕ)) → s .block ≡ b → CloseOk (Fit (suc j)) pending size s (closes (styleOf (suc j)) s n b [])
+  block-close s n [] e = omega (arith, no-part)
+  block-close s n (k ∷ ks) e = block-few s (blockSays (styleOf (suc j)) (suc n - lineCount (k ∷ ks)) (k ∷ ks)) (ap openBlock e)
+
+-- ---- WebVTT: the first line
+head-said : (s : State) (l : List ℕ) → Fit 2 s → (b : Bool) → LineOk 2 s l (cond b (says s (stays l ∷ [])) (faulty badHeader))
+head-said s l h true = record { fit = λ e. h; few = omega (arith, stays-none l); small = omega arith }
+head-said s l h false = tt
+
+head-ok : (s : State) (l : List ℕ) → Fit 2 s → LineOk 2 s l (headTakes s l)
+unfolding headTakes
+head-ok s l h = checked 2 s l (utf8 l) _ notUtf8 (λ q. head-said s l h (isHeader l))
+
+pub vtt-step : (s : State) (n : ℕ) (l : List ℕ) → Fit 2 s → (b : Bool) → LineOk 2 s l (cond b (headTakes s l) (blockTakes (styleOf 2) s n l))
+vtt-step s n l h true = head-ok s l h
+vtt-step s n l h false = block-step 1 s n l h
+
+pub vtt-close : (s : State) (n : ℕ) (b : Bool) → CloseOk (Fit 2) pending size s (cond b (faulty badHeader) (closes (styleOf 2) s n (s .block) []))
+vtt-close s n true = tt
+vtt-close s n false = block-close 1 s n (s .block) refl
 
 -- ---- what a session keeps
 pub held-cut : (kind : ℕ) (s : State) (h : List ℕ) → Fit kind s → hasLf h ≡ false → cut isLf (concat (s .block) ++ h) ≡ record { pieces = s .block; rest = h }
@@ -200,10 +228,10 @@ pub held-good-ass : (s : State) (h : List ℕ) → Fit 0 s → length h ≤ most
 held-good-ass s h f k e =
     ap (λ (ls : List (List ℕ)). heldBad 0 (concat ls ++ h)) (f .block) ∙ held-ass h ∙ rw (le-ltb mostLine (length h) k, e)
 
-pub held-good-srt : (s : State) (h : List ℕ) → Fit 1 s → length h ≤ mostLine → hasLf h ≡ false → heldBad 1 (concat (s .block) ++ h) ≡ false
-held-good-srt s h f k e =
-    held-srt (concat (s .block) ++ h)
-    ∙ ap (λ (c : Cut ℕ). ltb mostBlock (length (concat (c .pieces))) || (linesBad 1 (c .pieces) || ltb mostLine (length (c .rest)))) (held-cut 1 s h f e)
+pub held-good-block : (j : ℕ) (s : State) (h : List ℕ) → Fit (suc j) s → length h ≤ mostLine → hasLf h ≡ false → heldBad (suc j) (concat (s .block) ++ h) ≡ false
+held-good-block j s h f k e =
+    held-block j (concat (s .block) ++ h)
+    ∙ ap (λ (c : Cut ℕ). ltb mostBlock (length (concat (c .pieces))) || (linesBad (suc j) (c .pieces) || ltb mostLine (length (c .rest)))) (held-cut (suc j) s h f e)
     ∙ rw (le-ltb mostBlock (length (concat (s .block))) (f .small), f .lines, le-ltb mostLine (length h) k)
 
 pub blank-fit : (kind : ℕ) → BlockFit kind [] → Fit kind blankState
@@ -242,31 +270,42 @@ ass-laws =
 abbrev pub srt-laws : Lawful kit 1
 srt-laws =
     laws 1 tt
-    (λ s n l h k. subst (LineOk 1 s l) (sym (takes-srt s n l)) (srt-step s n l h))
-    (λ s n. subst (CloseOk (Fit 1) pending size s) (sym (ends-srt s n)) (srt-close s n (s .block) refl))
-    (λ s h f k e. held-good-srt s h f k e)
+    (λ s n l h k. subst (LineOk 1 s l) (sym (takes-srt s n l)) (block-step 0 s n l h))
+    (λ s n. subst (CloseOk (Fit 1) pending size s) (sym (ends-srt s n)) (block-close 0 s n (s .block) refl))
+    (λ s h f k e. held-good-block 0 s h f k e)
+
+abbrev pub vtt-laws : Lawful kit 2
+vtt-laws =
+    laws 2 tt
+    (λ s n l h k. subst (LineOk 2 s l) (sym (takes-vtt s n l)) (vtt-step s n l h (headerDue 2 n (s .block))))
+    (λ s n. subst (CloseOk (Fit 2) pending size s) (sym (ends-vtt s n)) (vtt-close s n (headerDue 2 n (s .block))))
+    (λ s h f k e. held-good-block 1 s h f k e)
 
 -- ---- both kinds
-pub known-two : (k : ℕ) → kindBad (suc (suc k)) ≡ false → ⊥
-known-two k e = let z : suc (suc k) ≤ 1 = by-kind (λ n. n ≤ 1) (omega arith) (omega arith) (suc (suc k)) e in omega arith
+pub known-three : (k : ℕ) → kindBad (suc (suc (suc k))) ≡ false → ⊥
+known-three k e = let z : suc (suc (suc k)) ≤ 2 = by-kind (λ n. n ≤ 2) (omega arith) (omega arith) (omega arith) (suc (suc (suc k))) e in omega arith
 
 abbrev pub lawful : (kind : ℕ) → kindBad kind ≡ false → Lawful kit kind
 lawful zero e = ass-laws
 lawful (suc zero) e = srt-laws
-lawful (suc (suc k)) e = absurd (known-two k e)
+lawful (suc (suc zero)) e = vtt-laws
+lawful (suc (suc (suc k))) e = absurd (known-three k e)
 
 -- what they are by kind
 pub lawful-fit : (kind : ℕ) (e : kindBad kind ≡ false) (s : State) → Fit kind s → lawful kind e .Fit s
 lawful-fit zero e s f = f
 lawful-fit (suc zero) e s f = f
-lawful-fit (suc (suc k)) e s f = absurd (known-two k e)
+lawful-fit (suc (suc zero)) e s f = f
+lawful-fit (suc (suc (suc k))) e s f = absurd (known-three k e)
 
 pub lawful-size : (kind : ℕ) (e : kindBad kind ≡ false) (s : State) → lawful kind e .size s ≡ size s
 lawful-size zero e s = refl
 lawful-size (suc zero) e s = refl
-lawful-size (suc (suc k)) e s = absurd (known-two k e)
+lawful-size (suc (suc zero)) e s = refl
+lawful-size (suc (suc (suc k))) e s = absurd (known-three k e)
 
 pub lawful-pending : (kind : ℕ) (e : kindBad kind ≡ false) (s : State) → lawful kind e .pending s ≤ 1
 lawful-pending zero e s = pending-one (s .block)
 lawful-pending (suc zero) e s = pending-one (s .block)
-lawful-pending (suc (suc k)) e s = absurd (known-two k e)
+lawful-pending (suc (suc zero)) e s = pending-one (s .block)
+lawful-pending (suc (suc (suc k))) e s = absurd (known-three k e)

@@ -2,7 +2,7 @@
 use mathlib.Core.Path.{_≡_, sym, ap, _∙_}
 use mathlib.Core.Bool.{false, _||_}
 use mathlib.Core.List.{List, []}
-use Prim.Native.Nat.{ℕ, _≤_}
+use Prim.Native.Nat.{ℕ, suc, _≤_}
 use native.Mathlib.Omega.{arith}
 use lib.Dec.{ltb}
 use lib.ListN.{length}
@@ -19,7 +19,7 @@ use Rattle.machine.specs.Session.{Session, configBad, countsAbove, foreign}
 use Rattle.machine.proofs.CutLaws.{cut-rest, cut-ends, cut-open, cut-length}
 use Rattle.kinds.specs.Kit.{linesBad, heldBad, columnsBad, kit}
 use Rattle.kinds.proofs.ColumnBounds.{Bounded, good-bounded}
-use Rattle.kinds.proofs.KindLaws.{held-ass, held-srt, Fit}
+use Rattle.kinds.proofs.KindLaws.{held-ass, held-block, Fit}
 
 -- what a kind makes of the columns and of the held bytes
 pub record Holds (kind : ℕ) (c : Columns) (held : List ℕ) : Type 0 where
@@ -49,18 +49,18 @@ module _ (c : Columns) (b : Bounded c) (held : List ℕ) where
         few = omega arith;
       }
 
-  holds-srt : heldBad 1 held ≡ false → Holds 1 c held
-  holds-srt e =
-      let f = sym (held-srt held) ∙ e in
-      let g = or-right (ltb mostBlock (length (concat (closedLines held)))) (linesBad 1 (closedLines held) || ltb mostLine (length (unfinished held))) f in
-      let small = ltb-false mostBlock (length (concat (closedLines held))) (or-left (ltb mostBlock (length (concat (closedLines held)))) (linesBad 1 (closedLines held) || ltb mostLine (length (unfinished held))) f) in
-      let short = ltb-false mostLine (length (unfinished held)) (or-right (linesBad 1 (closedLines held)) (ltb mostLine (length (unfinished held))) g) in
+  holds-block : (j : ℕ) → heldBad (suc j) held ≡ false → Holds (suc j) c held
+  holds-block j e =
+      let f = sym (held-block j held) ∙ e in
+      let g = or-right (ltb mostBlock (length (concat (closedLines held)))) (linesBad (suc j) (closedLines held) || ltb mostLine (length (unfinished held))) f in
+      let small = ltb-false mostBlock (length (concat (closedLines held))) (or-left (ltb mostBlock (length (concat (closedLines held)))) (linesBad (suc j) (closedLines held) || ltb mostLine (length (unfinished held))) f) in
+      let short = ltb-false mostLine (length (unfinished held)) (or-right (linesBad (suc j) (closedLines held)) (ltb mostLine (length (unfinished held))) g) in
       record {
         fit =
             record {
               bounded = b;
               small = small;
-              lines = or-left (linesBad 1 (closedLines held)) (ltb mostLine (length (unfinished held))) g;
+              lines = or-left (linesBad (suc j) (closedLines held)) (ltb mostLine (length (unfinished held))) g;
               block = cut-ends held;
             };
         short = short;
@@ -69,7 +69,7 @@ module _ (c : Columns) (b : Bounded c) (held : List ℕ) where
       }
 
   holds : (kind : ℕ) → kindBad kind ≡ false → heldBad kind held ≡ false → Holds kind c held
-  holds kind k e = by-kind (λ i. heldBad i held ≡ false → Holds i c held) holds-ass holds-srt kind k e
+  holds kind k e = by-kind (λ i. heldBad i held ≡ false → Holds i c held) holds-ass (holds-block 0) (holds-block 1) kind k e
 
 -- what 17 leaves
 pub record Native (s : Session Columns) : Type 0 where

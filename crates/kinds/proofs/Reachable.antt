@@ -12,10 +12,11 @@ use Rattle.text.specs.Line.{concat, lineCount}
 use Rattle.time.specs.Kind.{kindBad}
 use Rattle.time.proofs.Limits.{by-kind}
 use Rattle.event.specs.declared.setting.Config.{Config}
-use Rattle.event.specs.Says.{Part, stays, notUtf8}
+use Rattle.event.specs.Says.{Part, stays, notUtf8, badHeader}
 use Rattle.columns.specs.declared.layout.Columns.{Columns}
 use Rattle.ass.specs.Line.{LineSays, lineSays, faulty as lineFaulty, says as lineSaid}
-use Rattle.timing.specs.Style.{srt, blankIn}
+use Rattle.timing.specs.Style.{styleOf, blankIn}
+use Rattle.timing.specs.Header.{isHeader, headerDue}
 use Rattle.block.specs.Block.{BlockSays, blockSays, faulty as blockFaulty, says as blockSaid}
 use Rattle.machine.specs.Cut.{closedLines}
 use Rattle.machine.specs.Machine.{Says, faulty, says, Run, run}
@@ -26,9 +27,9 @@ use Rattle.machine.proofs.Keeps.{Kept, Going, run-keeps}
 use Rattle.machine.proofs.Native.{text-ok, Ok}
 use Rattle.machine.proofs.Lists.{Inv, live, dead, led}
 use Rattle.machine.proofs.Numbers.{Opened, opened-config}
-use Rattle.kinds.specs.Takes.{State, blankState, ofLine, lineTakes, withBlock, ofBlock, closes, adds, blockTakes, takes, machineOf}
+use Rattle.kinds.specs.Takes.{State, blankState, ofLine, lineTakes, withBlock, ofBlock, closes, adds, blockTakes, headTakes, takes, machineOf}
 use Rattle.kinds.specs.Kit.{kit}
-use Rattle.kinds.proofs.KindLaws.{takes-ass, takes-srt, lawful}
+use Rattle.kinds.proofs.KindLaws.{takes-ass, takes-srt, takes-vtt, lawful}
 
 -- ---- the lines held are lines of the text
 abbrev Few : State → ℕ → Type 0
@@ -50,9 +51,9 @@ block-few : (s : State) (n : ℕ) (more : List Part) (x : BlockSays) → Kept (�
 block-few s n more (blockFaulty f) = tt
 block-few s n more (blockSaid p) = omega arith
 
-closes-few : (s : State) (n : ℕ) (b : List (List ℕ)) (more : List Part) → Kept (λ t. Few t (suc n)) (closes srt s n b more)
-closes-few s n [] more = omega arith
-closes-few s n (k ∷ ks) more = block-few s n more (blockSays srt (suc n - lineCount (k ∷ ks)) (k ∷ ks))
+closes-few : (j : ℕ) (s : State) (n : ℕ) (b : List (List ℕ)) (more : List Part) → Kept (λ t. Few t (suc n)) (closes (styleOf (suc j)) s n b more)
+closes-few j s n [] more = omega arith
+closes-few j s n (k ∷ ks) more = block-few s n more (blockSays (styleOf (suc j)) (suc n - lineCount (k ∷ ks)) (k ∷ ks))
 
 adds-few : (t : Bool) (s : State) (n : ℕ) (l : List ℕ) → Few s n → Kept (λ t. Few t (suc n)) (adds t s l)
 adds-few true s n l h = omega (arith, count-snoc (s .block) l)
@@ -62,17 +63,24 @@ ass-few : (s : State) (n : ℕ) (l : List ℕ) → Few s n → Kept (λ t. Few t
 unfolding lineTakes
 ass-few s n l h = either (Kept (λ t. Few t (suc n))) (utf8 l) (ofLine s (lineSays (s .columns) n l)) (faulty notUtf8) (line-few s n (lineSays (s .columns) n l) h) tt
 
-srt-few : (s : State) (n : ℕ) (l : List ℕ) → Few s n → Kept (λ t. Few t (suc n)) (blockTakes srt s n l)
+srt-few : (j : ℕ) (s : State) (n : ℕ) (l : List ℕ) → Few s n → Kept (λ t. Few t (suc n)) (blockTakes (styleOf (suc j)) s n l)
 unfolding blockTakes
-srt-few s n l h =
+srt-few j s n l h =
     either (Kept (λ t. Few t (suc n))) (utf8 l) _ (faulty notUtf8)
-    (either (Kept (λ t. Few t (suc n))) (blankIn 1 l) _ _ (closes-few s n (s .block) (stays l ∷ [])) (adds-few (leb (length (concat (s .block)) + length l) mostBlock) s n l h)) tt
+    (either (Kept (λ t. Few t (suc n))) (blankIn (suc j) l) _ _ (closes-few j s n (s .block) (stays l ∷ [])) (adds-few (leb (length (concat (s .block)) + length l) mostBlock) s n l h)) tt
+
+head-few : (s : State) (n : ℕ) (l : List ℕ) → Few s n → Kept (λ t. Few t (suc n)) (headTakes s l)
+unfolding headTakes
+head-few s n l h =
+    either (Kept (λ t. Few t (suc n))) (utf8 l) _ (faulty notUtf8)
+    (either (Kept (λ t. Few t (suc n))) (isHeader l) (says s (stays l ∷ [])) (faulty badHeader) (omega arith) tt) tt
 
 takes-few : (kind : ℕ) → kindBad kind ≡ false → (s : State) (n : ℕ) (l : List ℕ) → Few s n → Kept (λ t. Few t (suc n)) (takes kind s n l)
 takes-few kind e =
     by-kind (λ i. (s : State) (n : ℕ) (l : List ℕ) → Few s n → Kept (λ t. Few t (suc n)) (takes i s n l))
     (λ s n l h. subst (Kept (λ t. Few t (suc n))) (sym (takes-ass s n l)) (ass-few s n l h))
-    (λ s n l h. subst (Kept (λ t. Few t (suc n))) (sym (takes-srt s n l)) (srt-few s n l h))
+    (λ s n l h. subst (Kept (λ t. Few t (suc n))) (sym (takes-srt s n l)) (srt-few 0 s n l h))
+    (λ s n l h. subst (Kept (λ t. Few t (suc n))) (sym (takes-vtt s n l)) (either (Kept (λ t. Few t (suc n))) (headerDue 2 n (s .block)) (headTakes s l) _ (head-few s n l h) (srt-few 1 s n l h)))
     kind e
 
 -- ---- sessions

@@ -20,7 +20,7 @@ abbrev pub linesBad : (kind : ℕ) → List (List ℕ) → Bool
 linesBad kind [] = false
 linesBad kind (l ∷ ls) = (blankIn kind l || not (utf8 l)) || linesBad kind ls
 
--- ASS: above 4,096, or with LF. SRT: finished lines above 4,096 together, blank or not UTF-8, or an unfinished one above 4,096
+-- ASS: above 4,096, or with LF. SRT and WebVTT: finished lines above 4,096 together, blank or not UTF-8, or an unfinished one above 4,096
 unfoldable pub heldBad : (kind : ℕ) → (held : List ℕ) → Bool
 heldBad kind held =
     cond (eqb kind 0) (ltb mostLine (length held) || hasLf held)

@@ -1,4 +1,4 @@
--- What a line, and a finish, say in each kind by the text alone: 20, 21, 22 in this order, else the parts. Kind 0 is ASS, 1 SRT.
+-- What a line, and a finish, say in each kind by the text alone: 20, 24 or 21, 22 in this order, else the parts. Kind 0 is ASS, 1 SRT, 2 WebVTT.
 use mathlib.Core.Bool.{Bool, true, false, cond}
 use mathlib.Core.List.{List, [], _∷_, _++_}
 use Prim.Native.Nat.{ℕ, suc, _+_, _-_}
@@ -7,15 +7,16 @@ use lib.ListN.{length}
 use Rattle.base.specs.Limits.{mostBlock}
 use Rattle.utf8.specs.Utf8.{utf8}
 use Rattle.text.specs.Line.{concat, lineCount}
-use Rattle.event.specs.Says.{Part, stays, notUtf8, longBlock}
+use Rattle.event.specs.Says.{Part, stays, notUtf8, longBlock, badHeader}
 use Rattle.columns.specs.declared.layout.Columns.{Columns}
 pub use Rattle.columns.specs.Columns.{noColumns}
 use Rattle.ass.specs.Line.{LineSays, lineSays, faulty as lineFaulty, says as lineSaid}
-use Rattle.timing.specs.Style.{Style, srt}
+use Rattle.timing.specs.Style.{Style, styleOf}
+use Rattle.timing.specs.Header.{isHeader, headerDue}
 use Rattle.block.specs.Block.{BlockSays, blockSays, faulty as blockFaulty, says as blockSaid}
 use Rattle.machine.specs.Machine.{Machine, Says, faulty, says}
 
--- between two lines: the section and the columns of ASS; the lines of SRT's open block, each with its terminator
+-- between two lines: the section and the columns of ASS; the lines of an open block, each with its terminator
 pub record State : Type 0 where
   pub columns : Columns
   pub block : List (List ℕ)
@@ -32,7 +33,7 @@ ofLine s (lineSaid c p) = says (record { columns = c; block = s .block }) (p ∷
 unfoldable pub lineTakes : State → (n : ℕ) → List ℕ → Says State
 lineTakes s n l = cond (utf8 l) (ofLine s (lineSays (s .columns) n l)) (faulty notUtf8)
 
--- ---- SRT: a blank line ends the block
+-- ---- SRT and WebVTT: a blank line ends the block
 abbrev pub withBlock : List (List ℕ) → State → State
 withBlock b s = record { columns = s .columns; block = b }
 
@@ -55,13 +56,22 @@ blockTakes k s n l =
     (cond (k .blank l) (closes k s n (s .block) (stays l ∷ [])) (adds (leb (length (concat (s .block)) + length l) mostBlock) s l))
     (faulty notUtf8)
 
+-- ---- WebVTT: the first line is in no block and stays
+unfoldable pub headTakes : State → List ℕ → Says State
+headTakes s l = cond (utf8 l) (cond (isHeader l) (says s (stays l ∷ [])) (faulty badHeader)) (faulty notUtf8)
+
 -- ---- by kind
 unfoldable pub takes : (kind : ℕ) → State → (n : ℕ) → List ℕ → Says State
-takes kind s n l = cond (eqb kind 0) (lineTakes s n l) (blockTakes srt s n l)
+takes kind s n l =
+    cond (eqb kind 0) (lineTakes s n l)
+    (cond (headerDue kind n (s .block)) (headTakes s l) (blockTakes (styleOf kind) s n l))
 
--- a finish after n lines
+-- a finish after n lines: it ends the open block; a header that never came is 24
+unfoldable pub blockEnds : (kind : ℕ) → State → (n : ℕ) → Says State
+blockEnds kind s n = cond (headerDue kind n (s .block)) (faulty badHeader) (closes (styleOf kind) s n (s .block) [])
+
 unfoldable pub ends : (kind : ℕ) → State → (n : ℕ) → Says State
-ends kind s n = cond (eqb kind 0) (says s []) (closes srt s n (s .block) [])
+ends kind s n = cond (eqb kind 0) (says s []) (blockEnds kind s n)
 
 abbrev pub machineOf : (kind : ℕ) → Machine State
 machineOf kind = record { start = blankState; step = λ s n l. takes kind s n l; close = λ s n. ends kind s n }

@@ -14,7 +14,7 @@ use Rattle.text.specs.Line.{concat, linesOf, lineCount}
 use Rattle.segment.specs.declared.segment.Segment.{Segment}
 use Rattle.segment.specs.Segment.{segmentsOf}
 use Rattle.event.specs.declared.setting.Config.{Config}
-use Rattle.event.specs.Says.{Part, stays, notUtf8}
+use Rattle.event.specs.Says.{Part, stays, notUtf8, badHeader}
 use Rattle.event.specs.Emit.{Emit, emitBy, emitOf, emitsOf, outputOf, warningsOf, placesOf}
 use Rattle.event.specs.Told.{Answer, answered, partIn}
 use Rattle.event.proofs.FineLaws.{Set}
@@ -22,7 +22,8 @@ use Rattle.columns.specs.declared.layout.Columns.{Columns}
 use Rattle.ass.specs.Line.{LineSays, lineSays, faulty as lineFaulty, says as lineSaid}
 use Rattle.ass.specs.Answer.{lineAnswer, lineAnswerIn, lineIn}
 use Rattle.ass.proofs.LineFine.{line-fine}
-use Rattle.timing.specs.Style.{srt}
+use Rattle.timing.specs.Style.{styleOf}
+use Rattle.timing.specs.Header.{isHeader, headerDue}
 use Rattle.block.specs.Block.{BlockSays, blockSays, faulty as blockFaulty, says as blockSaid}
 use Rattle.block.specs.Answer.{blockAnswer, blockAnswerIn, blockIn}
 use Rattle.block.proofs.FineBlock.{block-fine}
@@ -31,12 +32,12 @@ use Rattle.machine.specs.Counts.{countAll}
 use Rattle.machine.specs.Machine.{hasBom, Says, faulty, says, bom, withBom, lineWith, takeLine}
 use Rattle.machine.specs.Session.{emitted}
 use Rattle.machine.proofs.OpenLines.{bom-length}
-use Rattle.kinds.specs.Takes.{State, blankState, withBlock, ofLine, lineTakes, ofBlock, closes, adds, blockTakes, takes, machineOf}
+use Rattle.kinds.specs.Takes.{State, blankState, withBlock, ofLine, lineTakes, ofBlock, closes, adds, blockTakes, headTakes, takes, machineOf}
 use Rattle.lines.specs.declared.telling.Taken.{Taken}
 use Rattle.lines.specs.declared.telling.Ended.{Ended}
-use Rattle.lines.specs.Answer.{strangeIn, emittedIn, partsRefusal, answerIn, lineRefusal, isOpen, takenIn, endIn, stateOf, bomSize, takeIn, EndTells, endedBy, LineTells}
+use Rattle.lines.specs.Answer.{strangeIn, emittedIn, partsRefusal, answerIn, lineRefusal, isOpen, takenIn, textEnds, endIn, stateOf, bomSize, takeIn, EndTells, endedBy, LineTells}
 use Rattle.lines.specs.Done.{Ready, Ample, Parsed, Wrote, Ends, Done}
-use Rattle.lines.proofs.TellLaws.{fault-numbered, strange-rest, strange-none, added-open}
+use Rattle.lines.proofs.TellLaws.{fault-numbered, strange-rest, strange-none, added-open, due-empty}
 use Rattle.lines.proofs.LentLaws.{lent-fine}
 
 -- ---- what is said is decided as document 01 decides it
@@ -81,43 +82,63 @@ module _ (c : Config) (m : List ℕ) where
         go true (lineFaulty f) e = tt
         go true (lineSaid k p) e = part-fine (record { columns = k; block = s .block }) p [] e (none-fine blankState)
 
-    block-same : (first : ℕ) (b : List ℕ) → blockAnswerIn c segments (blockSays srt first (linesOf b)) ≡ blockAnswer c segments (blockSays srt first (linesOf b))
+    block-same : (first : ℕ) (b : List ℕ) → blockAnswerIn c segments (blockSays (styleOf (c .kind)) first (linesOf b)) ≡ blockAnswer c segments (blockSays (styleOf (c .kind)) first (linesOf b))
     unfolding blockIn
     block-same first b =
         rw (le-ltb (3 * length b) (3 * length b) (omega arith)) at (block-fine c set-of m (d .map-good) first b (3 * length b) 4 (omega arith) (omega arith))
 
-    closes-fine : (s : State) (n : ℕ) (b : List ℕ) (more : List Part) → Fine (says (withBlock [] s) more) → Fine (closes srt s n (linesOf b) more)
+    closes-fine : (s : State) (n : ℕ) (b : List ℕ) (more : List Part) → Fine (says (withBlock [] s) more) → Fine (closes (styleOf (c .kind)) s n (linesOf b) more)
     closes-fine s n b more f = go (linesOf b) (block-same (suc n - lineCount (linesOf b)) b)
       where
         said : (y : BlockSays) → blockAnswerIn c segments y ≡ blockAnswer c segments y → Fine (ofBlock s more y)
         said (blockFaulty g) e = tt
         said (blockSaid p) e = part-fine (withBlock [] s) p more e f
 
-        go : (ls : List (List ℕ)) → blockAnswerIn c segments (blockSays srt (suc n - lineCount ls) ls) ≡ blockAnswer c segments (blockSays srt (suc n - lineCount ls) ls)
-            → Fine (closes srt s n ls more)
+        go : (ls : List (List ℕ)) → blockAnswerIn c segments (blockSays (styleOf (c .kind)) (suc n - lineCount ls) ls) ≡ blockAnswer c segments (blockSays (styleOf (c .kind)) (suc n - lineCount ls) ls)
+            → Fine (closes (styleOf (c .kind)) s n ls more)
         go [] e = f
-        go (x ∷ ls) e = said (blockSays srt (suc n - lineCount (x ∷ ls)) (x ∷ ls)) e
+        go (x ∷ ls) e = said (blockSays (styleOf (c .kind)) (suc n - lineCount (x ∷ ls)) (x ∷ ls)) e
 
-    srt-fine : (k : Columns) (b : List ℕ) (n : ℕ) (l : List ℕ) → Fine (blockTakes srt (record { columns = k; block = linesOf b }) n l)
+    srt-fine : (k : Columns) (b : List ℕ) (n : ℕ) (l : List ℕ) → Fine (blockTakes (styleOf (c .kind)) (record { columns = k; block = linesOf b }) n l)
     unfolding blockTakes
-    srt-fine k b n l = go (utf8 l) (srt .blank l) (leb (length (concat (linesOf b)) + length l) mostBlock)
+    srt-fine k b n l = go (utf8 l) (styleOf (c .kind) .blank l) (leb (length (concat (linesOf b)) + length l) mostBlock)
       where
         s : State
         s = record { columns = k; block = linesOf b }
 
-        go : (u v short : Bool) → Fine (cond u (cond v (closes srt s n (linesOf b) (stays l ∷ [])) (adds short s l)) (faulty notUtf8))
+        go : (u v short : Bool) → Fine (cond u (cond v (closes (styleOf (c .kind)) s n (linesOf b) (stays l ∷ [])) (adds short s l)) (faulty notUtf8))
         go false v short = tt
         go true true short = closes-fine s n b (stays l ∷ []) (stays-fine (withBlock [] s) l [] (none-fine blankState))
         go true false true = none-fine blankState
         go true false false = tt
 
+    head-fine : (s : State) (l : List ℕ) → Fine (headTakes s l)
+    unfolding headTakes
+    head-fine s l = go (utf8 l) (isHeader l)
+      where
+        go : (u v : Bool) → Fine (cond u (cond v (says s (stays l ∷ [])) (faulty badHeader)) (faulty notUtf8))
+        go false v = tt
+        go true true = stays-fine s l [] (none-fine blankState)
+        go true false = tt
+
     takes-fine : (k : Columns) (b : List ℕ) (n : ℕ) (l : List ℕ) → Fine (takes (c .kind) (stateOf (c .kind) k b) n l)
     unfolding takes
     takes-fine k b n l = go (eqb (c .kind) 0)
       where
-        go : (a : Bool) → Fine (cond a (lineTakes (record { columns = k; block = cond a [] (linesOf b) }) n l) (blockTakes srt (record { columns = k; block = cond a [] (linesOf b) }) n l))
+        block : (y : Bool) → Fine (cond y (headTakes (record { columns = k; block = linesOf b }) l) (blockTakes (styleOf (c .kind)) (record { columns = k; block = linesOf b }) n l))
+        block true = head-fine (record { columns = k; block = linesOf b }) l
+        block false = srt-fine k b n l
+
+        go : (a : Bool) → Fine (cond a (lineTakes (record { columns = k; block = cond a [] (linesOf b) }) n l) (cond (headerDue (c .kind) n (cond a [] (linesOf b))) (headTakes (record { columns = k; block = cond a [] (linesOf b) }) l) (blockTakes (styleOf (c .kind)) (record { columns = k; block = cond a [] (linesOf b) }) n l)))
         go true = ass-fine (record { columns = k; block = [] }) n l
-        go false = srt-fine k b n l
+        go false = block (headerDue (c .kind) n (linesOf b))
+
+    pub ends-fine : (n : ℕ) (b : List ℕ) → Fine (textEnds (c .kind) n (linesOf b))
+    ends-fine n b = go (headerDue (c .kind) n (linesOf b))
+      where
+        go : (z : Bool) → Fine (cond z (faulty badHeader) (closes (styleOf (c .kind)) blankState n (linesOf b) []))
+        go true = tt
+        go false = closes-fine blankState n b [] (none-fine blankState)
 
     bom-fine : (x : Says State) → Fine x → Fine (withBom x)
     bom-fine (faulty f) g = tt
@@ -147,23 +168,32 @@ ass-opens k n l = go (utf8 l) (lineSays k n l)
     go true (lineFaulty f) = tt
     go true (lineSaid e p) = refl
 
-closes-opens : (s : State) (n : ℕ) (v : List ℕ) (ls : List (List ℕ)) (more : List Part) → Opens s v (closes srt s n ls more)
-closes-opens s n v [] more = refl
-closes-opens s n v (x ∷ ls) more = go (blockSays srt (suc n - lineCount (x ∷ ls)) (x ∷ ls))
+closes-opens : (y : ℕ) (s : State) (n : ℕ) (v : List ℕ) (ls : List (List ℕ)) (more : List Part) → Opens s v (closes (styleOf y) s n ls more)
+closes-opens y s n v [] more = refl
+closes-opens y s n v (x ∷ ls) more = go (blockSays (styleOf y) (suc n - lineCount (x ∷ ls)) (x ∷ ls))
   where
     go : (y : BlockSays) → Opens s v (ofBlock s more y)
     go (blockFaulty f) = tt
     go (blockSaid p) = refl
 
-srt-opens : (s : State) (n : ℕ) (l : List ℕ) → Opens s l (blockTakes srt s n l)
+srt-opens : (y : ℕ) (s : State) (n : ℕ) (l : List ℕ) → Opens s l (blockTakes (styleOf y) s n l)
 unfolding blockTakes
-srt-opens s n l = go (utf8 l) (srt .blank l) (leb (length (concat (s .block)) + length l) mostBlock)
+srt-opens y s n l = go (utf8 l) (styleOf y .blank l) (leb (length (concat (s .block)) + length l) mostBlock)
   where
-    go : (u v short : Bool) → Opens s l (cond u (cond v (closes srt s n (s .block) (stays l ∷ [])) (adds short s l)) (faulty notUtf8))
+    go : (u v short : Bool) → Opens s l (cond u (cond v (closes (styleOf y) s n (s .block) (stays l ∷ [])) (adds short s l)) (faulty notUtf8))
     go false v short = tt
-    go true true short = closes-opens s n l (s .block) (stays l ∷ [])
+    go true true short = closes-opens y s n l (s .block) (stays l ∷ [])
     go true false true = rw (added-open l (s .block))
     go true false false = tt
+
+head-opens : (s : State) (l : List ℕ) → s .block ≡ [] → Opens s l (headTakes s l)
+unfolding headTakes
+head-opens s l e = go (utf8 l) (isHeader l)
+  where
+    go : (u v : Bool) → Opens s l (cond u (cond v (says s (stays l ∷ [])) (faulty badHeader)) (faulty notUtf8))
+    go false v = tt
+    go true true = rw e
+    go true false = tt
 
 takes-opens : (kind : ℕ) (k : Columns) (b : List ℕ) (n : ℕ) (l : List ℕ) → Opens (stateOf kind k b) l (takes kind (stateOf kind k b) n l)
 unfolding takes
@@ -172,9 +202,13 @@ takes-opens kind k b n l = go (eqb kind 0)
     s : Bool → State
     s a = record { columns = k; block = cond a [] (linesOf b) }
 
-    go : (a : Bool) → Opens (s a) l (cond a (lineTakes (s a) n l) (blockTakes srt (s a) n l))
+    block : (z : Bool) → headerDue kind n (linesOf b) ≡ z → Opens (s false) l (cond z (headTakes (s false) l) (blockTakes (styleOf kind) (s false) n l))
+    block true e = head-opens (s false) l (due-empty kind n (linesOf b) e)
+    block false e = srt-opens kind (s false) n l
+
+    go : (a : Bool) → Opens (s a) l (cond a (lineTakes (s a) n l) (cond (headerDue kind n (s a .block)) (headTakes (s a) l) (blockTakes (styleOf kind) (s a) n l)))
     go true = ass-opens k n l
-    go false = srt-opens (s false) n l
+    go false = block (headerDue kind n (linesOf b)) refl
 
 bom-opens : (s : State) (v : List ℕ) (x : Says State) → Opens s v x → Opens s v (withBom x)
 bom-opens s v (faulty f) g = tt
@@ -238,10 +272,10 @@ module _ (c : Config) (m : List ℕ) (t : Counts) (o o′ w w′ : List ℕ) whe
 
 -- ---- the end of a block
 pub end-done : (c : Config) (m : List ℕ) (n : ℕ) (t : Counts) (b : List ℕ) (r : Ended) (o o′ w w′ : List ℕ) → Ready c m → Ample t (length b) (length o) (length w)
-    → EndTells (endIn c (segmentsOf m) n t b (length o) (length w)) t r o o′ w w′ → Ends c m (closes srt blankState n (linesOf b) []) t r o o′ w w′
+    → EndTells (endIn c (segmentsOf m) n t b (length o) (length w)) t r o o′ w w′ → Ends c m (textEnds (c .kind) n (linesOf b)) t r o o′ w w′
 unfolding endIn
 end-done c m n t b r o o′ w w′ d g h =
-    ends-of c m t o o′ w w′ (closes srt blankState n (linesOf b) []) r (closes-fine c m d blankState n b [] (none-fine c m blankState))
+    ends-of c m t o o′ w w′ (textEnds (c .kind) n (linesOf b)) r (ends-fine c m d n b)
     (rw (lent-fine t (length b) (length o) (length w) g) at h)
 
 -- ---- a line

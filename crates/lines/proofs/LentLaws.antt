@@ -12,7 +12,8 @@ use Rattle.text.specs.Line.{linesOf}
 use Rattle.segment.specs.declared.segment.Segment.{Segment}
 use Rattle.event.specs.declared.setting.Config.{Config}
 use Rattle.columns.specs.declared.layout.Columns.{Columns}
-use Rattle.timing.specs.Style.{srt}
+use Rattle.timing.specs.Style.{styleOf}
+use Rattle.timing.specs.Header.{headerDue}
 use Rattle.machine.specs.declared.counting.Counts.{Counts}
 use Rattle.machine.specs.Machine.{takeLine}
 use Rattle.machine.specs.Session.{countsAbove}
@@ -77,9 +78,19 @@ module _ (c : Config) (m : List Segment) (n : ℕ) (t : Counts) where
     unfolding endIn
     end-16 f q = let g : lentBad t (length b) (length o) (length w) ≡ true = sym e ∙ f in rw g (end-refused t 16 r o w q)
 
-    pub end-lent : v ≡ false → EndTells (answerIn c m (closes srt blankState n (linesOf b) [])) t r o o′ w w′ → EndTells (endIn c m n t b (length o) (length w)) t r o o′ w w′
+    pub end-24 : v ≡ false → (d : Bool) → d ≡ headerDue (c .kind) n (linesOf b) → d ≡ true → r ≡ quietEnd 24 t → EndTells (endIn c m n t b (length o) (length w)) t r o o w w
     unfolding endIn
-    end-lent f q = let g : lentBad t (length b) (length o) (length w) ≡ false = sym e ∙ f in rw g q
+    end-24 f d ed y q =
+        let g : lentBad t (length b) (length o) (length w) ≡ false = sym e ∙ f in
+        let z : headerDue (c .kind) n (linesOf b) ≡ true = sym ed ∙ y in
+        rw (g, z) (end-refused t 24 r o w q)
+
+    pub end-lent : v ≡ false → (d : Bool) → d ≡ headerDue (c .kind) n (linesOf b) → d ≡ false → EndTells (answerIn c m (closes (styleOf (c .kind)) blankState n (linesOf b) [])) t r o o′ w w′ → EndTells (endIn c m n t b (length o) (length w)) t r o o′ w w′
+    unfolding endIn
+    end-lent f d ed y q =
+        let g : lentBad t (length b) (length o) (length w) ≡ false = sym e ∙ f in
+        let z : headerDue (c .kind) n (linesOf b) ≡ false = sym ed ∙ y in
+        rw (g, z) q
 
   module _ (k : Columns) (held : List ℕ) (s : ℕ) (r : Taken) (o o′ w w′ : List ℕ) where
     pub line-past : length held < s → r ≡ quietLine 16 false t k → LineTells (takeIn c m n t k held s (length o) (length w)) t r o o w w

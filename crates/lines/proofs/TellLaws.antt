@@ -1,8 +1,8 @@
 -- Laws of one line and of a block's end: what the code told is what was said, put through the map.
 use mathlib.Core.Path.{_≡_, refl, sym, ap, subst, _∙_}
-use mathlib.Core.Bool.{Bool, true, false, cond, _||_, not}
+use mathlib.Core.Bool.{true≢false, Bool, true, false, cond, _||_, not, _&&_}
 use mathlib.Core.List.{List, [], _∷_, _++_, append-nil}
-use Prim.Native.Nat.{ℕ, suc, _+_, _-_, _*_, _≤_, _<_}
+use Prim.Native.Nat.{ℕ, zero, suc, _+_, _-_, _*_, _≤_, _<_}
 use native.Mathlib.Omega.{arith}
 use native.Mathlib.Numerals.{add-one}
 use lib.Dec.{eqb}
@@ -30,7 +30,8 @@ use Rattle.columns.specs.declared.layout.Columns.{Columns}
 use Rattle.ass.specs.Line.{LineSays, lineSays, faulty as lineFaulty, says as lineSaid}
 use Rattle.ass.specs.Answer.{lineAnswerIn, lineIn, columnsNext, columnsAfter}
 use Rattle.ass.proofs.LineFine.{columns-fine}
-use Rattle.timing.specs.Style.{srt, blankIn}
+use Rattle.timing.specs.Style.{styleOf, blankIn}
+use Rattle.timing.specs.Header.{isHeader, nothingYet, headerDue}
 use Rattle.block.specs.Block.{BlockSays, blockSays, faulty as blockFaulty, says as blockSaid}
 use Rattle.block.specs.Answer.{blockAnswerIn, blockIn}
 use Rattle.block.proofs.Fits.{block-in-fits}
@@ -39,7 +40,7 @@ use Rattle.machine.specs.Counts.{count, countAll}
 use Rattle.machine.specs.Machine.{Says, faulty, says}
 use Rattle.machine.proofs.Emits.{output-append, warnings-append, count-append}
 use Rattle.machine.proofs.Resume.{fault-number}
-use Rattle.kinds.specs.Takes.{State, blankState, ofLine, lineTakes, ofBlock, closes, blockTakes, takes}
+use Rattle.kinds.specs.Takes.{State, blankState, ofLine, lineTakes, ofBlock, closes, blockTakes, headTakes, takes}
 use Rattle.lines.specs.declared.telling.Taken.{Taken}
 use Rattle.lines.specs.declared.telling.Ended.{Ended}
 use Rattle.lines.specs.Answer.{strangeIn, emittedIn, PartsAnswer, partsRefusal, answerIn, lineRefusal, isOpen, takenIn, stateOf, EndTells, LineTells}
@@ -108,6 +109,17 @@ told-within a t r o o′ w w′ h p q =
 
 pub still-small : (r : Ended) (k : ℕ) (t : Counts) (x : ℕ) → r ≡ quietEnd k t → r .written ≤ x
 still-small r k t x e = rw e (omega arith)
+
+pub due-empty : (kind n : ℕ) (b : List (List ℕ)) → headerDue kind n b ≡ true → b ≡ []
+unfolding headerDue
+due-empty kind n [] e = refl
+due-empty kind n (l ∷ ls) e = absurd (true≢false (sym e ∙ never n (eqb kind 2)))
+  where
+    never : (n : ℕ) (t : Bool) → (t && nothingYet n (l ∷ ls)) ≡ false
+    never zero true = refl
+    never zero false = refl
+    never (suc n) true = refl
+    never (suc n) false = refl
 
 -- ---- a refusal
 pub fault-numbered : (f : Fault) → faultNumber f ≡ 0 → ⊥
@@ -245,7 +257,7 @@ module _ (c : Config) (m : List Segment) where
   -- ---- the end of a block
   module _ (n : ℕ) (t : Counts) (b : List ℕ) where
     abbrev pub BlockTells : Ended → (o o′ w w′ : List ℕ) → Type 0
-    BlockTells r o o′ w w′ = EndTells (answerIn c m (closes srt blankState n (linesOf b) [])) t r o o′ w w′
+    BlockTells r o o′ w w′ = EndTells (answerIn c m (closes (styleOf (c .kind)) blankState n (linesOf b) [])) t r o o′ w w′
 
     pub end-empty : (r : Ended) (o w : List ℕ) → length b ≡ 0 → r ≡ quietEnd 0 t → BlockTells r o o w w
     unfolding emittedIn
@@ -253,7 +265,7 @@ module _ (c : Config) (m : List Segment) where
 
     -- a block that has a line is read
     closes-some : (s : State) (more : List Part) → 0 < length b
-        → closes srt s n (linesOf b) more ≡ ofBlock s more (blockSays srt (suc n - lineCount (linesOf b)) (linesOf b))
+        → closes (styleOf (c .kind)) s n (linesOf b) more ≡ ofBlock s more (blockSays (styleOf (c .kind)) (suc n - lineCount (linesOf b)) (linesOf b))
     closes-some s more h = rw (lines-cut b h)
 
     block-fault : (y : BlockSays) (x : Told) (o o′ w w′ : List ℕ) → Tells (blockAnswerIn c m y) x o o′ w w′ → (x .number ≡ 0 → ⊥)
@@ -271,22 +283,22 @@ module _ (c : Config) (m : List Segment) where
       long : 0 < length b
       long = omega (arith, some)
 
-      block-room : blockIn c m first b (length o) (length w) ≡ blockAnswerIn c m (blockSays srt (suc n - lineCount (linesOf b)) (linesOf b))
+      block-room : blockIn c m first b (length o) (length w) ≡ blockAnswerIn c m (blockSays (styleOf (c .kind)) (suc n - lineCount (linesOf b)) (linesOf b))
       unfolding blockIn
       block-room =
-          rw (le-ltb (length o) (3 * length b) h, le-ltb (length w) 2 (omega arith))
-          (ap (λ (j : ℕ). blockAnswerIn c m (blockSays srt j (linesOf b))) (f ∙ ap (λ (j : ℕ). suc n - j) e))
+          rw (le-ltb (length o) (3 * length b) h, le-ltb (length w) 4 (omega arith))
+          (ap (λ (j : ℕ). blockAnswerIn c m (blockSays (styleOf (c .kind)) j (linesOf b))) (f ∙ ap (λ (j : ℕ). suc n - j) e))
 
-      read : Tells (blockAnswerIn c m (blockSays srt (suc n - lineCount (linesOf b)) (linesOf b))) x o o′ w w′
+      read : Tells (blockAnswerIn c m (blockSays (styleOf (c .kind)) (suc n - lineCount (linesOf b)) (linesOf b))) x o o′ w w′
       read = subst (λ (y : Answer). Tells y x o o′ w w′) block-room g
 
       pub end-fault : (r : Ended) → (x .number ≡ 0 → ⊥) → r ≡ quietEnd (x .number) t → BlockTells r o o′ w w′
       end-fault r z v =
-          rw (closes-some blankState [] long, v) (block-fault (blockSays srt (suc n - lineCount (linesOf b)) (linesOf b)) x o o′ w w′ read z)
+          rw (closes-some blankState [] long, v) (block-fault (blockSays (styleOf (c .kind)) (suc n - lineCount (linesOf b)) (linesOf b)) x o o′ w w′ read z)
 
       pub end-said : (q : Counts) → x .number ≡ 0 → q ≡ countBy (x .counted) t → BlockTells (record { number = 0; counts = q; written = x .written; warned = x .warned }) o o′ w w′
       end-said q z v =
-          rw (closes-some blankState [] long) (block-said (blockSays srt (suc n - lineCount (linesOf b)) (linesOf b)) x q o o′ w w′ read z v)
+          rw (closes-some blankState [] long) (block-said (blockSays (styleOf (c .kind)) (suc n - lineCount (linesOf b)) (linesOf b)) x q o o′ w w′ read z v)
 
     -- at most three bytes for each of the block
     pub end-fits : (x : Told) (first : ℕ) (o o′ w w′ : List ℕ) → Tells (blockIn c m first b (length o) (length w)) x o o′ w w′ → x .written ≤ 3 * length b
@@ -327,7 +339,7 @@ module _ (c : Config) (m : List Segment) where
     holding = record { columns = k; block = linesOf block }
 
     abbrev pub SrtTells : Taken → (o o′ w w′ : List ℕ) → Type 0
-    SrtTells r o o′ w w′ = LineTells (takenIn c m k 0 (blockTakes srt holding n l)) t r o o′ w w′
+    SrtTells r o o′ w w′ = LineTells (takenIn c m k 0 (blockTakes (styleOf (c .kind)) holding n l)) t r o o′ w w′
 
     pub srt-20 : (r : Taken) (o w : List ℕ) → utf8 l ≡ false → r ≡ quietLine 20 false t k → SrtTells r o o w w
     unfolding blockTakes
@@ -361,55 +373,78 @@ module _ (c : Config) (m : List Segment) where
                 added = ap isOpen (sym v);
               }
 
-    module _ (e : Ended) (o o′ w w′ : List ℕ) (ls : List (List ℕ)) (b : EndTells (answerIn c m (closes srt blankState n ls [])) t e o o′ w w′) where
-      blank-fault : (r : Taken) → (e .number ≡ 0 → ⊥) → r ≡ quietLine (e .number) false t k → LineTells (takenIn c m k 0 (closes srt holding n ls (stays l ∷ []))) t r o o′ w w′
+    module _ (e : Ended) (o o′ w w′ : List ℕ) (ls : List (List ℕ)) (b : EndTells (answerIn c m (closes (styleOf (c .kind)) blankState n ls [])) t e o o′ w w′) where
+      blank-fault : (r : Taken) → (e .number ≡ 0 → ⊥) → r ≡ quietLine (e .number) false t k → LineTells (takenIn c m k 0 (closes (styleOf (c .kind)) holding n ls (stays l ∷ []))) t r o o′ w w′
       blank-fault r z q = go ls b
         where
           said : (x : BlockSays) → EndTells (answerIn c m (ofBlock blankState [] x)) t e o o′ w w′ → LineTells (takenIn c m k 0 (ofBlock holding (stays l ∷ []) x)) t r o o′ w w′
           said (blockFaulty f) b = line-of t (faultNumber f) k (e .number) r o o′ w w′ (end-none-written t (faultNumber f) e o o′ w w′ b) q
           said (blockSaid p) b = parts-fault e o o′ w w′ (p ∷ []) (record { columns = k; block = [] }) r b z q
 
-          go : (ls : List (List ℕ)) → EndTells (answerIn c m (closes srt blankState n ls [])) t e o o′ w w′ → LineTells (takenIn c m k 0 (closes srt holding n ls (stays l ∷ []))) t r o o′ w w′
+          go : (ls : List (List ℕ)) → EndTells (answerIn c m (closes (styleOf (c .kind)) blankState n ls [])) t e o o′ w w′ → LineTells (takenIn c m k 0 (closes (styleOf (c .kind)) holding n ls (stays l ∷ []))) t r o o′ w w′
           go [] b = parts-fault e o o′ w w′ [] (record { columns = k; block = [] }) r b z q
-          go (v ∷ ls) b = said (blockSays srt (suc n - lineCount (v ∷ ls)) (v ∷ ls)) b
+          go (v ∷ ls) b = said (blockSays (styleOf (c .kind)) (suc n - lineCount (v ∷ ls)) (v ∷ ls)) b
 
       blank-said : (j : ℕ) (y : List ℕ) → e .number ≡ 0 → e .written + length l ≤ length o → j ≡ placeAfter (e .written) l o′ → y ≡ placedAt (e .written) l o′
-          → LineTells (takenIn c m k 0 (closes srt holding n ls (stays l ∷ []))) t (blankLine k e j) o y w w′
+          → LineTells (takenIn c m k 0 (closes (styleOf (c .kind)) holding n ls (stays l ∷ []))) t (blankLine k e j) o y w w′
       blank-said j y z i p q = go ls b
         where
           said : (x : BlockSays) → EndTells (answerIn c m (ofBlock blankState [] x)) t e o o′ w w′ → LineTells (takenIn c m k 0 (ofBlock holding (stays l ∷ []) x)) t (blankLine k e j) o y w w′
           said (blockFaulty f) b = absurd (fault-numbered f (sym (b .number) ∙ z))
           said (blockSaid u) b = parts-said e o o′ w w′ (u ∷ []) (record { columns = k; block = [] }) j y b z refl refl i p q
 
-          go : (ls : List (List ℕ)) → EndTells (answerIn c m (closes srt blankState n ls [])) t e o o′ w w′ → LineTells (takenIn c m k 0 (closes srt holding n ls (stays l ∷ []))) t (blankLine k e j) o y w w′
+          go : (ls : List (List ℕ)) → EndTells (answerIn c m (closes (styleOf (c .kind)) blankState n ls [])) t e o o′ w w′ → LineTells (takenIn c m k 0 (closes (styleOf (c .kind)) holding n ls (stays l ∷ []))) t (blankLine k e j) o y w w′
           go [] b = parts-said e o o′ w w′ [] (record { columns = k; block = [] }) j y b z refl refl i p q
-          go (v ∷ ls) b = said (blockSays srt (suc n - lineCount (v ∷ ls)) (v ∷ ls)) b
+          go (v ∷ ls) b = said (blockSays (styleOf (c .kind)) (suc n - lineCount (v ∷ ls)) (v ∷ ls)) b
 
-    pub srt-22 : (e : Ended) (r : Taken) (o o′ w w′ : List ℕ) → utf8 l ≡ true → blankIn 1 l ≡ true → BlockTells n t block e o o′ w w′ → (e .number ≡ 0 → ⊥)
+    pub srt-22 : (e : Ended) (r : Taken) (o o′ w w′ : List ℕ) → utf8 l ≡ true → blankIn (c .kind) l ≡ true → BlockTells n t block e o o′ w w′ → (e .number ≡ 0 → ⊥)
         → r ≡ quietLine (e .number) false t k → SrtTells r o o′ w w′
     unfolding blockTakes
     srt-22 e r o o′ w w′ h i g z q = rw (h, i) (blank-fault e o o′ w w′ (linesOf block) g r z q)
 
-    pub srt-blank : (e : Ended) (j : ℕ) (r : Taken) (o o′ y w w′ : List ℕ) → utf8 l ≡ true → blankIn 1 l ≡ true → BlockTells n t block e o o′ w w′ → e .number ≡ 0
+    pub srt-blank : (e : Ended) (j : ℕ) (r : Taken) (o o′ y w w′ : List ℕ) → utf8 l ≡ true → blankIn (c .kind) l ≡ true → BlockTells n t block e o o′ w w′ → e .number ≡ 0
         → 3 * (length block + length l) ≤ length o → e .written ≤ 3 * length block → j ≡ placeAfter (e .written) l o′ → y ≡ placedAt (e .written) l o′
         → r ≡ blankLine k e j → SrtTells r o y w w′
     unfolding blockTakes
     srt-blank e j r o o′ y w w′ h i g z room f p q d = rw (h, i, d) (blank-said e o o′ w w′ (linesOf block) g j y z (omega arith) p q)
 
-    pub srt-21 : (r : Taken) (o w : List ℕ) → utf8 l ≡ true → blankIn 1 l ≡ false → 4096 < length block + length l → r ≡ quietLine 21 false t k → SrtTells r o o w w
+    pub srt-21 : (r : Taken) (o w : List ℕ) → utf8 l ≡ true → blankIn (c .kind) l ≡ false → 4096 < length block + length l → r ≡ quietLine 21 false t k → SrtTells r o o w w
     unfolding blockTakes
     srt-21 r o w h i z e =
         let y : mostBlock < length (concat (linesOf block)) + length l = rw lines-joined z in
         rw (h, i, lt-leb _ _ y) (line-refused t 21 k r o w e)
 
-    pub srt-add : (r : Taken) (o w : List ℕ) → utf8 l ≡ true → blankIn 1 l ≡ false → length block + length l ≤ 4096 → r ≡ quietLine 0 true t k → SrtTells r o o w w
+    pub srt-add : (r : Taken) (o w : List ℕ) → utf8 l ≡ true → blankIn (c .kind) l ≡ false → length block + length l ≤ 4096 → r ≡ quietLine 0 true t k → SrtTells r o o w w
     unfolding blockTakes emittedIn
     srt-add r o w h i z e =
         let y : length (concat (linesOf block)) + length l ≤ mostBlock = rw lines-joined z in
         rw (h, i, le-leb _ _ y, strange-none, e)
         (record { said = end-refused t 0 (quietEnd 0 t) o w refl; columns = refl; skip = refl; added = sym (added-open l (linesOf block)) })
 
-  -- ---- a line of either kind
+  -- ---- the first line of a WebVTT text
+  module _ (t : Counts) (k : Columns) (l : List ℕ) where
+    abbrev bare : State
+    bare = record { columns = k; block = [] }
+
+    abbrev pub HeadTells : Taken → (o o′ w w′ : List ℕ) → Type 0
+    HeadTells r o o′ w w′ = LineTells (takenIn c m k 0 (headTakes bare l)) t r o o′ w w′
+
+    pub head-20 : (r : Taken) (o w : List ℕ) → utf8 l ≡ false → r ≡ quietLine 20 false t k → HeadTells r o o w w
+    unfolding headTakes
+    head-20 r o w h e = rw h (line-refused t 20 k r o w e)
+
+    pub head-24 : (r : Taken) (o w : List ℕ) → utf8 l ≡ true → isHeader l ≡ false → r ≡ quietLine 24 false t k → HeadTells r o o w w
+    unfolding headTakes
+    head-24 r o w h i e = rw (h, i) (line-refused t 24 k r o w e)
+
+    pub head-said : (e : Ended) (j : ℕ) (r : Taken) (o y w : List ℕ) → utf8 l ≡ true → isHeader l ≡ true → 3 * length l ≤ length o → e ≡ quietEnd 0 t → j ≡ placeAfter 0 l o → y ≡ placedAt 0 l o
+        → r ≡ blankLine k e j → HeadTells r o y w w
+    unfolding headTakes emittedIn
+    head-said e j r o y w h i room q p v d =
+        rw (h, i, d, q)
+        (parts-said 0 t k [] l (quietEnd 0 t) o o w w [] bare j y (rw strange-none (end-refused t 0 (quietEnd 0 t) o w refl)) refl refl refl (omega arith) p v)
+
+  -- ---- a line of any kind
   module _ (n : ℕ) (t : Counts) (k : Columns) (held : List ℕ) (s a : ℕ) where
     abbrev pub AnyTells : Taken → (o o′ w w′ : List ℕ) → Type 0
     AnyTells r o o′ w w′ = LineTells (takenIn c m k 0 (takes (c .kind) (stateOf (c .kind) k (take s held)) n (drop a held))) t r o o′ w w′
@@ -418,6 +453,13 @@ module _ (c : Config) (m : List Segment) where
     unfolding takes
     any-ass r l o o′ w w′ z e g = rw (eq-eqb (c .kind) 0 z, ← e) g
 
-    pub any-srt : (r : Taken) (b l o o′ w w′ : List ℕ) → (c .kind ≡ 0 → ⊥) → b ≡ take s held → l ≡ drop a held → SrtTells n t k b l r o o′ w w′ → AnyTells r o o′ w w′
+    pub any-srt : (r : Taken) (b l o o′ w w′ : List ℕ) → (c .kind ≡ 0 → ⊥) → b ≡ take s held → l ≡ drop a held → headerDue (c .kind) n (linesOf b) ≡ false
+        → SrtTells n t k b l r o o′ w w′ → AnyTells r o o′ w w′
     unfolding takes
-    any-srt r b l o o′ w w′ z d e g = rw (ne-eqb (c .kind) 0 z, ← d, ← e) g
+    any-srt r b l o o′ w w′ z d e y g = rw (ne-eqb (c .kind) 0 z, ← d, ← e, y) g
+
+    -- no line is held where a header is due
+    pub any-head : (r : Taken) (b l o o′ w w′ : List ℕ) → (c .kind ≡ 0 → ⊥) → b ≡ take s held → l ≡ drop a held → headerDue (c .kind) n (linesOf b) ≡ true
+        → HeadTells t k l r o o′ w w′ → AnyTells r o o′ w w′
+    unfolding takes
+    any-head r b l o o′ w w′ z d e y g = rw (ne-eqb (c .kind) 0 z, ← d, ← e, y, due-empty (c .kind) n (linesOf b) y) g

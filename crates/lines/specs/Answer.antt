@@ -9,11 +9,12 @@ use Rattle.base.specs.Put.{put}
 use Rattle.text.specs.Line.{linesOf}
 use Rattle.segment.specs.declared.segment.Segment.{Segment}
 use Rattle.event.specs.declared.setting.Config.{Config}
-use Rattle.event.specs.Says.{Part, faultNumber}
+use Rattle.event.specs.Says.{Part, badHeader, faultNumber}
 use Rattle.event.specs.Emit.{Emit, outputOf, warningsOf, placesOf}
 use Rattle.event.specs.Told.{partIn}
 use Rattle.columns.specs.declared.layout.Columns.{Columns}
-use Rattle.timing.specs.Style.{srt}
+use Rattle.timing.specs.Style.{styleOf}
+use Rattle.timing.specs.Header.{headerDue}
 use Rattle.machine.specs.declared.counting.Counts.{Counts}
 use Rattle.machine.specs.Counts.{countAll}
 use Rattle.machine.specs.Machine.{hasBom, Says, faulty, says, takeLine}
@@ -75,14 +76,18 @@ mostCount = 2 ^ 31
 unfoldable pub lentBad : Counts → (k room places : ℕ) → Bool
 lentBad t k room places = ltb room (3 * k) || (ltb places 4 || countsAbove mostCount t)
 
--- ---- the end of a block of SRT: its lines, with the bytes b, end with the n-th line of the text
+-- a header that never came, or the end of the open block
+abbrev pub textEnds : (kind n : ℕ) → (block : List (List ℕ)) → Says State
+textEnds kind n b = cond (headerDue kind n b) (faulty badHeader) (closes (styleOf kind) blankState n b [])
+
+-- ---- the end of a text of blocks: the open block's lines, with the bytes b, end with the n-th line of the text
 unfoldable pub endIn : Config → List Segment → (n : ℕ) → Counts → (b : List ℕ) → (room places : ℕ) → PartsAnswer
 endIn c m n t b room places =
     cond (lentBad t (length b) room places) (partsRefusal 16)
-    (answerIn c m (closes srt blankState n (linesOf b) []))
+    (answerIn c m (textEnds (c .kind) n (linesOf b)))
 
 -- ---- a line
--- what is known before it: the columns, and in SRT the lines of the open block, with the bytes b
+-- what is known before it: the columns, and in SRT and WebVTT the lines of the open block, with the bytes b
 abbrev pub stateOf : (kind : ℕ) → Columns → (b : List ℕ) → State
 stateOf kind k b = record { columns = k; block = cond (eqb kind 0) [] (linesOf b) }
 

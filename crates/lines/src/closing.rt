@@ -1,4 +1,4 @@
-// The end of a block of SRT.
+// The end of a block, and of a text of blocks.
 use crate::telling::Ended;
 use crate::telling::count;
 use crate::telling::lent_bad;
@@ -11,7 +11,7 @@ ghost use Prim.Native.Nat.{_≤_, _<_, _-_, _*_, suc};
 ghost use lib.ListN.{length};
 ghost use Rattle.text.specs.Line.{linesOf, lineCount};
 ghost use Rattle.segment.specs.Segment.{segmentsOf};
-ghost use Rattle.timing.specs.Style.{srt};
+ghost use Rattle.timing.specs.Style.{styleOf};
 ghost use Rattle.kinds.specs.Takes.{blankState, closes};
 ghost use Rattle.lines.specs.Answer.{answerIn, endIn, EndTells};
 ghost use Rattle.lines.specs.Done.{Ample};
@@ -50,7 +50,7 @@ pub fn close_block(
     warnings: &mut [u64],
 ) -> Ended
     requires { ⌜ Ample counts (length (now block)) (length (now out)) (length (now warnings)) ⌝ }
-    ensures { λ r. ⌜ EndTells (answerIn config (segmentsOf (now (map .entry))) (closes srt blankState n (linesOf (now (block .entry))) [])) counts r (now (out .entry)) (now (out .exit)) (now (warnings .entry)) (now (warnings .exit)) ⌝ }
+    ensures { λ r. ⌜ EndTells (answerIn config (segmentsOf (now (map .entry))) (closes (styleOf (config .kind)) blankState n (linesOf (now (block .entry))) [])) counts r (now (out .entry)) (now (out .exit)) (now (warnings .entry)) (now (warnings .exit)) ⌝ }
     ensures { λ r. ⌜ r .written ≤ 3 * length (now (block .entry)) ⌝ }
 {
     if block.len() == 0 {
@@ -85,6 +85,9 @@ pub fn end_block(
 {
     if lent_bad(counts, block.len(), out.len(), warnings.len()) {
         return still(16, counts);
+    }
+    if timing::header_due(config.kind, n, block) {
+        return still(24, counts);
     }
     close_block(config, map, n, counts, block, out, warnings)
 }

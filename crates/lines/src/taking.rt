@@ -6,6 +6,7 @@ use crate::telling::blank;
 use crate::telling::count;
 use crate::telling::lent_bad;
 use crate::telling::quiet;
+use crate::telling::still;
 use columns::Columns;
 use event::Config;
 use machine::Counts;
@@ -16,9 +17,9 @@ ghost use lib.ListN.{length, take, drop};
 ghost use Rattle.base.specs.Put.{placed};
 ghost use Rattle.text.specs.Line.{linesOf};
 ghost use Rattle.segment.specs.Segment.{segmentsOf};
-ghost use Rattle.timing.specs.Style.{srt};
+ghost use Rattle.timing.specs.Style.{styleOf};
 ghost use Rattle.machine.specs.Machine.{bom, hasBom, takeLine};
-ghost use Rattle.kinds.specs.Takes.{lineTakes, blockTakes, takes, machineOf};
+ghost use Rattle.kinds.specs.Takes.{lineTakes, blockTakes, headTakes, takes, machineOf};
 ghost use Rattle.lines.specs.Answer.{takenIn, stateOf, bomSize, takeIn, LineTells};
 ghost use Rattle.lines.specs.Done.{Ample};
 
@@ -58,8 +59,8 @@ fn ass_line(
     }
 }
 
-// An SRT line without BOM; n lines came before it.
-fn srt_line(
+// A line of a text of blocks without BOM; n lines came before it.
+fn block_line(
     config: Config,
     map: &[u64],
     n: u32,
@@ -71,12 +72,12 @@ fn srt_line(
     warnings: &mut [u64],
 ) -> Taken
     requires { ⌜ Ample counts (length (now block) + length (now line)) (length (now out)) (length (now warnings)) ⌝ }
-    ensures { λ r. ⌜ LineTells (takenIn config (segmentsOf (now (map .entry))) columns 0 (blockTakes srt (record { columns = columns; block = linesOf (now (block .entry)) }) n (now (line .entry)))) counts r (now (out .entry)) (now (out .exit)) (now (warnings .entry)) (now (warnings .exit)) ⌝ }
+    ensures { λ r. ⌜ LineTells (takenIn config (segmentsOf (now (map .entry))) columns 0 (blockTakes (styleOf (config .kind)) (record { columns = columns; block = linesOf (now (block .entry)) }) n (now (line .entry)))) counts r (now (out .entry)) (now (out .exit)) (now (warnings .entry)) (now (warnings .exit)) ⌝ }
 {
     if !utf8::is_utf8(line) {
         return quiet(20, false, counts, columns);
     }
-    if timing::is_blank_in(1, line) {
+    if timing::is_blank_in(config.kind, line) {
         let end = close_block(config, map, n, counts, block, out, warnings);
         if end.number != 0 {
             return quiet(end.number, false, counts, columns);
@@ -90,7 +91,30 @@ fn srt_line(
     quiet(0, true, counts, columns)
 }
 
-// A line of either kind: held from a on; the open block is held up to s.
+// The first line of a WebVTT text, without BOM.
+fn head_line(
+    config: Config,
+    map: &[u64],
+    counts: Counts,
+    columns: Columns,
+    line: &[u8],
+    out: &mut [u8],
+    warnings: &mut [u64],
+) -> Taken
+    requires { ⌜ Ample counts (length (now line)) (length (now out)) (length (now warnings)) ⌝ }
+    ensures { λ r. ⌜ LineTells (takenIn config (segmentsOf (now (map .entry))) columns 0 (headTakes (record { columns = columns; block = [] }) (now (line .entry)))) counts r (now (out .entry)) (now (out .exit)) (now (warnings .entry)) (now (warnings .exit)) ⌝ }
+{
+    if !utf8::is_utf8(line) {
+        return quiet(20, false, counts, columns);
+    }
+    if !timing::is_header(line) {
+        return quiet(24, false, counts, columns);
+    }
+    let written = base::bytes_at(out, 0, line);
+    blank(still(0, counts), columns, written)
+}
+
+// A line of any kind: held from a on; the open block is held up to s.
 fn any_line(
     config: Config,
     map: &[u64],
@@ -109,7 +133,10 @@ fn any_line(
     if config.kind == 0 {
         return ass_line(config, map, n, counts, columns, &held[a..], out, warnings);
     }
-    srt_line(
+    if timing::header_due(config.kind, n, &held[..s]) {
+        return head_line(config, map, counts, columns, &held[a..], out, warnings);
+    }
+    block_line(
         config,
         map,
         n,

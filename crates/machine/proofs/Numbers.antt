@@ -1,4 +1,4 @@
--- The number of every call is one of document 01's table: open 0, 15, 16; feed and finish 0, 15 to 22.
+-- The number of every call is one of document 01's table: open 0, 15, 16; feed and finish 0, 15 to 22, 24.
 use mathlib.Core.Path.{_≡_, refl}
 use mathlib.Core.Logic.{_⊎_, inl, inr}
 use mathlib.Core.Bool.{Bool, true, false, _||_}
@@ -12,32 +12,34 @@ use Rattle.time.specs.Kind.{kindBad}
 use Rattle.time.specs.Convert.{timescaleBad}
 use Rattle.segment.specs.Segment.{mapBad}
 use Rattle.event.specs.declared.setting.Config.{Config}
-use Rattle.event.specs.Says.{Part, Fault, longLine, notUtf8, longBlock, badTime, faultNumber}
+use Rattle.event.specs.Says.{Part, Fault, longLine, notUtf8, longBlock, badTime, badHeader, faultNumber}
 use Rattle.machine.specs.Machine.{Machine, Says, faulty, says, withBom, takeLine, Rest, nothing, bomAlone, lastLine, restOf, Run, going, stopped}
 use Rattle.machine.specs.Machine.{lineEnd, byte, byteStep, run, closed, lastEnd, atEnd, finishRun}
 use Rattle.machine.specs.Session.{Session, Kit, Call, feed, finish, lentOf, argumentBad, gate, configBad, foreign, fresh, openBy, openSession, settle, resume, accepted, respond, answer}
 
 -- done, or a fault of the text
 abbrev pub OfText : ℕ → Type 0
-OfText k = (k ≡ 0) ⊎ ((19 ≤ k) × (k ≤ 22))
+OfText k = (k ≡ 0) ⊎ (((19 ≤ k) × (k ≤ 22)) ⊎ (k ≡ 24))
 
--- done, or from 15 to 22
+-- done, or from 15 to 22, or 24
 abbrev pub OfCall : ℕ → Type 0
-OfCall k = (k ≡ 0) ⊎ ((15 ≤ k) × (k ≤ 22))
+OfCall k = (k ≡ 0) ⊎ (((15 ≤ k) × (k ≤ 22)) ⊎ (k ≡ 24))
 
 -- done, or 15 or 16
 abbrev pub OfOpen : ℕ → Type 0
 OfOpen k = (k ≡ 0) ⊎ ((15 ≤ k) × (k ≤ 16))
 
 pub fault-of-text : (f : Fault) → OfText (faultNumber f)
-fault-of-text longLine = inr (omega arith, omega arith)
-fault-of-text notUtf8 = inr (omega arith, omega arith)
-fault-of-text longBlock = inr (omega arith, omega arith)
-fault-of-text badTime = inr (omega arith, omega arith)
+fault-of-text longLine = inr (inl (omega arith, omega arith))
+fault-of-text notUtf8 = inr (inl (omega arith, omega arith))
+fault-of-text longBlock = inr (inl (omega arith, omega arith))
+fault-of-text badTime = inr (inl (omega arith, omega arith))
+fault-of-text badHeader = inr (inr refl)
 
 wider : (k : ℕ) → OfText k → OfCall k
 wider k (inl e) = inl e
-wider k (inr h) = inr (omega (arith, h .0), h .1)
+wider k (inr (inl h)) = inr (inl (omega (arith, h .0), h .1))
+wider k (inr (inr e)) = inr (inr e)
 
 abbrev Numbered : {σ : Type 0} → Run σ → Type 0
 Numbered (going s n h ps) = Unit {0}
@@ -49,7 +51,7 @@ module _ {σ : Type 0} (M : Machine σ) where
   line-number n ps (says t new) = tt
 
   byte-number : (ok lf : Bool) (s : σ) (n : ℕ) (l : List ℕ) (ps : List Part) → Numbered (byte M ok lf s n l ps)
-  byte-number false lf s n l ps = inr (omega arith, omega arith)
+  byte-number false lf s n l ps = inr (inl (omega arith, omega arith))
   byte-number true true s n l ps = line-number n ps (takeLine M s n l)
   byte-number true false s n l ps = tt
 
@@ -89,10 +91,10 @@ module _ {σ κ : Type 0} (K : Kit σ κ) where
       (end-number (K .machine (s .config .kind)) (restOf (s .lines) (K .open-line (s .held))) (K .state (s .known) (s .held)) (s .lines) (K .open-line (s .held)) [])
 
   by-gate : (f e m a : Bool) (s : Session κ) (c : Call) → OfCall (respond K (gate f e m a) s c .number)
-  by-gate true e m a s c = inr (omega arith, omega arith)
-  by-gate false true m a s c = inr (omega arith, omega arith)
-  by-gate false false true a s c = inr (omega arith, omega arith)
-  by-gate false false false true s c = inr (omega arith, omega arith)
+  by-gate true e m a s c = inr (inl (omega arith, omega arith))
+  by-gate false true m a s c = inr (inl (omega arith, omega arith))
+  by-gate false false true a s c = inr (inl (omega arith, omega arith))
+  by-gate false false false true s c = inr (inl (omega arith, omega arith))
   by-gate false false false false s c = wider (accepted K s c .number) (accepted-number s c)
 
   -- feed and finish
@@ -102,7 +104,8 @@ module _ {σ κ : Type 0} (K : Kit σ κ) where
   -- 15 to 18 write nothing, and the session comes back equal
   not-of-text : {A : Type 0} (k : ℕ) → OfText k → 15 ≤ k → k ≤ 18 → A
   not-of-text k (inl e) l h = absurd (omega arith)
-  not-of-text k (inr g) l h = absurd (omega (arith, g .0))
+  not-of-text k (inr (inl g)) l h = absurd (omega (arith, g .0))
+  not-of-text k (inr (inr e)) l h = absurd (omega arith)
 
   refused-by : (f e m a : Bool) (s : Session κ) (c : Call) → 15 ≤ respond K (gate f e m a) s c .number → respond K (gate f e m a) s c .number ≤ 18
       → (respond K (gate f e m a) s c .session ≡ s) × (respond K (gate f e m a) s c .emits ≡ [])

@@ -7,7 +7,7 @@ use lib.Dec.{leb, eqb}
 use lib.ListN.{length, take, getD}
 use lib.Seq.{take-suc}
 use Rattle.base.specs.Limits.{mostLine}
-use Rattle.event.specs.Says.{Part, Fault, longLine, notUtf8, longBlock, badTime, faultNumber}
+use Rattle.event.specs.Says.{Part, Fault, longLine, notUtf8, longBlock, badTime, badHeader, faultNumber}
 use Rattle.machine.specs.Machine.{Machine, Says, faulty, says, withBom, takeLine, Rest, nothing, bomAlone, lastLine, restOf, Run, going, stopped}
 use Rattle.machine.specs.Machine.{lineEnd, byte, byteStep, run, closed, lastEnd, atEnd, finishRun}
 
@@ -26,6 +26,7 @@ fault-number longLine = refl
 fault-number notUtf8 = refl
 fault-number longBlock = refl
 fault-number badTime = refl
+fault-number badHeader = refl
 
 module _ {σ : Type 0} (M : Machine σ) where
   pub run-append : (r : Run σ) (xs ys : List ℕ) → run M r (xs ++ ys) ≡ run M (run M r xs) ys

@@ -3,13 +3,13 @@ use mathlib.Core.Path.{_≡_, refl, sym, ap, subst, _∙_}
 use mathlib.Core.Logic.{_⊎_, inl, inr}
 use mathlib.Core.Bool.{Bool, true, false, cond, _&&_}
 use mathlib.Core.List.{List, [], _∷_, _++_, append-nil, append-assoc}
-use Prim.Native.Nat.{ℕ, zero, suc, _+_, _<_}
+use Prim.Native.Nat.{ℕ, zero, suc, _+_, _*_, _<_}
 use native.Mathlib.Omega.{arith}
 use lib.Dec.{eqb}
 use lib.ListN.{length}
 use Rattle.text.specs.Line.{linesOf, lineCount, concat, endsLine, hasLf}
 use Rattle.text.proofs.LineLaws.{line-then, line-last, Finished}
-use Rattle.time.specs.Kind.{kindBad}
+use Rattle.time.specs.Kind.{kindBad, unitsOf}
 use Rattle.time.proofs.Limits.{by-kind}
 use Rattle.event.specs.Says.{Part, stays, cue, passes, faultNumber}
 use Rattle.event.specs.Mark.{marked, behindMark, markWritten}
@@ -19,16 +19,18 @@ use Rattle.ass.specs.Line.{LineSays, lineSays, faulty, says}
 use Rattle.ass.specs.Answer.{columnsAfter}
 use Rattle.columns.specs.Columns.{noColumns}
 use Rattle.back.proofs.AssLine.{line-back, line-apart}
-use Rattle.timing.specs.Style.{srt}
+use Rattle.timing.specs.Style.{styleOf}
 use Rattle.block.specs.Block.{BlockSays, blockSays, faulty as blockFaulty, says as blockSaid}
 use Rattle.whole.specs.Srt.{Block, blocksOf}
-use Rattle.back.proofs.SrtBlock.{block-back}
+use Rattle.back.proofs.TimingLine.{TimeMark, Blocked}
+use Rattle.back.proofs.TimingBlock.{block-back}
+use Rattle.back.proofs.BlockKinds.{srt-blocked, Point, vtt-blocked}
 use Rattle.whole.proofs.BlockShape.{blockLines, blocks-joined}
 use Rattle.machine.specs.Cut.{closedLines, unfinished}
 use Rattle.machine.specs.Reader.{Reading, fails, _⊕_}
 use Rattle.machine.proofs.CutLaws.{cut-ends, cut-open, has-none, restLines, lines-of-cut}
-use Rattle.promise.specs.Plain.{lineFault, unlessFault, lineThen, assRead, bodyFault, blockThen, bodyThen, blanksThen, markBehind, closesBlock, srtRead, linesRead, linesSay, opened, markLength, readBehind, markBack, plainRead}
-use Rattle.promise.specs.Again.{LineAgain, BlockAgain, CueAgain, PartAgain, AllAgain}
+use Rattle.promise.specs.Plain.{lineFault, unlessFault, lineThen, assRead, bodyFault, blockThen, bodyThen, blanksThen, markBehind, closesBlock, blocksRead, headFault, vttRead, linesRead, linesSay, opened, markLength, readBehind, markBack, plainRead}
+use Rattle.promise.specs.Again.{LineAgain, endSeconds, BlockAgain, CueAgain, PartAgain, AllAgain}
 
 again-append : (kind : ℕ) (xs ys : List Part) → AllAgain kind xs → AllAgain kind ys → AllAgain kind (xs ++ ys)
 again-append kind [] ys a b = b
@@ -98,41 +100,43 @@ text-cut : (f : Bool) (t : List ℕ) → Cut (linesRead f t)
 text-cut true t = subst Cut (sym (lines-of-cut t)) (finished-cut (closedLines t) (unfinished t) (cut-ends t) (cut-open t))
 text-cut false t = subst Cut (append-nil (closedLines t)) (finished-cut (closedLines t) [] (cut-ends t) has-none)
 
-part-block : (first : ℕ) (ls : List (List ℕ)) → Cut ls → (p : Part) → blockSays srt first ls ≡ blockSaid p → PartAgain 1 p
-part-block first ls c (stays x) e = tt
-part-block first ls c (passes r k x) e = tt
-part-block first ls c (cue q) e =
-    let said = ap (blockSays srt first) (cut-lines ls c) ∙ e in
-    record { first = first; block = concat ls; said = said; again = block-back first (concat ls) q said }
+-- ---- blocks, of a kind whose written blocks read again
+module _ (j : ℕ) (Mark : ℕ → Type 0) (K : Blocked (suc j) Mark (endSeconds (suc j) * unitsOf (suc j))) where
+  part-block : (first : ℕ) (ls : List (List ℕ)) → Cut ls → (p : Part) → blockSays (styleOf (suc j)) first ls ≡ blockSaid p → PartAgain (suc j) p
+  part-block first ls c (stays x) e = tt
+  part-block first ls c (passes r k x) e = tt
+  part-block first ls c (cue q) e =
+      let said = ap (blockSays (styleOf (suc j)) first) (cut-lines ls c) ∙ e in
+      record { first = first; block = concat ls; said = said; again = block-back (suc j) Mark (endSeconds (suc j) * unitsOf (suc j)) K first (concat ls) q said }
 
-body-again : (n : ℕ) (body : List (List ℕ)) (after : Reading) → Cut body → AllAgain 1 (after .parts) → AllAgain 1 (bodyThen n body after .parts)
-body-again n [] after c a = a
-body-again n (l ∷ ls) after c a = go (blockSays srt (suc n) (l ∷ ls)) refl
-  where
-    go : (y : BlockSays) → blockSays srt (suc n) (l ∷ ls) ≡ y → AllAgain 1 (blockThen y after .parts)
-    go (blockFaulty f) e = tt
-    go (blockSaid p) e = (part-block (suc n) (l ∷ ls) c p e, a)
+  body-again : (n : ℕ) (body : List (List ℕ)) (after : Reading) → Cut body → AllAgain (suc j) (after .parts) → AllAgain (suc j) (bodyThen (suc j) n body after .parts)
+  body-again n [] after c a = a
+  body-again n (l ∷ ls) after c a = go (blockSays (styleOf (suc j)) (suc n) (l ∷ ls)) refl
+    where
+      go : (y : BlockSays) → blockSays (styleOf (suc j)) (suc n) (l ∷ ls) ≡ y → AllAgain (suc j) (blockThen y after .parts)
+      go (blockFaulty f) e = tt
+      go (blockSaid p) e = (part-block (suc n) (l ∷ ls) c p e, a)
 
-blanks-again : (ls : List (List ℕ)) (after : Reading) → AllAgain 1 (after .parts) → AllAgain 1 (blanksThen ls after .parts)
-blanks-again [] after a = a
-blanks-again (l ∷ ls) after a = again-unless 1 (lineFault 0 l) ((stays l ∷ []) ⊕ blanksThen ls after) (tt, blanks-again ls after a)
+  blanks-again : (ls : List (List ℕ)) (after : Reading) → AllAgain (suc j) (after .parts) → AllAgain (suc j) (blanksThen ls after .parts)
+  blanks-again [] after a = a
+  blanks-again (l ∷ ls) after a = again-unless (suc j) (lineFault 0 l) ((stays l ∷ []) ⊕ blanksThen ls after) (tt, blanks-again ls after a)
 
-closes-again : (f : Bool) (x n : ℕ) (body blanks : List (List ℕ)) (after : Reading) → Cut body → AllAgain 1 (after .parts) → AllAgain 1 (closesBlock f x n body blanks after .parts)
-closes-again true x n body [] after c a = body-again n body after c a
-closes-again false x n body [] after c a = a
-closes-again true x n body (l ∷ ls) after c a =
-    again-unless 1 (lineFault (markBehind x body) l) (bodyThen n body ((stays l ∷ []) ⊕ blanksThen ls after)) (body-again n body ((stays l ∷ []) ⊕ blanksThen ls after) c (tt, blanks-again ls after a))
-closes-again false x n body (l ∷ ls) after c a =
-    again-unless 1 (lineFault (markBehind x body) l) (bodyThen n body ((stays l ∷ []) ⊕ blanksThen ls after)) (body-again n body ((stays l ∷ []) ⊕ blanksThen ls after) c (tt, blanks-again ls after a))
+  closes-again : (f : Bool) (x n : ℕ) (body blanks : List (List ℕ)) (after : Reading) → Cut body → AllAgain (suc j) (after .parts) → AllAgain (suc j) (closesBlock (suc j) f x n body blanks after .parts)
+  closes-again true x n body [] after c a = body-again n body after c a
+  closes-again false x n body [] after c a = a
+  closes-again true x n body (l ∷ ls) after c a =
+      again-unless (suc j) (lineFault (markBehind x body) l) (bodyThen (suc j) n body ((stays l ∷ []) ⊕ blanksThen ls after)) (body-again n body ((stays l ∷ []) ⊕ blanksThen ls after) c (tt, blanks-again ls after a))
+  closes-again false x n body (l ∷ ls) after c a =
+      again-unless (suc j) (lineFault (markBehind x body) l) (bodyThen (suc j) n body ((stays l ∷ []) ⊕ blanksThen ls after)) (body-again n body ((stays l ∷ []) ⊕ blanksThen ls after) c (tt, blanks-again ls after a))
 
-srt-again : (f : Bool) (end : Reading) → AllAgain 1 (end .parts) → (x n : ℕ) (bs : List Block) → Cut (blockLines bs) → AllAgain 1 (srtRead f end x n bs .parts)
-unfolding srtRead
-srt-again f end a x n [] c = a
-srt-again f end a x n (b ∷ bs) c =
-    let d = cut-behind (b .blanks) (blockLines bs) (cut-behind (b .body) (b .blanks ++ blockLines bs) c) in
-    again-unless 1 (bodyFault x 0 (b .body)) _
-    (closes-again f x n (b .body) (b .blanks) (srtRead f end 0 (n + lineCount (b .body) + lineCount (b .blanks)) bs) (cut-before (b .body) (b .blanks ++ blockLines bs) c)
-    (srt-again f end a 0 (n + lineCount (b .body) + lineCount (b .blanks)) bs d))
+  blocks-again : (f : Bool) (end : Reading) → AllAgain (suc j) (end .parts) → (x n : ℕ) (bs : List Block) → Cut (blockLines bs) → AllAgain (suc j) (blocksRead (suc j) f end x n bs .parts)
+  unfolding blocksRead
+  blocks-again f end a x n [] c = a
+  blocks-again f end a x n (b ∷ bs) c =
+      let d = cut-behind (b .blanks) (blockLines bs) (cut-behind (b .body) (b .blanks ++ blockLines bs) c) in
+      again-unless (suc j) (bodyFault x 0 (b .body)) _
+      (closes-again f x n (b .body) (b .blanks) (blocksRead (suc j) f end 0 (n + lineCount (b .body) + lineCount (b .blanks)) bs) (cut-before (b .body) (b .blanks ++ blockLines bs) c)
+      (blocks-again f end a 0 (n + lineCount (b .body) + lineCount (b .blanks)) bs d))
 
 -- ---- the text
 no-columns-apart : Apart noColumns
@@ -145,7 +149,22 @@ module _ (f : Bool) (x : ℕ) (t : List ℕ) where
 
   srt-behind : AllAgain 1 (readBehind 1 f x t .parts)
   unfolding linesSay
-  srt-behind = srt-again f _ tt x 0 (blocksOf (linesRead f t)) (subst Cut (sym (blocks-joined (linesRead f t))) (text-cut f t))
+  srt-behind = blocks-again 0 TimeMark srt-blocked f _ tt x 0 (blocksOf 1 (linesRead f t)) (subst Cut (sym (blocks-joined 1 (linesRead f t))) (text-cut f t))
+
+  vtt-again : (end : Reading) → AllAgain 2 (end .parts) → (ls : List (List ℕ)) → Cut ls → AllAgain 2 (vttRead f end x ls .parts)
+  unfolding vttRead
+  vtt-again end a [] c = ended f
+    where
+      ended : (b : Bool) → AllAgain 2 (cond b (fails 24) end .parts)
+      ended true = tt
+      ended false = a
+  vtt-again end a (l ∷ ls) c =
+      again-unless 2 (headFault x l) _
+      (tt, blocks-again 1 Point vtt-blocked f end a 0 1 (blocksOf 2 ls) (subst Cut (sym (blocks-joined 2 ls)) (cut-tail l ls c)))
+
+  vtt-behind : AllAgain 2 (readBehind 2 f x t .parts)
+  unfolding linesSay
+  vtt-behind = vtt-again _ tt (linesRead f t) (text-cut f t)
 
 mark-again : (kind : ℕ) (b : Bool) → AllAgain kind (markWritten b)
 mark-again kind true = (tt, tt)
@@ -161,4 +180,5 @@ module _ (f : Bool) (text : List ℕ) where
   pub text-again : (kind : ℕ) → kindBad kind ≡ false → AllAgain kind (plainRead kind f text .parts)
   text-again kind k =
       by-kind (λ i. AllAgain i (plainRead i f text .parts))
-      (with-mark 0 (ass-behind f (markLength text) (behindMark text))) (with-mark 1 (srt-behind f (markLength text) (behindMark text))) kind k
+      (with-mark 0 (ass-behind f (markLength text) (behindMark text))) (with-mark 1 (srt-behind f (markLength text) (behindMark text)))
+      (with-mark 2 (vtt-behind f (markLength text) (behindMark text))) kind k

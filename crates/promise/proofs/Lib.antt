@@ -1,9 +1,12 @@
 pub mod Bare
 pub mod PlainAss
-pub mod PlainSrt
+pub mod PlainBlocks
+pub mod PlainVtt
 pub mod PlainText
 pub mod WholeAss
+pub mod WholeBlocks
 pub mod WholeSrt
+pub mod WholeVtt
 pub mod PartLaws
 pub mod AgainLaws
 pub mod DemandText

@@ -32,10 +32,10 @@ abbrev pub Not17 : List ℕ → Type 0
 Not17 [] = Unit {0}
 Not17 (k ∷ ks) = (k ≡ 17 → ⊥) × Not17 ks
 
--- ---- a text read from the start: 0, or 19 to 22
+-- ---- a text read from the start: 0, 19 to 22, or 24
 module _ {σ : Type 0} (M : Machine σ) where
   line-number : (short : Bool) (x : Says σ) (after : σ → Reading) → ((t : σ) → OfText (after t .fault)) → OfText (readLine M short x after .fault)
-  line-number false x after h = inr (omega arith, omega arith)
+  line-number false x after h = inr (inl (omega arith, omega arith))
   line-number true (faulty f) after h = fault-of-text f
   line-number true (says t ps) after h = h t
 
@@ -50,7 +50,7 @@ module _ {σ : Type 0} (M : Machine σ) where
       line-number true (takeLine M s n r) (λ t. readClose M (M .close t (suc n))) (λ t. close-number (M .close t (suc n)))
 
   rest-number : (short finished : Bool) (s : σ) (n : ℕ) (r : List ℕ) → OfText (readRest M short finished s n r .fault)
-  rest-number false finished s n r = inr (omega arith, omega arith)
+  rest-number false finished s n r = inr (inl (omega arith, omega arith))
   rest-number true false s n r = inl refl
   rest-number true true s n r = last-number (restOf n r) s n r
 
@@ -67,7 +67,8 @@ plain-number kind k f t =
 -- ---- the reader's numbers
 text-not-17 : (k : ℕ) → OfText k → k ≡ 17 → ⊥
 text-not-17 k (inl e) z = omega arith
-text-not-17 k (inr h) z = omega (arith, h .0)
+text-not-17 k (inr (inl h)) z = omega (arith, h .0)
+text-not-17 k (inr (inr h)) z = omega (arith, h)
 
 module _ (read : Bool → List ℕ → Reading) (texts : (f : Bool) (t : List ℕ) → OfText (read f t .fault)) where
   accepts-number : (r : Reader) (x : Call) → OfText (readerAccepts read r x .number)

@@ -107,20 +107,20 @@ module _ (c : Config) (m : List Segment) (q : Cue) where
   written s e = render (q .frame) (timeText (c .kind) (q .startMark) s) (timeText (c .kind) (q .stopMark) e)
 
   warned : (x : Segment) (xs : List Segment) (sc ec : Bool) → HitFirst m a b x xs → ltb a (sourceOf x) ≡ sc → ltb (sourceEnd x) b ≡ ec
-      → Warned c m q (warnIf (sc && q .tagged) 3 (q .line) ++ warnIf (ec && lostRule xs a b) 4 (q .line))
+      → Warned c m q (warnIf (sc && q .tagged) 3 (q .line) ++ (warnIf (ec && lostRule xs a b) 4 (q .line) ++ warnIf (q .stamped) 5 (q .line)))
   warned x xs sc ec h p r =
       record {
         segment = x;
         first = h .first;
         warnings =
-            ap₂ (λ (s e : Bool). warnIf (s && q .tagged) 3 (q .line) ++ warnIf (e && lostRule xs a b) 4 (q .line)) (sym p) (sym r)
-            ∙ ap (λ (l : Bool). warnIf (ltb a (sourceOf x) && q .tagged) 3 (q .line) ++ warnIf (ltb (sourceEnd x) b && l) 4 (q .line))
+            ap₂ (λ (s e : Bool). warnIf (s && q .tagged) 3 (q .line) ++ (warnIf (e && lostRule xs a b) 4 (q .line) ++ warnIf (q .stamped) 5 (q .line))) (sym p) (sym r)
+            ∙ ap (λ (l : Bool). warnIf (ltb a (sourceOf x) && q .tagged) 3 (q .line) ++ (warnIf (ltb (sourceEnd x) b && l) 4 (q .line) ++ warnIf (q .stamped) 5 (q .line)))
             (lost-among xs ∙ ap (λ (ys : List Segment). lostAmong ys a b) (sym (h .behind)));
       }
 
   leaves-by : (x : Segment) (xs : List Segment) (s e : ℕ) (sc ec : Bool) → HitFirst m a b x xs → ltb a (sourceOf x) ≡ sc → ltb (sourceEnd x) b ≡ ec
       → Leaves c m q (cond (sc || ec) (clipped s e) (shifted s e)) (written s e)
-      (warnIf (sc && q .tagged) 3 (q .line) ++ warnIf (ec && lostRule xs a b) 4 (q .line))
+      (warnIf (sc && q .tagged) 3 (q .line) ++ (warnIf (ec && lostRule xs a b) 4 (q .line) ++ warnIf (q .stamped) 5 (q .line)))
   leaves-by x xs s e false false h p r = (refl, refl)
   leaves-by x xs s e false true h p r = (refl, warned x xs false true h p r)
   leaves-by x xs s e true ec h p r = (refl, warned x xs true ec h p r)
@@ -169,12 +169,16 @@ fate-keeps r k = go (r .«start_cut») (r .«end_cut»)
     go false true = refl
     go true ec = refl
 
-none-passing : (s t : Bool) (n : ℕ) (ws : List Warning) → passings ((warnIf s 3 n ++ warnIf t 4 n) ++ ws) ≡ passings ws
+none-passing : (s t u : Bool) (n : ℕ) (ws : List Warning) → passings ((warnIf s 3 n ++ (warnIf t 4 n ++ warnIf u 5 n)) ++ ws) ≡ passings ws
 unfolding passings
-none-passing true true n ws = refl
-none-passing true false n ws = refl
-none-passing false true n ws = refl
-none-passing false false n ws = refl
+none-passing true true true n ws = refl
+none-passing true true false n ws = refl
+none-passing true false true n ws = refl
+none-passing true false false n ws = refl
+none-passing false true true n ws = refl
+none-passing false true false n ws = refl
+none-passing false false true n ws = refl
+none-passing false false false n ws = refl
 
 module _ (c : Config) (m : List Segment) where
   cue-counted : (q : Cue) (d : Decision) (es : List Emit) → Counted es → Counted (cueEmit (c .kind) q d ∷ es)
@@ -184,7 +188,7 @@ module _ (c : Config) (m : List Segment) where
   cue-counted q (Kept r) es i k =
       i (countFate (fateFor r) k)
       ∙ ap (λ (n : ℕ). passings (warningsOf es) + n) (fate-keeps r k)
-      ∙ ap (λ (n : ℕ). n + k .passed) (sym (none-passing (r .«start_cut» && q .tagged) (r .lost) (q .line) (warningsOf es)))
+      ∙ ap (λ (n : ℕ). n + k .passed) (sym (none-passing (r .«start_cut» && q .tagged) (r .lost) (q .stamped) (q .line) (warningsOf es)))
 
   pass-counted : (r : Reason) (n : ℕ) (l : List ℕ) (es : List Emit) → Counted es → Counted (emitOf c m (passes r n l) ∷ es)
   unfolding countAll warningsOf emitBy passings

@@ -1,12 +1,11 @@
--- What a text says is what the plain reader reads, for both kinds, finished or not.
+-- What a text says is what the plain reader reads, for each kind, finished or not.
 use mathlib.Core.Path.{_≡_, refl, ap, ap₂, _∙_}
-use mathlib.Core.Bool.{Bool, true, false, cond, _&&_}
+use mathlib.Core.Bool.{Bool, true, false, cond, _&&_, not}
 use mathlib.Core.List.{List, [], _∷_}
 use Prim.Native.Nat.{ℕ, _+_}
 use lib.Dec.{eqb, leb}
 use lib.ListN.{length, drop}
 use Rattle.base.specs.Limits.{mostLine}
-use Rattle.base.proofs.Laws.{and-true}
 use Rattle.pattern.specs.Find.{starts}
 use Rattle.time.specs.Kind.{kindBad}
 use Rattle.event.specs.Mark.{bom, markWritten}
@@ -20,14 +19,16 @@ use Rattle.promise.specs.Plain.{linesRead, linesSay, restFault, firstFau
 use Rattle.kinds.proofs.KindLaws.{ends-ass, ends-srt}
 use Rattle.promise.proofs.Bare.{passed, opens, readAll, unmarked-text, marked-text}
 use Rattle.promise.proofs.PlainAss.{ending, ass-lines, ass-first}
-use Rattle.promise.proofs.PlainSrt.{srt-lines, srt-first}
+use Rattle.timing.specs.Header.{headerDue}
+use Rattle.promise.proofs.PlainBlocks.{block-lines, block-first}
+use Rattle.promise.proofs.PlainVtt.{ends-first, vtt-lines, vtt-first}
 
 -- ---- by kind: the lines, the first line, and a close at the start
 pub record Reads (kind : ℕ) : Type 0 where
   pub lines : (f : Bool) (x : ℕ) (ls : List (List ℕ)) (r : List ℕ)
       → readAll (machineOf kind) f x ls r blankState 0 ≡ linesSay kind f (ending f x ls r) x ls
   pub first : (x : ℕ) (l : List ℕ) → (leb (x + length l) mostLine && passed (takes kind blankState 0 l)) ≡ eqb (firstFault kind x l) 0
-  pub closes : passed (ends kind blankState 0) ≡ true
+  pub closes : passed (ends kind blankState 0) ≡ not (eqb kind 2)
 
 ass-reads : Reads 0
 unfolding linesSay
@@ -38,21 +39,34 @@ ass-reads =
       closes = ap passed (ends-ass blankState 0);
     }
 
+srt-due : headerDue 1 0 [] ≡ false
+unfolding headerDue
+srt-due = refl
+
 srt-reads : Reads 1
 unfolding linesSay
 srt-reads =
     record {
-      lines = λ f x ls r. srt-lines f ls x r;
-      first = λ x l. srt-first x l;
+      lines = λ f x ls r. block-lines 0 f ls x 0 r srt-due;
+      first = λ x l. block-first 0 srt-due x l;
       closes = ap passed (ends-srt blankState 0);
     }
 
+vtt-reads : Reads 2
+unfolding linesSay
+vtt-reads =
+    record {
+      lines = λ f x ls r. vtt-lines f ls x r;
+      first = λ x l. vtt-first x l;
+      closes = ap passed ends-first;
+    }
+
 kind-reads : (kind : ℕ) → kindBad kind ≡ false → Reads kind
-kind-reads kind e = by-kind Reads ass-reads srt-reads kind e
+kind-reads kind e = by-kind Reads ass-reads srt-reads vtt-reads kind e
 
 module _ (kind : ℕ) (R : Reads kind) where
   opens-same : (f : Bool) (x : ℕ) (ls : List (List ℕ)) → opens (machineOf kind) f x ls ≡ opened kind f x ls
-  opens-same f x [] = ap (λ (b : Bool). f && b) (R .closes) ∙ and-true f
+  opens-same f x [] = ap (λ (b : Bool). f && b) (R .closes)
   opens-same f x (l ∷ ls) = R .first x l
 
   -- the rest is tested behind the lines that LF closes; a finish leaves no rest

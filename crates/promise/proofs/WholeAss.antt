@@ -8,7 +8,7 @@ use lib.Dec.{eqb}
 use Rattle.base.specs.Refusal.{_orElse_}
 use Rattle.base.proofs.Laws.{and-true}
 use Rattle.text.specs.Line.{linesOf, lineCount}
-use Rattle.event.specs.Says.{Part, Fault, longLine, notUtf8, longBlock, badTime, faultNumber}
+use Rattle.event.specs.Says.{Part, Fault, longLine, notUtf8, longBlock, badTime, badHeader, faultNumber}
 use Rattle.event.specs.Mark.{marked, behindMark, markWritten}
 use Rattle.columns.specs.declared.layout.Columns.{Columns}
 use Rattle.ass.specs.Line.{LineSays, lineSays, faulty as lineFaulty, says as lineSaid}
@@ -47,6 +47,7 @@ number-positive longLine = omega arith
 number-positive notUtf8 = omega arith
 number-positive longBlock = omega arith
 number-positive badTime = omega arith
+number-positive badHeader = omega arith
 
 module _ (x : ℕ) (c : Columns) (n : ℕ) (l : List ℕ) where
   read-line : (ls : List (List ℕ)) (k : ℕ) (s : LineSays) → lineFault x l ≡ k → lineSays c n l ≡ s

@@ -1,7 +1,9 @@
--- A caption that is written, read again: by the same columns in ASS, as the same block in SRT, it says the same cue with the times written.
+-- A caption that is written, read again: by the same columns in ASS, as the same block in SRT and WebVTT, it says the same cue with the times written.
 use mathlib.Core.Path.{_≡_}
+use mathlib.Core.Bool.{cond}
 use mathlib.Core.List.{List, [], _∷_}
 use Prim.Native.Nat.{ℕ, zero, suc, _*_, _<_}
+use lib.Dec.{eqb}
 use Rattle.text.specs.Line.{linesOf}
 use Rattle.time.specs.Kind.{unitsOf}
 use Rattle.stamp.specs.Write.{timeText}
@@ -9,7 +11,7 @@ use Rattle.event.specs.Says.{Cue, withTimes, Part, stays, passes, cue}
 use Rattle.event.specs.Emit.{render}
 use Rattle.columns.specs.declared.layout.Columns.{Columns}
 use Rattle.ass.specs.Line.{lineSays, says}
-use Rattle.timing.specs.Style.{srt}
+use Rattle.timing.specs.Style.{styleOf}
 use Rattle.block.specs.Block.{blockSays, blockCue, says as blockSaid}
 
 -- its frame with these times in the places of the old ones, as it is written
@@ -25,16 +27,22 @@ pub record LineAgain (q : Cue) : Type 0 where
   pub said : lineSays columns before line ≡ says next (cue q)
   pub again : (s e : ℕ) → s < 36000000 * unitsOf 0 → e < 36000000 * unitsOf 0 → lineSays columns before (written 0 q s e) ≡ says next (cue (withTimes q s e))
 
--- SRT: the cue is that of a block, given as its bytes, and has no tag; an end of 100 hours or more has thirteen bytes, of which document 01 reads twelve
-pub record BlockAgain (q : Cue) : Type 0 where
+-- the seconds below which an end that is written is read again: 10,000 hours; in SRT 100, since a longer end has thirteen bytes, of which
+-- document 01 reads twelve
+abbrev pub endSeconds : (kind : ℕ) → ℕ
+endSeconds kind = cond (eqb kind 1) 360000 36000000
+
+-- SRT and WebVTT: the cue is that of a block, given as its bytes, and has no tag
+pub record BlockAgain (kind : ℕ) (q : Cue) : Type 0 where
   pub first : ℕ
   pub block : List ℕ
-  pub said : blockSays srt first (linesOf block) ≡ blockSaid (cue q)
-  pub again : (s e : ℕ) → s < 36000000 * unitsOf 1 → e < 360000 * unitsOf 1 → blockSays srt first (linesOf (written 1 q s e)) ≡ blockSaid (cue (blockCue (q .line) s (q .startMark) e (q .stopMark) (q .frame)))
+  pub said : blockSays (styleOf kind) first (linesOf block) ≡ blockSaid (cue q)
+  pub again : (s e : ℕ) → s < 36000000 * unitsOf kind → e < endSeconds kind * unitsOf kind
+      → blockSays (styleOf kind) first (linesOf (written kind q s e)) ≡ blockSaid (cue (blockCue (q .line) s (q .startMark) e (q .stopMark) (q .stamped) (q .frame)))
 
 abbrev pub CueAgain : (kind : ℕ) → Cue → Type 0
 CueAgain zero q = LineAgain q
-CueAgain (suc k) q = BlockAgain q
+CueAgain (suc k) q = BlockAgain (suc k) q
 
 abbrev pub PartAgain : (kind : ℕ) → Part → Type 0
 PartAgain kind (stays l) = Unit {0}

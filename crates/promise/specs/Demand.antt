@@ -34,20 +34,21 @@ module _ (c : Config) (m : List Segment) where
   ticks S = ticksOf (c .timescale) (unitsOf (c .kind)) S
 
   -- warnings of a cue that is kept: 3 where its start was cut and it has a relative tag, then 4 where its end was cut and a segment later
-  -- in the list has a part of it, by its times as they were read
+  -- in the list has a part of it, by its times as they were read, then 5 where times stand in its lines
   pub record Warned (q : Cue) (ws : List Warning) : Type 0 where
     pub segment : Segment
     pub first : FirstMet m (ticks (q .start)) (ticks (q .stop)) segment
     pub warnings : ws
         ≡ warnIf (ltb (ticks (q .start)) (sourceOf segment) && q .tagged) 3 (q .line)
-        ++ warnIf (ltb (sourceEnd segment) (ticks (q .stop)) && lostAmong (first .others) (ticks (q .start)) (ticks (q .stop))) 4 (q .line)
+        ++ (warnIf (ltb (sourceEnd segment) (ticks (q .stop)) && lostAmong (first .others) (ticks (q .start)) (ticks (q .stop))) 4 (q .line)
+        ++ warnIf (q .stamped) 5 (q .line))
 
   -- a dropped cue leaves nothing; a kept one is written with its new times in the places of the old ones
   abbrev pub Leaves : Cue → Fate → (out : List ℕ) → List Warning → Type 0
   Leaves q passed out ws = ⊥
   Leaves q dropped out ws = (out ≡ []) × (ws ≡ [])
   Leaves q (shifted s e) out ws =
-      (out ≡ render (q .frame) (timeText (c .kind) (q .startMark) s) (timeText (c .kind) (q .stopMark) e)) × (ws ≡ [])
+      (out ≡ render (q .frame) (timeText (c .kind) (q .startMark) s) (timeText (c .kind) (q .stopMark) e)) × (ws ≡ warnIf (q .stamped) 5 (q .line))
   Leaves q (clipped s e) out ws =
       (out ≡ render (q .frame) (timeText (c .kind) (q .startMark) s) (timeText (c .kind) (q .stopMark) e)) × Warned q ws
 

@@ -1,19 +1,20 @@
--- Document 01's plain reader of a whole text, by lines and blocks. It shares with the session only what one ASS line and one SRT block say.
-use mathlib.Core.Bool.{Bool, true, false, _&&_, cond}
-use mathlib.Core.List.{List, [], _∷_}
+-- Document 01's plain reader of a whole text, by lines and blocks. It shares with the session only what one ASS line and one closed block say.
+use mathlib.Core.Bool.{Bool, true, false, _&&_, _||_, not, cond}
+use mathlib.Core.List.{List, [], _∷_, _++_}
 use Prim.Native.Nat.{ℕ, zero, suc, _+_}
 use lib.Dec.{leb, eqb}
 use lib.ListN.{length}
 use Rattle.base.specs.Limits.{mostLine, mostBlock}
 use Rattle.base.specs.Refusal.{_orElse_, faultUnless}
 use Rattle.utf8.specs.Utf8.{utf8}
-use Rattle.text.specs.Line.{linesOf, lineCount}
+use Rattle.pattern.specs.Find.{starts, equals}
+use Rattle.text.specs.Line.{linesOf, lineCount, textOf}
 use Rattle.event.specs.Says.{Part, stays, faultNumber}
 use Rattle.event.specs.Mark.{marked, behindMark, markWritten}
 use Rattle.columns.specs.declared.layout.Columns.{Columns}
 use Rattle.ass.specs.Line.{LineSays, lineSays, faulty as lineFaulty, says as lineSaid}
 use Rattle.columns.specs.Columns.{noColumns}
-use Rattle.timing.specs.Style.{srt, blankIn}
+use Rattle.timing.specs.Style.{styleOf, blankIn}
 use Rattle.block.specs.Block.{BlockSays, blockSays, faulty as blockFaulty, says as blockSaid}
 use Rattle.whole.specs.Srt.{Block, blocksOf}
 use Rattle.machine.specs.Cut.{closedLines, unfinished}
@@ -23,7 +24,7 @@ use Rattle.machine.specs.Reader.{Reading, fails, _⊕_}
 abbrev pub markLength : List ℕ → ℕ
 markLength text = cond (marked text) 3 0
 
--- ---- the checks of a line: 19 (x bytes of BOM stand before it), 20, and for a line of an SRT block 21 (size bytes of the block came before it)
+-- ---- the checks of a line: 19 (x bytes of BOM stand before it), 20, and for a line of a block 21 (size bytes of the block came before it)
 unfoldable pub lineFault : (x : ℕ) → List ℕ → ℕ
 lineFault x l = faultUnless (leb (x + length l) mostLine) 19 orElse faultUnless (utf8 l) 20
 
@@ -44,7 +45,7 @@ unfoldable pub assRead : (end : Reading) → (x : ℕ) → Columns → (n : ℕ)
 assRead end x c n [] = end
 assRead end x c n (l ∷ ls) = unlessFault (lineFault x l) (lineThen (lineSays c n l) (λ d. assRead end 0 d (suc n) ls))
 
--- ---- SRT: block by block
+-- ---- SRT and WebVTT: block by block
 -- the first fault of a block's non-blank lines
 unfoldable pub bodyFault : (x size : ℕ) → List (List ℕ) → ℕ
 bodyFault x size [] = 0
@@ -55,9 +56,9 @@ abbrev pub blockThen : BlockSays → Reading → Reading
 blockThen (blockFaulty f) after = fails (faultNumber f)
 blockThen (blockSaid p) after = (p ∷ []) ⊕ after
 
-abbrev pub bodyThen : (n : ℕ) → (body : List (List ℕ)) → Reading → Reading
-bodyThen n [] after = after
-bodyThen n (l ∷ ls) after = blockThen (blockSays srt (suc n) (l ∷ ls)) after
+abbrev pub bodyThen : (kind n : ℕ) → (body : List (List ℕ)) → Reading → Reading
+bodyThen kind n [] after = after
+bodyThen kind n (l ∷ ls) after = blockThen (blockSays (styleOf kind) (suc n) (l ∷ ls)) after
 
 -- blank lines stay
 abbrev pub blanksThen : List (List ℕ) → Reading → Reading
@@ -70,16 +71,33 @@ markBehind x [] = x
 markBehind x (l ∷ ls) = 0
 
 -- a block ends at its first blank line, behind that line's own checks, or at finish; one that neither has closed is left out
-abbrev pub closesBlock : (finished : Bool) → (x n : ℕ) → (body blanks : List (List ℕ)) → Reading → Reading
-closesBlock true x n body [] after = bodyThen n body after
-closesBlock false x n body [] after = after
-closesBlock f x n body (l ∷ ls) after = unlessFault (lineFault (markBehind x body) l) (bodyThen n body ((stays l ∷ []) ⊕ blanksThen ls after))
+abbrev pub closesBlock : (kind : ℕ) → (finished : Bool) → (x n : ℕ) → (body blanks : List (List ℕ)) → Reading → Reading
+closesBlock kind true x n body [] after = bodyThen kind n body after
+closesBlock kind false x n body [] after = after
+closesBlock kind f x n body (l ∷ ls) after = unlessFault (lineFault (markBehind x body) l) (bodyThen kind n body ((stays l ∷ []) ⊕ blanksThen ls after))
 
-unfoldable pub srtRead : (finished : Bool) → (end : Reading) → (x n : ℕ) → List Block → Reading
-srtRead f end x n [] = end
-srtRead f end x n (b ∷ bs) =
+unfoldable pub blocksRead : (kind : ℕ) → (finished : Bool) → (end : Reading) → (x n : ℕ) → List Block → Reading
+blocksRead kind f end x n [] = end
+blocksRead kind f end x n (b ∷ bs) =
     unlessFault (bodyFault x 0 (b .body))
-    (closesBlock f x n (b .body) (b .blanks) (srtRead f end 0 (n + lineCount (b .body) + lineCount (b .blanks)) bs))
+    (closesBlock kind f x n (b .body) (b .blanks) (blocksRead kind f end 0 (n + lineCount (b .body) + lineCount (b .blanks)) bs))
+
+-- ---- WebVTT: the first line, then blocks
+-- `WEBVTT`; the first line is this word, or goes on behind it with a space or a tab
+abbrev pub headWord : List ℕ
+headWord = 87 ∷ 69 ∷ 66 ∷ 86 ∷ 84 ∷ 84 ∷ []
+
+unfoldable pub headed : (text : List ℕ) → Bool
+headed t = equals headWord t || (starts (headWord ++ 32 ∷ []) t || starts (headWord ++ 9 ∷ []) t)
+
+-- its checks: 19, 20, then 24
+unfoldable pub headFault : (x : ℕ) → List ℕ → ℕ
+headFault x l = lineFault x l orElse faultUnless (headed (textOf l)) 24
+
+-- it stays and is in no block; a text that ends without a line has no first line
+unfoldable pub vttRead : (finished : Bool) → (end : Reading) → (x : ℕ) → List (List ℕ) → Reading
+vttRead f end x [] = cond f (fails 24) end
+vttRead f end x (l ∷ ls) = unlessFault (headFault x l) ((stays l ∷ []) ⊕ blocksRead 2 f end 0 1 (blocksOf 2 ls))
 
 -- ---- the text
 -- each line that LF closes, after a finish the rest too
@@ -88,7 +106,10 @@ linesRead true t = linesOf t
 linesRead false t = closedLines t
 
 unfoldable pub linesSay : (kind : ℕ) → (finished : Bool) → (end : Reading) → (x : ℕ) → List (List ℕ) → Reading
-linesSay kind f end x ls = cond (eqb kind 0) (assRead end x noColumns 0 ls) (srtRead f end x 0 (blocksOf ls))
+linesSay kind f end x ls =
+    cond (eqb kind 0) (assRead end x noColumns 0 ls)
+    (cond (eqb kind 2) (vttRead f end x ls)
+    (blocksRead kind f end x 0 (blocksOf kind ls)))
 
 -- until a finish the rest is only tested for 19
 abbrev pub restFault : (finished : Bool) → (x : ℕ) → (lines : List (List ℕ)) → (rest : List ℕ) → ℕ
@@ -96,12 +117,15 @@ restFault true x ls r = 0
 restFault false x [] r = faultUnless (leb (x + length r) mostLine) 19
 restFault false x (l ∷ ls) r = faultUnless (leb (length r) mostLine) 19
 
--- the BOM is written back where the first line passes its checks (19 and 20; in SRT also 21), or at finish where there is no line
+-- the BOM is written back where the first line passes its checks (19 and 20; in SRT also 21, in WebVTT 24), or, but for WebVTT, at finish where there is no line
 abbrev pub firstFault : (kind x : ℕ) → List ℕ → ℕ
-firstFault kind x l = cond (eqb kind 0) (lineFault x l) (cond (blankIn kind l) (lineFault x l) (bodyLineFault x 0 l))
+firstFault kind x l =
+    cond (eqb kind 0) (lineFault x l)
+    (cond (eqb kind 2) (headFault x l)
+    (cond (blankIn kind l) (lineFault x l) (bodyLineFault x 0 l)))
 
 abbrev pub opened : (kind : ℕ) → (finished : Bool) → (x : ℕ) → List (List ℕ) → Bool
-opened kind f x [] = f
+opened kind f x [] = f && not (eqb kind 2)
 opened kind f x (l ∷ ls) = eqb (firstFault kind x l) 0
 
 module _ (kind : ℕ) (finished : Bool) where

@@ -1,22 +1,24 @@
 -- Whole texts and the plain reader, after a finish. Without a fault it has read what the whole text says (whole/specs/Ass and Srt);
 -- with one, what the lines before the fault's line or block say.
 use mathlib.Core.Path.{_≡_}
+use mathlib.Core.Logic.{_⊎_}
 use mathlib.Core.Bool.{Bool, true}
 use mathlib.Core.List.{List, [], _∷_, _++_}
 use Prim.Native.Nat.{ℕ, suc, _<_}
 use Rattle.base.specs.Refusal.{_orElse_}
 use Rattle.text.specs.Line.{linesOf, lineCount}
-use Rattle.event.specs.Says.{faultNumber}
-use Rattle.event.specs.Mark.{behindMark}
+use Rattle.event.specs.Says.{stays, faultNumber}
+use Rattle.event.specs.Mark.{marked, behindMark, markWritten}
 use Rattle.columns.specs.declared.layout.Columns.{Columns}
 use Rattle.ass.specs.Line.{LineSays, lineSays, faulty as lineFaulty, says as lineSaid}
 use Rattle.columns.specs.Columns.{noColumns}
 use Rattle.whole.specs.Ass.{linesSaid, columnsBehind, assSaid}
-use Rattle.timing.specs.Style.{srt, blankIn}
+use Rattle.timing.specs.Style.{styleOf, blankIn}
 use Rattle.block.specs.Block.{BlockSays, blockSays, faulty as blockFaulty, says as blockSaid}
 use Rattle.whole.specs.Srt.{Block, blocksOf, blocksSaid, srtSaid}
+use Rattle.whole.specs.Vtt.{vttSaid}
 use Rattle.machine.specs.Reader.{fails}
-use Rattle.promise.specs.Plain.{markLength, lineFault, assRead, bodyFault, markBehind, srtRead, markBack, plainRead}
+use Rattle.promise.specs.Plain.{markLength, lineFault, assRead, bodyFault, markBehind, blocksRead, headFault, markBack, plainRead}
 
 -- ---- without a fault
 abbrev pub AssWhole : Type 0
@@ -24,6 +26,9 @@ AssWhole = (text : List ℕ) → plainRead 0 true text .fault ≡ 0 → plainRea
 
 abbrev pub SrtWhole : Type 0
 SrtWhole = (text : List ℕ) → plainRead 1 true text .fault ≡ 0 → plainRead 1 true text .parts ≡ srtSaid text
+
+abbrev pub VttWhole : Type 0
+VttWhole = (text : List ℕ) → plainRead 2 true text .fault ≡ 0 → plainRead 2 true text .parts ≡ vttSaid text
 
 -- ---- ASS: before a fault
 -- a bad time
@@ -45,40 +50,63 @@ pub record AssBefore (text : List ℕ) : Type 0 where
   pub parts : plainRead 0 true text .parts ≡ markBack 0 true text ++ linesSaid noColumns 0 before
   pub stops : AssStops (markBehind (markLength text) before) (columnsBehind noColumns 0 before) (lineCount before) rest (plainRead 0 true text .fault)
 
--- ---- SRT: before a fault
+-- ---- blocks: before a fault
 abbrev pub blockTimeFault : BlockSays → ℕ
 blockTimeFault (blockFaulty f) = faultNumber f
 blockTimeFault (blockSaid p) = 0
 
-abbrev pub bodyTimeFault : (n : ℕ) → (body : List (List ℕ)) → ℕ
-bodyTimeFault n [] = 0
-bodyTimeFault n (l ∷ ls) = blockTimeFault (blockSays srt (suc n) (l ∷ ls))
+abbrev pub bodyTimeFault : (kind n : ℕ) → (body : List (List ℕ)) → ℕ
+bodyTimeFault kind n [] = 0
+bodyTimeFault kind n (l ∷ ls) = blockTimeFault (blockSays (styleOf kind) (suc n) (l ∷ ls))
 
 abbrev pub firstBlankFault : (x : ℕ) → (blanks : List (List ℕ)) → ℕ
 firstBlankFault x [] = 0
 firstBlankFault x (l ∷ ls) = lineFault x l
 
 -- a block: 19, 20, 21 of its lines, 19 and 20 of its first blank line, then a bad time
-abbrev pub srtBlockFault : (x n : ℕ) → (body blanks : List (List ℕ)) → ℕ
-srtBlockFault x n body blanks = bodyFault x 0 body orElse (firstBlankFault (markBehind x body) blanks orElse bodyTimeFault n body)
+abbrev pub blockFault : (kind x n : ℕ) → (body blanks : List (List ℕ)) → ℕ
+blockFault kind x n body blanks = bodyFault x 0 body orElse (firstBlankFault (markBehind x body) blanks orElse bodyTimeFault kind n body)
 
 -- the reader stops without a fault behind the last block, else at a block by that block's fault
-abbrev pub SrtStops : (x n : ℕ) → (rest : List Block) → (fault : ℕ) → Type 0
-SrtStops x n [] k = k ≡ 0
-SrtStops x n (b ∷ bs) k = (k ≡ srtBlockFault x n (b .body) (b .blanks)) × (0 < k)
+abbrev pub BlocksStop : (kind x n : ℕ) → (rest : List Block) → (fault : ℕ) → Type 0
+BlocksStop kind x n [] k = k ≡ 0
+BlocksStop kind x n (b ∷ bs) k = (k ≡ blockFault kind x n (b .body) (b .blanks)) × (0 < k)
 
 -- the last line is blank
-abbrev pub endsBlank : List (List ℕ) → Bool
-endsBlank [] = true
-endsBlank (l ∷ []) = blankIn 1 l
-endsBlank (l ∷ k ∷ ls) = endsBlank (k ∷ ls)
+abbrev pub endsBlank : (kind : ℕ) → List (List ℕ) → Bool
+endsBlank kind [] = true
+endsBlank kind (l ∷ []) = blankIn kind l
+endsBlank kind (l ∷ k ∷ ls) = endsBlank kind (k ∷ ls)
 
--- the lines are cut where it stops: before a block, or between two blank lines, of which the second has the fault
+-- ---- SRT: the lines are cut where it stops: before a block, or between two blank lines, of which the second has the fault
 pub record SrtBefore (text : List ℕ) : Type 0 where
   pub before : List (List ℕ)
   pub rest : List (List ℕ)
   pub cut : linesOf (behindMark text) ≡ before ++ rest
-  pub closed : 0 < plainRead 1 true text .fault → endsBlank before ≡ true
-  pub passes : srtRead true (fails 0) (markLength text) 0 (blocksOf before) .fault ≡ 0
-  pub parts : plainRead 1 true text .parts ≡ markBack 1 true text ++ blocksSaid 0 (blocksOf before)
-  pub stops : SrtStops (markBehind (markLength text) before) (lineCount before) (blocksOf rest) (plainRead 1 true text .fault)
+  pub closed : 0 < plainRead 1 true text .fault → endsBlank 1 before ≡ true
+  pub passes : blocksRead 1 true (fails 0) (markLength text) 0 (blocksOf 1 before) .fault ≡ 0
+  pub parts : plainRead 1 true text .parts ≡ markBack 1 true text ++ blocksSaid 1 0 (blocksOf 1 before)
+  pub stops : BlocksStop 1 (markBehind (markLength text) before) (lineCount before) (blocksOf 1 rest) (plainRead 1 true text .fault)
+
+-- ---- WebVTT: a text without a first line, or stopped at it, says nothing; else the first line passed, and behind it the lines are cut as SRT's
+abbrev pub FirstStops : (x : ℕ) → (lines : List (List ℕ)) → (fault : ℕ) → Type 0
+FirstStops x [] k = k ≡ 24
+FirstStops x (l ∷ ls) k = (k ≡ headFault x l) × (0 < k)
+
+pub record VttAtFirst (text : List ℕ) : Type 0 where
+  pub parts : plainRead 2 true text .parts ≡ []
+  pub stops : FirstStops (markLength text) (linesOf (behindMark text)) (plainRead 2 true text .fault)
+
+pub record VttBehind (text : List ℕ) : Type 0 where
+  pub head : List ℕ
+  pub before : List (List ℕ)
+  pub rest : List (List ℕ)
+  pub cut : linesOf (behindMark text) ≡ head ∷ (before ++ rest)
+  pub heads : headFault (markLength text) head ≡ 0
+  pub closed : 0 < plainRead 2 true text .fault → endsBlank 2 before ≡ true
+  pub passes : blocksRead 2 true (fails 0) 0 1 (blocksOf 2 before) .fault ≡ 0
+  pub parts : plainRead 2 true text .parts ≡ markWritten (marked text) ++ stays head ∷ blocksSaid 2 1 (blocksOf 2 before)
+  pub stops : BlocksStop 2 0 (suc (lineCount before)) (blocksOf 2 rest) (plainRead 2 true text .fault)
+
+abbrev pub VttBefore : (text : List ℕ) → Type 0
+VttBefore text = VttAtFirst text ⊎ VttBehind text

@@ -55,7 +55,7 @@ fn kind_of(u: u32) -> u32 {
     if u == 1000 {
         return 1;
     }
-    2
+    3
 }
 
 fn print_converted(head: &[u8], x: &[u8]) {

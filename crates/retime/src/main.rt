@@ -1,4 +1,4 @@
-// Reads `sheet.bin`, `trim.txt` and `subs.ass`, else `subs.srt`, and prints the retimed text, or `refused` and the number.
+// Reads `sheet.bin`, `trim.txt` and `subs.ass`, else `subs.srt`, else `subs.vtt`, and prints the retimed text, or `refused` and the number.
 
 fn main() {
     let sheet = mapfile::load(b"", b"sheet.bin");

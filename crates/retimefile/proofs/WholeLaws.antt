@@ -33,11 +33,8 @@ module _ (k t : ℕ) (m : List ℕ) (r : Opened) (a : OpenAnswered k t m r) wher
         number = else-next _ _ (r .number) v (a .number) z (p .number ∙ ap (λ (s : Session). passNumber s m (p .pieces)) (a .session));
       }
 
-pub chooses-ass : (t : ℕ) (m : List ℕ) (v : ℕ) → Runs 0 t m v → Chooses t m v
-chooses-ass t m v p = record { kind = 0; known = omega arith; runs = p }
-
-pub chooses-srt : (t : ℕ) (m : List ℕ) (v : ℕ) → Runs 1 t m v → Chooses t m v
-chooses-srt t m v p = record { kind = 1; known = omega arith; runs = p }
+pub chooses : (k t : ℕ) (m : List ℕ) (v : ℕ) → k ≤ 2 → Runs k t m v → Chooses t m v
+chooses k t m v h p = record { kind = k; known = h; runs = p }
 
 -- ---- the whole
 module _ (s l : List ℕ) where

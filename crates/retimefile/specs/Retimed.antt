@@ -54,15 +54,15 @@ pub record Runs (k t : ℕ) (m : List ℕ) (r : ℕ) : Type 0 where
   pub sized : Sized pieces
   pub number : r ≡ runNumber k t m pieces
 
--- the same of either kind: `subs.ass` or `subs.srt`
+-- the same of one of the kinds: `subs.ass`, `subs.srt` or `subs.vtt`
 pub record Chooses (t : ℕ) (m : List ℕ) (r : ℕ) : Type 0 where
   pub kind : ℕ
-  pub known : kind ≤ 1
+  pub known : kind ≤ 2
   pub runs : Runs kind t m r
 
 pub record Retimes (sheet list : List ℕ) (r : ℕ) : Type 0 where
   pub kind : ℕ
-  pub known : kind ≤ 1
+  pub known : kind ≤ 2
   pub pieces : List (List ℕ)
   pub sized : Sized pieces
   pub number : r ≡ retimeNumber sheet list kind pieces

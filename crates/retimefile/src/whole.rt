@@ -25,15 +25,23 @@ fn open_text(folder: &[u8], name: &[u8]) -> i32 {
     os::open_read(base::front(&path, k))
 }
 
-// One pass over `subs.ass`, or over `subs.srt` where that cannot be opened; neither: an empty text.
+// One pass over `subs.ass`, else `subs.srt`, else `subs.vtt`, the first that can be opened; none of them: an empty text of SRT.
 fn run(folder: &[u8], timescale: u32, map: &[u64], writing: bool) -> u32
     ensures { λ r. ⌜ Chooses timescale (now (map .entry)) r ⌝ }
 {
-    let fd = open_text(folder, b"subs.ass");
-    if 0 <= fd {
-        return run_file(fd, 0, timescale, map, writing);
+    let ass = open_text(folder, b"subs.ass");
+    if 0 <= ass {
+        return run_file(ass, 0, timescale, map, writing);
     }
-    run_file(open_text(folder, b"subs.srt"), 1, timescale, map, writing)
+    let srt = open_text(folder, b"subs.srt");
+    if 0 <= srt {
+        return run_file(srt, 1, timescale, map, writing);
+    }
+    let vtt = open_text(folder, b"subs.vtt");
+    if 0 <= vtt {
+        return run_file(vtt, 2, timescale, map, writing);
+    }
+    run_file(srt, 1, timescale, map, writing)
 }
 
 // The map, outward, then the text dry, then writing where nothing was refused. A sheet above 65,536 bytes is 11.

@@ -31,7 +31,7 @@ use Rattle.machine.proofs.Resume.{ByFault, run-fault, Stopped, finish-stops}
 use Rattle.machine.proofs.Native.{GoingOk, Ok, run-ok}
 use Rattle.kinds.specs.Takes.{State, noColumns, machineOf}
 use Rattle.kinds.specs.Kit.{kit, strange}
-use Rattle.kinds.proofs.KindLaws.{lawful, known-two}
+use Rattle.kinds.proofs.KindLaws.{lawful, known-three}
 use Rattle.kinds.proofs.Native.{Native}
 use Rattle.kinds.proofs.Fits.{resume-ok}
 use Rattle.foreign.specs.declared.holding.Session.{Session}
@@ -356,7 +356,8 @@ module _ (s : Session) (map out places : List ℕ) (l : length (s .held) ≡ mos
 fit-small : (kind : ℕ) (e : kindBad kind ≡ false) (t : State) → lawful kind e .Fit t → length (concat (t .block)) ≤ mostBlock
 fit-small zero e t f = f .small
 fit-small (suc zero) e t f = f .small
-fit-small (suc (suc k)) e t f = absurd (known-two k e)
+fit-small (suc (suc zero)) e t f = f .small
+fit-small (suc (suc (suc k))) e t f = absurd (known-three k e)
 
 pub settled-small : (v : model.Session Columns) (N : Native v) (map piece : List ℕ) → mapBad map ≡ false → (t : ℕ)
     → length (settle kit v t map (run (machineOf (v .config .kind)) (resume kit v) piece) .session .held) ≤ mostHeld

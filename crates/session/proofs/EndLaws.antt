@@ -18,10 +18,11 @@ use Rattle.text.specs.Line.{concat, linesOf, lineCount, hasLf}
 use Rattle.time.specs.Kind.{kindBad}
 use Rattle.event.specs.declared.setting.Config.{Config}
 use Rattle.segment.specs.Segment.{segmentsOf}
-use Rattle.event.specs.Says.{Part, stays, notUtf8, faultNumber}
+use Rattle.event.specs.Says.{Part, stays, notUtf8, badHeader, faultNumber}
 use Rattle.event.specs.Emit.{Emit, Warning, emitBy, emitsOf, outputOf, warningsOf, placesOf}
 use Rattle.ass.specs.Line.{LineSays, lineSays, faulty as lineFaulty, says as lineSaid}
-use Rattle.timing.specs.Style.{srt}
+use Rattle.timing.specs.Style.{styleOf}
+use Rattle.timing.specs.Header.{headerDue}
 use Rattle.block.specs.Block.{BlockSays, blockSays, faulty as blockFaulty, says as blockSaid}
 use Rattle.machine.specs.declared.counting.Counts.{Counts}
 use Rattle.machine.specs.Counts.{countAll}
@@ -34,15 +35,15 @@ use Rattle.machine.proofs.OpenLines.{bom-open}
 use Rattle.machine.proofs.Laws.{StepOk, Lawful}
 use Rattle.machine.proofs.Native.{line-ok}
 use Rattle.machine.proofs.Room.{outLen, warnLen, RoomOf, Leaves, line-room}
-use Rattle.kinds.specs.Takes.{State, blankState, ofLine, lineTakes, ofBlock, closes, takes, ends, machineOf}
+use Rattle.kinds.specs.Takes.{State, blankState, ofLine, lineTakes, ofBlock, closes, takes, blockEnds, ends, machineOf}
 use Rattle.kinds.specs.Kit.{kit}
-use Rattle.kinds.proofs.KindLaws.{takes-ass, takes-srt, Fit, known-two, lawful-fit, lawful-size, lawful-pending}
+use Rattle.kinds.proofs.KindLaws.{takes-ass, takes-srt, takes-vtt, Fit, known-three, lawful-fit, lawful-size, lawful-pending}
 use Rattle.kinds.proofs.Native.{Native}
-use Rattle.kinds.proofs.KindRoom.{srt-last}
+use Rattle.kinds.proofs.KindRoom.{srt-some, block-end, vtt-end}
 use Rattle.kinds.proofs.Fits.{places-two, room-of}
 use Rattle.lines.specs.declared.telling.Ended.{Ended}
 use Rattle.session.specs.declared.running.Going.{Going}
-use Rattle.lines.specs.Answer.{endIn, EndTells}
+use Rattle.lines.specs.Answer.{textEnds, endIn, EndTells}
 use Rattle.lines.specs.Done.{Wrote, Ends, Ready, Parsed}
 use Rattle.lines.proofs.TellLaws.{told-within}
 use Rattle.lines.proofs.BomLaws.{put-under, bom-placed}
@@ -56,9 +57,10 @@ pub finish-ass : (kind : ℕ) (s : State) (n : ℕ) → kind ≡ 0 → ends kind
 unfolding ends
 finish-ass kind s n e = rw (eq-eqb kind 0 e)
 
-pub finish-srt : (kind : ℕ) (s : State) (n : ℕ) → (kind ≡ 0 → ⊥) → ends kind s n ≡ closes srt s n (s .block) []
-unfolding ends
-finish-srt kind s n e = rw (ne-eqb kind 0 e)
+pub finish-blocks : (kind : ℕ) (s : State) (n : ℕ) → (kind ≡ 0 → ⊥)
+    → ends kind s n ≡ cond (headerDue kind n (s .block)) (faulty badHeader) (closes (styleOf kind) s n (s .block) [])
+unfolding ends blockEnds
+finish-blocks kind s n e = rw (ne-eqb kind 0 e)
 
 module _ (c : Config) (m : List ℕ) (t : Counts) (e : Ended) (out y places z : List ℕ) where
   block-ended : (s : State) (x : BlockSays) → Ends c m (ofBlock blankState [] x) t e out y places z → Ends c m (ofBlock s [] x) t e out y places z
@@ -66,23 +68,29 @@ module _ (c : Config) (m : List ℕ) (t : Counts) (e : Ended) (out y places z : 
   block-ended s (blockSaid p) b = record { number = b .number; counts = b .counts; wrote = b .wrote }
 
   -- whatever else is known between two lines
-  lines-ended : (s : State) (n : ℕ) (ls : List (List ℕ)) → Ends c m (closes srt blankState n ls []) t e out y places z → Ends c m (closes srt s n ls []) t e out y places z
-  lines-ended s n [] b = record { number = b .number; counts = b .counts; wrote = b .wrote }
-  lines-ended s n (l ∷ ls) b = block-ended s (blockSays srt (suc n - lineCount (l ∷ ls)) (l ∷ ls)) b
+  lines-ended : (kind : ℕ) (s : State) (n : ℕ) (ls : List (List ℕ)) → Ends c m (closes (styleOf kind) blankState n ls []) t e out y places z → Ends c m (closes (styleOf kind) s n ls []) t e out y places z
+  lines-ended kind s n [] b = record { number = b .number; counts = b .counts; wrote = b .wrote }
+  lines-ended kind s n (l ∷ ls) b = block-ended s (blockSays (styleOf kind) (suc n - lineCount (l ∷ ls)) (l ∷ ls)) b
+
+  text-ended : (due : Bool) (kind : ℕ) (s : State) (n : ℕ) (ls : List (List ℕ))
+      → Ends c m (cond due (faulty badHeader) (closes (styleOf kind) blankState n ls [])) t e out y places z
+      → Ends c m (cond due (faulty badHeader) (closes (styleOf kind) s n ls [])) t e out y places z
+  text-ended true kind s n ls b = b
+  text-ended false kind s n ls b = lines-ended kind s n ls b
 
   -- the lines of the held bytes are the open block's
   block-ends : (kind : ℕ) (s : State) (n : ℕ) (bytes : List ℕ) → (kind ≡ 0 → ⊥) → Parsed (eqb kind 0) (s .block) → bytes ≡ concat (s .block)
-      → Ends c m (closes srt blankState n (linesOf bytes) []) t e out y places z → Ends c m (ends kind s n) t e out y places z
+      → Ends c m (textEnds kind n (linesOf bytes)) t e out y places z → Ends c m (ends kind s n) t e out y places z
   block-ends kind s n bytes k p q b =
       let l : linesOf bytes ≡ s .block = ap linesOf q ∙ subst (λ (a : Bool). Parsed a (s .block)) (ne-eqb kind 0 k) p in
-      subst (λ (x : Says State). Ends c m x t e out y places z) (sym (finish-srt kind s n k))
-      (lines-ended s n (s .block) (subst (λ (ls : List (List ℕ)). Ends c m (closes srt blankState n ls []) t e out y places z) l b))
+      subst (λ (x : Says State). Ends c m x t e out y places z) (sym (finish-blocks kind s n k))
+      (text-ended (headerDue kind n (s .block)) kind s n (s .block) (subst (λ (ls : List (List ℕ)). Ends c m (textEnds kind n ls) t e out y places z) l b))
 
 -- ---- a block's end with room for it
 module _ (c : Config) (m : List ℕ) (at : Going) (held out places : List ℕ) (R : CloseRoom at (length held) (length out) (length places)) (e : Ended) (y z : List ℕ)
     (h : EndTells (endIn c (segmentsOf m) (at .lines) (at .counts) (take (at .start) held) (length (lent (at .written) out)) (length (lent (at .warned) places)))
     (at .counts) e (lent (at .written) out) y (lent (at .warned) places) z) where
-  pub block-done : Ready c m → Ends c m (closes srt blankState (at .lines) (linesOf (take (at .start) held)) []) (at .counts) e (lent (at .written) out) y (lent (at .warned) places) z
+  pub block-done : Ready c m → Ends c m (textEnds (c .kind) (at .lines) (linesOf (take (at .start) held))) (at .counts) e (lent (at .written) out) y (lent (at .warned) places) z
   block-done d =
       end-done c m (at .lines) (at .counts) (take (at .start) held) e (lent (at .written) out) y (lent (at .warned) places) z d
       (record {
@@ -129,7 +137,7 @@ module _ (c : Config) (m : List ℕ) (M : Machine State) (t : Counts) (s : State
         })
 
     pub close-block : (kind : ℕ) → (kind ≡ 0 → ⊥) → Parsed (eqb kind 0) (s .block)
-        → Ends c m (closes srt blankState (at .lines) (linesOf (take (at .start) held)) []) (at .counts) e (lent (at .written) out) y (lent (at .warned) places) z
+        → Ends c m (textEnds kind (at .lines) (linesOf (take (at .start) held))) (at .counts) e (lent (at .written) out) y (lent (at .warned) places) z
         → Shows c m t (closed M ps (ends kind s n)) o w r held (back (at .written) out y) (back (at .warned) places z)
     close-block kind k p b =
         let a : at .start ≡ at .held = sh .holds .start ∙ sym (sh .holds .count ∙ ap length (append-nil (concat (s .block)))) in
@@ -224,7 +232,7 @@ module _ (c : Config) (m : List ℕ) (M : Machine State) (at : Going) (held out 
       start-small : at .start ≤ mostBlock
       start-small = omega (arith, p .start, begin-native c m at held (length out) (length places) d p .holds .fit .small)
 
-      pub bom-ends : Ends c m (closes srt blankState (at .lines) (linesOf (take (at .start) held)) []) (at .counts) e (lent 3 out) y places z
+      pub bom-ends : Ends c m (textEnds (c .kind) (at .lines) (linesOf (take (at .start) held))) (at .counts) e (lent 3 out) y places z
       bom-ends =
           end-done c m (at .lines) (at .counts) (take (at .start) held) e (lent 3 out) y places z d
           (record {
@@ -240,7 +248,7 @@ module _ (c : Config) (m : List ℕ) (M : Machine State) (at : Going) (held out 
           (omega (arith, w, p .out-long, length-tail 3 out), omega (arith, w))
 
     module _ (kind : ℕ) (s : State) (k : kind ≡ 0 → ⊥) (q : take (at .start) held ≡ concat (s .block)) (g : Parsed (eqb kind 0) (s .block))
-        (b : Ends c m (closes srt blankState (at .lines) (linesOf (take (at .start) held)) []) (at .counts) e (lent 3 out) y places z) where
+        (b : Ends c m (textEnds kind (at .lines) (linesOf (take (at .start) held))) (at .counts) e (lent 3 out) y places z) where
       pub bom-stops : (r : Going) → (e .number ≡ 0 → ⊥) → r ≡ stoppedAt at (e .number)
           → Shows c m (at .counts) (closed M [] (withBom (ends kind s (at .lines)))) out places r held (back 3 out y) z
       bom-stops r h f = bom-fault (ends kind s (at .lines)) r (block-ends c m (at .counts) e (lent 3 out) y places z kind s (at .lines) (take (at .start) held) k g q b) h f
@@ -269,12 +277,13 @@ ass-last s n l e = go (utf8 l) (lineSays (s .columns) n l)
     go true (lineFaulty f) = tt
     go true (lineSaid d p) = e
 
--- after it no block is open in ASS, and in SRT the block's bytes are its lines
+-- after it no block is open in ASS, and in the other kinds the block's bytes are its lines
 step-last : (kind : ℕ) → kindBad kind ≡ false → (s : State) (n : ℕ) (l : List ℕ) → Fit kind s → hasLf l ≡ false
     → Leaves (λ (t : State). Parsed (eqb kind 0) (t .block)) (takes kind s n l)
 step-last zero e s n l f h = subst (Leaves (λ (t : State). t .block ≡ [])) (sym (takes-ass s n l)) (ass-last s n l (f .block))
-step-last (suc zero) e s n l f h = subst (Leaves (λ (t : State). linesOf (concat (t .block)) ≡ t .block)) (sym (takes-srt s n l)) (srt-last s n l (f .block) h)
-step-last (suc (suc k)) e s n l f h = absurd (known-two k e)
+step-last (suc zero) e s n l f h = subst (Leaves (λ (t : State). linesOf (concat (t .block)) ≡ t .block)) (sym (takes-srt s n l)) (block-end 0 srt-some s n l (f .block) h)
+step-last (suc (suc zero)) e s n l f h = subst (Leaves (λ (t : State). linesOf (concat (t .block)) ≡ t .block)) (sym (takes-vtt s n l)) (vtt-end s n l (f .block) h (headerDue 2 n (s .block)))
+step-last (suc (suc (suc k))) e s n l f h = absurd (known-three k e)
 
 bom-leaves : (P : State → Type 0) (x : Says State) → Leaves P x → Leaves P (withBom x)
 bom-leaves P (faulty f) o = tt

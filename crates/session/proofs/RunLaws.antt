@@ -33,7 +33,7 @@ use Rattle.machine.proofs.Room as room
 use Rattle.machine.proofs.Room.{outLen, warnLen}
 use Rattle.kinds.specs.Takes.{State, machineOf}
 use Rattle.kinds.specs.Kit.{kit}
-use Rattle.kinds.proofs.KindLaws.{Fit, known-two, lawful, lawful-size, lawful-pending}
+use Rattle.kinds.proofs.KindLaws.{Fit, known-three, lawful, lawful-size, lawful-pending}
 use Rattle.kinds.proofs.Native.{Native, is-native}
 use Rattle.kinds.proofs.Fits.{places-two, resume-ok, feed-room}
 use Rattle.session.specs.declared.running.Going.{Going}
@@ -94,16 +94,18 @@ all-grown c (e ∷ es) = omega (arith, one-grown (e .caption) c, all-grown (coun
 pub counts-grown : (c : Config) (m : List ℕ) (t : Counts) (ps : List Part) → Grown t (countAll t (emitted c m ps)) (captionsIn ps)
 counts-grown c m t ps = subst (Grown t (countAll t (emitted c m ps))) (captions-emitted c (segmentsOf m) ps) (all-grown t (emitted c m ps))
 
--- ---- what a state of either kind holds
+-- ---- what a state of any kind holds
 pub fit-back : (kind : ℕ) (e : kindBad kind ≡ false) (s : State) → lawful kind e .Fit s → Fit kind s
 fit-back zero e s f = f
 fit-back (suc zero) e s f = f
-fit-back (suc (suc k)) e s f = absurd (known-two k e)
+fit-back (suc (suc zero)) e s f = f
+fit-back (suc (suc (suc k))) e s f = absurd (known-three k e)
 
 pub fit-parsed : (kind : ℕ) → kindBad kind ≡ false → (s : State) → Fit kind s → Parsed (eqb kind 0) (s .block)
 fit-parsed zero e s f = f .block
 fit-parsed (suc zero) e s f = lines-held (s .block) (f .block)
-fit-parsed (suc (suc k)) e s f = absurd (known-two k e)
+fit-parsed (suc (suc zero)) e s f = lines-held (s .block) (f .block)
+fit-parsed (suc (suc (suc k))) e s f = absurd (known-three k e)
 
 -- ---- a call begins
 pub places-none : placesOf (warningsOf []) ≡ []

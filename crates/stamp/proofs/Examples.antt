@@ -9,7 +9,7 @@ use Rattle.pattern.specs.Find.{starts, first, contains, upTo, past}
 use Rattle.text.specs.Number.{digit, digits, valueFrom, natural, unsigned, number}
 use Rattle.stamp.specs.declared.read.Time.the-variants.{At}
 use Rattle.time.specs.Kind.{kindBad, unitsOf, markOf, fractionDigits, hourDigits}
-use Rattle.stamp.specs.Read.{timeWith, markIn, timeIn, timeNumber, timeUnits, timeMark}
+use Rattle.stamp.specs.Read.{timeWith, wideBy, wideFrom, vttTime, markIn, timeIn, timeNumber, timeUnits, timeMark}
 use Rattle.stamp.specs.Write.{pad, widthUnder, width, textWith, timeText}
 
 -- ---- times read
@@ -18,13 +18,13 @@ read-ass : (timeIn 0 (ascii "0:59:59.99") ≡ At 359999 46)
     × (timeIn 0 (ascii "0:00:00.5") ≡ At 5 46)
     × (timeIn 0 (ascii "+1:2:+03.000005") ≡ At 372305 46)
     × (timeIn 0 (ascii " \t0:0:1.0  ") ≡ At 100 46)
-unfolding timeIn markIn contains timeWith kindBad unitsOf markOf trim trimHead trimTail headFrom keepFrom whiteTail endsWhite whiteHead white whiteHigh codeHead codeBy charWidth widthBy leadLen secondLow secondHigh tail last upTo past first starts number natural unsigned digits digit valueFrom
+unfolding timeIn vttTime wideBy wideFrom markIn contains timeWith kindBad unitsOf markOf trim trimHead trimTail headFrom keepFrom whiteTail endsWhite whiteHead white whiteHigh codeHead codeBy charWidth widthBy leadLen secondLow secondHigh tail last upTo past first starts number natural unsigned digits digit valueFrom
 read-ass = (refl, refl, refl, refl, refl)
 
 read-srt : (timeIn 1 (ascii "00:00:01,500") ≡ At 1500 44)
     × (timeIn 1 (ascii "100:00:00,45") ≡ At 360000045 44)
     × (timeIn 1 (ascii "0:0:0,5") ≡ At 5 44)
-unfolding timeIn markIn contains timeWith kindBad unitsOf markOf trim trimHead trimTail headFrom keepFrom whiteTail endsWhite whiteHead white whiteHigh codeHead codeBy charWidth widthBy leadLen secondLow secondHigh tail last upTo past first starts number natural unsigned digits digit valueFrom
+unfolding timeIn vttTime wideBy wideFrom markIn contains timeWith kindBad unitsOf markOf trim trimHead trimTail headFrom keepFrom whiteTail endsWhite whiteHead white whiteHigh codeHead codeBy charWidth widthBy leadLen secondLow secondHigh tail last upTo past first starts number natural unsigned digits digit valueFrom
 read-srt = (refl, refl, refl)
 
 -- ---- a comma or a point in SRT: thirteen times worked by hand
@@ -41,8 +41,33 @@ read-marks : (timeIn 1 (ascii "00:00:01,500") ≡ At 1500 44)
     × (timeIn 1 (ascii " 00:00:01.500" ++ 0xE3 ∷ 0x80 ∷ 0x80 ∷ []) ≡ At 1500 46)
     × (timeIn 1 (ascii "9999:59:59.999") ≡ At 35999999999 46)
     × (timeNumber (timeIn 1 (ascii "10000:00:00.000")) ≡ 22)
-unfolding timeIn markIn contains timeWith kindBad unitsOf markOf trim trimHead trimTail headFrom keepFrom whiteTail endsWhite whiteHead white whiteHigh codeHead codeBy charWidth widthBy leadLen secondLow secondHigh tail last upTo past first starts number natural unsigned digits digit valueFrom
+unfolding timeIn vttTime wideBy wideFrom markIn contains timeWith kindBad unitsOf markOf trim trimHead trimTail headFrom keepFrom whiteTail endsWhite whiteHead white whiteHigh codeHead codeBy charWidth widthBy leadLen secondLow secondHigh tail last upTo past first starts number natural unsigned digits digit valueFrom
 read-marks = (refl, refl, refl, refl, refl, refl, refl, refl, refl, refl, refl, refl, refl)
+
+-- ---- WebVTT: hours may be missing, and have two digits or more; each other part has its width, and no `+`
+read-vtt : (timeIn 2 (ascii "00:01.500") ≡ At 1500 46)
+    × (timeIn 2 (ascii "00:00:01.500") ≡ At 1500 46)
+    × (timeIn 2 (ascii "0000100:00:00.045") ≡ At 360000045 46)
+    × (timeIn 2 (ascii "9999:59:59.999") ≡ At 35999999999 46)
+    × (timeIn 2 (ascii " \t59:59.999" ++ 0xE3 ∷ 0x80 ∷ 0x80 ∷ []) ≡ At 3599999 46)
+unfolding timeIn vttTime wideBy wideFrom markIn contains timeWith kindBad unitsOf markOf trim trimHead trimTail headFrom keepFrom whiteTail endsWhite whiteHead white whiteHigh codeHead codeBy charWidth widthBy leadLen secondLow secondHigh tail last upTo past first starts number natural unsigned digits digit valueFrom
+read-vtt = (refl, refl, refl, refl, refl)
+
+vtt-bad : (timeNumber (timeIn 2 (ascii "0:00:01.500")) ≡ 22)
+    × (timeNumber (timeIn 2 (ascii "00:00:01,500")) ≡ 22)
+    × (timeNumber (timeIn 2 (ascii "00:01.50")) ≡ 22)
+    × (timeNumber (timeIn 2 (ascii "00:1.500")) ≡ 22)
+    × (timeNumber (timeIn 2 (ascii "0:01.500")) ≡ 22)
+    × (timeNumber (timeIn 2 (ascii "+0:01.500")) ≡ 22)
+    × (timeNumber (timeIn 2 (ascii "00:60.000")) ≡ 22)
+    × (timeNumber (timeIn 2 (ascii "60:00.000")) ≡ 22)
+    × (timeNumber (timeIn 2 (ascii "10000:00:00.000")) ≡ 22)
+    × (timeNumber (timeIn 2 (ascii "00:00:00:01.500")) ≡ 22)
+    × (timeNumber (timeIn 2 (ascii ":00:01.500")) ≡ 22)
+    × (timeNumber (timeIn 2 (ascii "01.500")) ≡ 22)
+    × (timeNumber (timeIn 2 (ascii "00:01.5000")) ≡ 22)
+unfolding timeIn vttTime wideBy wideFrom markIn contains timeWith kindBad unitsOf markOf trim trimHead trimTail headFrom keepFrom whiteTail endsWhite whiteHead white whiteHigh codeHead codeBy charWidth widthBy leadLen secondLow secondHigh tail last upTo past first starts number natural unsigned digits digit valueFrom
+vtt-bad = (refl, refl, refl, refl, refl, refl, refl, refl, refl, refl, refl, refl, refl)
 
 -- each part past its limit, a missing part, white space inside, the other kind's mark, and no such kind
 read-bad : (timeNumber (timeIn 0 (ascii "0:60:00.00")) ≡ 22)
@@ -57,14 +82,14 @@ read-bad : (timeNumber (timeIn 0 (ascii "0:60:00.00")) ≡ 22)
     × (timeNumber (timeIn 0 (ascii "")) ≡ 22)
     × (timeNumber (timeIn 1 (ascii "00:00:01.5,0")) ≡ 22)
     × (timeNumber (timeIn 0 (ascii "0:00:01,50")) ≡ 22)
-    × (timeNumber (timeIn 2 (ascii "00:00:01.500")) ≡ 22)
-unfolding timeIn markIn contains timeWith kindBad unitsOf markOf trim trimHead trimTail headFrom keepFrom whiteTail endsWhite whiteHead white whiteHigh codeHead codeBy charWidth widthBy leadLen secondLow secondHigh tail last upTo past first starts number natural unsigned digits digit valueFrom
+    × (timeNumber (timeIn 3 (ascii "00:00:01.500")) ≡ 22)
+unfolding timeIn vttTime wideBy wideFrom markIn contains timeWith kindBad unitsOf markOf trim trimHead trimTail headFrom keepFrom whiteTail endsWhite whiteHead white whiteHigh codeHead codeBy charWidth widthBy leadLen secondLow secondHigh tail last upTo past first starts number natural unsigned digits digit valueFrom
 read-bad = (refl, refl, refl, refl, refl, refl, refl, refl, refl, refl, refl, refl, refl)
 
 read-values : (timeNumber (timeIn 0 (ascii "0:00:00.21")) ≡ 0)
     × (timeUnits (timeIn 0 (ascii "0:00:00.21")) ≡ 21)
     × (timeMark (timeIn 0 (ascii "0:00:00.21")) ≡ 46)
-unfolding timeIn markIn contains timeWith kindBad unitsOf markOf trim trimHead trimTail headFrom keepFrom whiteTail endsWhite whiteHead white whiteHigh codeHead codeBy charWidth widthBy leadLen secondLow secondHigh tail last upTo past first starts number natural unsigned digits digit valueFrom
+unfolding timeIn vttTime wideBy wideFrom markIn contains timeWith kindBad unitsOf markOf trim trimHead trimTail headFrom keepFrom whiteTail endsWhite whiteHead white whiteHigh codeHead codeBy charWidth widthBy leadLen secondLow secondHigh tail last upTo past first starts number natural unsigned digits digit valueFrom
 read-values = (refl, refl, refl)
 
 -- ---- times written
@@ -75,5 +100,7 @@ written : (timeText 0 46 359999 ≡ ascii "0:59:59.99")
     × (timeText 1 44 45296789 ≡ ascii "12:34:56,789")
     × (timeText 1 44 5 ≡ ascii "00:00:00,005")
     × (timeText 1 46 1500 ≡ ascii "00:00:01.500")
+    × (timeText 2 46 1500 ≡ ascii "00:00:01.500")
+    × (timeText 2 46 360000045 ≡ ascii "100:00:00.045")
 unfolding timeText textWith kindBad unitsOf fractionDigits hourDigits width widthUnder pad
-written = (refl, refl, refl, refl, refl, refl)
+written = (refl, refl, refl, refl, refl, refl, refl, refl)

@@ -201,5 +201,5 @@ module _ (c : ℕ) (low : c < 0x80) (other : white c ≡ false) (no-digit : (b :
   pub read-free : (kind n k : ℕ) (text : List ℕ) → (c ≡ 44 → ⊥) → (c ≡ 46 → ⊥) → timeIn kind text ≡ At n k → Free c text
   read-free kind n k text no-comma no-point e =
       let p = read-known kind n k text e in
-      let no-mark : c ≡ markIn kind (trim text) → ⊥ = λ q. ⊎-elim (λ r. no-comma (q ∙ r)) (λ r. no-point (q ∙ r)) (mark-one kind (trim text) (p .0)) in
-      trim-free c low other text (with-free (unitsOf kind) n (markIn kind (trim text)) k (trim text) no-mark (p .1))
+      let no-mark : c ≡ markIn kind (trim text) → ⊥ = λ q. ⊎-elim (λ r. no-comma (q ∙ r)) (λ r. no-point (q ∙ r)) (mark-one kind (trim text) (p .good)) in
+      trim-free c low other text (p .inside c (with-free (unitsOf kind) n (markIn kind (trim text)) k (p .row) no-mark (p .reads)))

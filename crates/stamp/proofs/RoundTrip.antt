@@ -7,7 +7,7 @@ use lib.ListN.{length, getD, length-append}
 use lib.Seq.{append-snoc}
 use native.Mathlib.Nat.{div-add-mod', mod-lt, div-lt-iff-lt-mul, pow-le-pow-right, lt-of-lt-of-le, pow-suc, mul-assoc}
 use native.Mathlib.Omega.{arith}
-use borrow.Author.Tests.{ne-eqb, lt-ltb, le-ltb, lt-leb}
+use borrow.Author.Tests.{eq-eqb, ne-eqb, lt-ltb, le-ltb, lt-leb}
 use Rattle.base.proofs.Laws.{yes!, no! }
 use Rattle.text.specs.declared.decimal.Number.the-variants.{Value}
 use Rattle.text.specs.Number.{digits, valueFrom, natural, number}
@@ -20,7 +20,7 @@ use Rattle.unicode.proofs.Trailing.{tail-other}
 use Rattle.stamp.specs.declared.read.Time.the-variants.{At}
 use Rattle.base.specs.Limits.{mostHours, mostMinutes, mostSeconds}
 use Rattle.time.specs.Kind.{kindBad, unitsOf, markOf, fractionDigits, hourDigits}
-use Rattle.stamp.specs.Read.{colon, commaMark, markIn, timeWith, timeIn}
+use Rattle.stamp.specs.Read.{colon, commaMark, markIn, point, timeWith, wideBy, wideFrom, vttTime, timeIn}
 use Rattle.stamp.specs.Write.{pad, width, widest, textWith, timeText}
 use Rattle.time.proofs.Limits.{units-low, fraction-low, fraction-holds}
 use Rattle.stamp.proofs.Written.{text-some, text-none}
@@ -164,6 +164,19 @@ module _ (U frac least mark units : ℕ) (hU : 0 < U) (hf : U ≤ 10 ^ frac) (hf
       rw (e, p1, p2, H, M, S, F)
       (ap (λ (n : ℕ). At n mark) (ap (λ (n : ℕ). n * U + f) sum ∙ div-add-mod' units U))
 
+-- a byte found behind others
+first-one : (c : ℕ) (t : List ℕ) → first (c ∷ []) (c ∷ t) ≡ 0
+unfolding first starts
+first-one c t = rw (eq-eqb c c refl)
+
+found-at : (c : ℕ) (s t : List ℕ) → Free c s → first (c ∷ []) (s ++ c ∷ t) ≡ length s
+found-at c s t f = first-free c [] s (c ∷ t) f ∙ omega (arith, first-one c t)
+
+has-byte : (c : ℕ) (s t : List ℕ) → Free c s → contains (c ∷ []) (s ++ c ∷ t) ≡ true
+unfolding contains
+has-byte c s t f =
+    lt-ltb (first (c ∷ []) (s ++ c ∷ t)) (length (s ++ c ∷ t)) (omega (arith, found-at c s t f, length-append s (c ∷ t)))
+
 -- what stands behind its second colon
 with-last : (U frac least mark units : ℕ) → past colon (past colon (textWith U frac least mark units)) ≡ pad 2 (units / U % 60) ++ mark ∷ pad frac (units % U)
 with-last U frac least mark units =
@@ -177,8 +190,8 @@ with-last U frac least mark units =
     ∙ ap (past colon) (past-byte 58 (pad w h) t2 (digits-free 58 cm (pad w h) (pad-digits w h)))
     ∙ past-byte 58 (pad 2 m) t3 (digits-free 58 cm (pad 2 m) (pad-digits 2 m))
 
--- a written time, read in its kind, is the time (hours up to 9,999), where the mark written is the one that its reading sees
-module _ (kind mark units : ℕ) (e : kindBad kind ≡ false) (hm : Mark mark)
+-- a written time of ASS or SRT, read in its kind, is the time (hours up to 9,999), where the mark written is the one that its reading sees
+module _ (kind mark units : ℕ) (e : kindBad kind ≡ false) (z : kind ≡ 2 → ⊥) (hm : Mark mark)
     (seen : markIn kind (textWith (unitsOf kind) (fractionDigits kind) (hourDigits kind) mark units) ≡ mark) (h : units < 36000000 * unitsOf kind) where
   time-back : timeIn kind (timeText kind mark units) ≡ At units mark
   unfolding timeIn
@@ -190,24 +203,17 @@ module _ (kind mark units : ℕ) (e : kindBad kind ≡ false) (hm : Mark mark)
       let hf : 0 < f = omega (arith, fraction-low kind e) in
       sym
       (no! _ e
+      (no! _ (ne-eqb kind 2 z)
       (sym
       (ap (λ (s : List ℕ). timeWith U (markIn kind (trim s)) (trim s)) (text-some kind mark units e) ∙
       ap (λ (s : List ℕ). timeWith U (markIn kind s) s) (trim-with U f d mark units hf) ∙
       ap (λ (k : ℕ). timeWith U k (textWith U f d mark units)) seen ∙
-      back-with U f d mark units hU (fraction-holds kind e) hf hm h)))
+      back-with U f d mark units hU (fraction-holds kind e) hf hm h))))
 
 -- ASS has a point; SRT a comma or a point
 pub ass-back : (units : ℕ) → units < 36000000 * unitsOf 0 → timeIn 0 (timeText 0 46 units) ≡ At units 46
 unfolding markIn markOf kindBad
-ass-back units h = time-back 0 46 units refl (λ b l r e. omega arith) refl h
-
-comma-here : (r : List ℕ) → first commaMark (44 ∷ r) ≡ 0
-unfolding first starts
-comma-here r = refl
-
-comma-seen : (s : List ℕ) → Free 44 s → (r : List ℕ) → contains commaMark (s ++ 44 ∷ r) ≡ true
-unfolding contains
-comma-seen s f r = lt-ltb (first commaMark (s ++ 44 ∷ r)) (length (s ++ 44 ∷ r)) (omega (arith, first-free 44 [] s (44 ∷ r) f, comma-here r, length-append s (44 ∷ r)))
+ass-back units h = time-back 0 46 units refl (λ z. omega arith) (λ b l r e. omega arith) refl h
 
 plain-comma : Mark 44
 plain-comma = λ b l r e. omega arith
@@ -217,8 +223,8 @@ unfolding markIn kindBad
 comma-back units h =
     let front : List ℕ = pad 2 (units / unitsOf 1 % 60) in
     let free : Free 44 front = digits-free 44 plain-comma front (pad-digits 2 (units / unitsOf 1 % 60)) in
-    let seen : contains commaMark (front ++ 44 ∷ pad (fractionDigits 1) (units % unitsOf 1)) ≡ true = comma-seen front free (pad (fractionDigits 1) (units % unitsOf 1)) in
-    time-back 1 44 units refl plain-comma (rw (with-last (unitsOf 1) (fractionDigits 1) (hourDigits 1) 44 units, seen)) h
+    let seen : contains commaMark (front ++ 44 ∷ pad (fractionDigits 1) (units % unitsOf 1)) ≡ true = has-byte 44 front (pad (fractionDigits 1) (units % unitsOf 1)) free in
+    time-back 1 44 units refl (λ z. omega arith) plain-comma (rw (with-last (unitsOf 1) (fractionDigits 1) (hourDigits 1) 44 units, seen)) h
 
 pub point-back : (units : ℕ) → units < 36000000 * unitsOf 1 → timeIn 1 (timeText 1 46 units) ≡ At units 46
 unfolding markIn kindBad
@@ -229,7 +235,63 @@ point-back units h =
     let g : Free 44 back = digits-free 44 plain-comma back (pad-digits (fractionDigits 1) (units % unitsOf 1)) in
     let other : _≡_ {A = ℕ} 44 46 → ⊥ = λ q. omega (arith, q) in
     let none : contains commaMark (front ++ 46 ∷ back) ≡ false = none-free 44 [] (front ++ 46 ∷ back) (free-append 44 front (46 ∷ back) f (other, g)) in
-    time-back 1 46 units refl (λ b l r e. omega arith) (rw (with-last (unitsOf 1) (fractionDigits 1) (hourDigits 1) 46 units, none)) h
+    time-back 1 46 units refl (λ z. omega arith) (λ b l r e. omega arith) (rw (with-last (unitsOf 1) (fractionDigits 1) (hourDigits 1) 46 units, none)) h
+
+-- ---- WebVTT: digits of their widths
+natural-back : (most k n : ℕ) → 0 < k → n < 10 ^ k → n ≤ most → natural most (pad k n) ≡ Value n
+natural-back most k n hk small le =
+    let v : valueFrom 0 (pad k n) ≡ n = ap (valueFrom 0) (sym (append-nil (pad k n))) ∙ value-pad k 0 n [] small ∙ value-nil (0 * 10 ^ k + n) ∙ omega arith in
+    sym (natural-value most n (pad k n) (omega (arith, pad-length k n)) (digits-true (pad k n) (pad-digits k n)) v le)
+
+wide-back : (most k n : ℕ) → 0 < k → n < 10 ^ k → n ≤ most → wideBy k most (pad k n) ≡ Value n
+unfolding wideBy
+wide-back most k n hk small le = sym (yes! _ (eq-eqb (length (pad k n)) k (pad-length k n)) (sym (natural-back most k n hk small le)))
+
+from-back : (most k n : ℕ) → 2 ≤ k → n < 10 ^ k → n ≤ most → wideFrom most (pad k n) ≡ Value n
+unfolding wideFrom
+from-back most k n hk small le = sym (no! _ (le-ltb (length (pad k n)) 2 (omega (arith, pad-length k n))) (sym (natural-back most k n (omega arith) small le)))
+
+pos : (n : ℕ) → 0 < n → 0 < n
+pos n h = h
+
+with-vtt : (units : ℕ) → units < 36000000 * 1000 → vttTime (textWith 1000 3 2 46 units) ≡ At units 46
+unfolding vttTime
+with-vtt units hh =
+    let total = units / 1000 in
+    let h = total / 60 / 60 in
+    let m = total / 60 % 60 in
+    let s = total % 60 in
+    let f = units % 1000 in
+    let w = widest 2 h in
+    let t3 : List ℕ = pad 2 s ++ 46 ∷ pad 3 f in
+    let t2 : List ℕ = pad 2 m ++ 58 ∷ t3 in
+    let t1 : List ℕ = pad w h ++ 58 ∷ t2 in
+    let cm : Mark 58 = λ b l r e. omega arith in
+    let pm : Mark 46 = λ b l r e. omega arith in
+    let hours : total < 36000000 = div-lt-iff-lt-mul (pos 1000 (omega arith)) .1 hh in
+    let wide : h < 10 ^ w =
+    lt-of-lt-of-le (width-pow h) (pow-le-pow-right {n = 10} (omega arith) {i = width h} {j = w} (omega arith)) in
+    let e : textWith 1000 3 2 46 units ≡ t1 = shape 1000 3 2 46 units in
+    let p1 : past colon t1 ≡ t2 = past-byte 58 (pad w h) t2 (digits-free 58 cm (pad w h) (pad-digits w h)) in
+    let p2 : past colon t2 ≡ t3 = past-byte 58 (pad 2 m) t3 (digits-free 58 cm (pad 2 m) (pad-digits 2 m)) in
+    let c2 : contains colon t2 ≡ true = has-byte 58 (pad 2 m) t3 (digits-free 58 cm (pad 2 m) (pad-digits 2 m)) in
+    let H : wideFrom mostHours (upTo colon t1) ≡ Value h =
+    ap (wideFrom mostHours) (up-byte 58 (pad w h) t2 (digits-free 58 cm (pad w h) (pad-digits w h))) ∙ from-back mostHours w h (omega arith) wide (omega arith) in
+    let M : wideBy 2 mostMinutes (upTo colon t2) ≡ Value m =
+    ap (wideBy 2 mostMinutes) (up-byte 58 (pad 2 m) t3 (digits-free 58 cm (pad 2 m) (pad-digits 2 m))) ∙ wide-back mostMinutes 2 m (omega arith) (omega arith) (omega arith) in
+    let S : wideBy 2 mostSeconds (upTo point t3) ≡ Value s =
+    ap (wideBy 2 mostSeconds) (up-byte 46 (pad 2 s) (pad 3 f) (digits-free 46 pm (pad 2 s) (pad-digits 2 s))) ∙ wide-back mostSeconds 2 s (omega arith) (omega arith) (omega arith) in
+    let F : wideBy 3 999 (past point t3) ≡ Value f =
+    ap (wideBy 3 999) (past-byte 46 (pad 2 s) (pad 3 f) (digits-free 46 pm (pad 2 s) (pad-digits 2 s))) ∙ wide-back 999 3 f (omega arith) (omega arith) (omega arith) in
+    let sum : ((h * 60 + m) * 60 + s) ≡ total = omega arith in
+    rw (e, p1, c2, p2, H, M, S, F)
+    (ap (λ (n : ℕ). At n 46) (ap (λ (n : ℕ). n * 1000 + f) sum ∙ div-add-mod' units 1000))
+
+-- WebVTT has a point
+pub vtt-back : (units : ℕ) → units < 36000000 * unitsOf 2 → timeIn 2 (timeText 2 46 units) ≡ At units 46
+unfolding timeIn kindBad unitsOf fractionDigits hourDigits
+vtt-back units h =
+    ap (λ (s : List ℕ). vttTime (trim s)) (text-some 2 46 units refl) ∙ ap vttTime (trim-with 1000 3 2 46 units (omega arith)) ∙ with-vtt units h
 
 -- nothing of a written time is white space at an end
 pub text-trimmed : (kind mark units : ℕ) → kindBad kind ≡ false → trim (timeText kind mark units) ≡ timeText kind mark units

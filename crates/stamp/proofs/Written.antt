@@ -94,6 +94,10 @@ srt-23 : (mark units : ℕ) → units < 2 ^ 64 → length (textWith (unitsOf 1) 
 unfolding unitsOf fractionDigits hourDigits
 srt-23 mark units h = omega (arith, text-length 1000 3 2 mark units, width-bound 12 (units / 1000 / 60 / 60) (omega arith))
 
+vtt-23 : (mark units : ℕ) → units < 2 ^ 64 → length (textWith (unitsOf 2) (fractionDigits 2) (hourDigits 2) mark units) ≤ 23
+unfolding unitsOf fractionDigits hourDigits
+vtt-23 mark units h = omega (arith, text-length 1000 3 2 mark units, width-bound 12 (units / 1000 / 60 / 60) (omega arith))
+
 pub text-23 : (kind mark units : ℕ) → units < 2 ^ 64 → length (timeText kind mark units) ≤ 23
 text-23 kind mark units h = go (kindBad kind) refl
   where
@@ -101,7 +105,7 @@ text-23 kind mark units h = go (kindBad kind) refl
     go true e = rw (text-none kind mark units e) (omega arith)
     go false e =
         rw (text-some kind mark units e)
-        (by-kind (λ k. length (textWith (unitsOf k) (fractionDigits k) (hourDigits k) mark units) ≤ 23) (ass-23 mark units h) (srt-23 mark units h) kind e)
+        (by-kind (λ k. length (textWith (unitsOf k) (fractionDigits k) (hourDigits k) mark units) ≤ 23) (ass-23 mark units h) (srt-23 mark units h) (vtt-23 mark units h) kind e)
 
 -- and the shortest has 10
 pub text-10 : (kind mark units : ℕ) → kindBad kind ≡ false → 10 ≤ length (timeText kind mark units)

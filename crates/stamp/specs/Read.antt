@@ -1,12 +1,13 @@
 -- A caption time as text, read. A text is the list of its bytes.
 use Prim.Native.Nat.{ℕ, _+_, _-_, _*_, _≤_}
-use lib.Dec.{eqb}
 use mathlib.Core.Bool.{cond}
+use lib.Dec.{eqb, ltb}
+use lib.ListN.{length}
 use mathlib.Core.List.{List, [], _∷_}
 use Rattle.base.specs.Limits.{mostHours, mostMinutes, mostSeconds}
 use Rattle.text.specs.declared.decimal.Number.{Number}
 use Rattle.text.specs.declared.decimal.Number.the-variants.{Value, Bad as NoNumber}
-use Rattle.text.specs.Number.{number}
+use Rattle.text.specs.Number.{natural, number}
 use Rattle.pattern.specs.Find.{contains, upTo, past}
 use Rattle.white.specs.White.{trim}
 use Rattle.time.specs.Kind.{kindBad, unitsOf, markOf}
@@ -38,13 +39,37 @@ timeWith U mark text =
 abbrev pub commaMark : List ℕ
 commaMark = 44 ∷ []
 
--- the mark before the fraction of a trimmed text: in SRT a comma where one stands behind the second `:`, else a point; the other kinds have their own
+-- the mark before the fraction of a trimmed text: in SRT a comma where one stands behind the second `:`, else a point; ASS has its own
 unfoldable pub markIn : (kind : ℕ) → List ℕ → ℕ
 markIn kind t = cond (eqb kind 1) (cond (contains commaMark (past colon (past colon t))) 44 46) (markOf kind)
 
--- the time that a text, trimmed, says in a kind: `h:m:s.f` in ASS, `h:m:s,f` or `h:m:s.f` in SRT
+-- ---- WebVTT: digits alone, in fixed widths
+-- `.`
+abbrev pub point : List ℕ
+point = 46 ∷ []
+
+-- exactly w digits, and at least two: no `+`
+unfoldable pub wideBy : (w most : ℕ) → List ℕ → Number
+wideBy w most s = cond (eqb (length s) w) (natural most s) NoNumber
+
+unfoldable pub wideFrom : (most : ℕ) → List ℕ → Number
+wideFrom most s = cond (ltb (length s) 2) NoNumber (natural most s)
+
+-- mm:ss.ttt behind the hours h
+abbrev pub minutesOn : (h : Number) → List ℕ → Time
+minutesOn h t =
+    timeFrom 1000 46 h
+    (wideBy 2 mostMinutes (upTo colon t))
+    (wideBy 2 mostSeconds (upTo point (past colon t)))
+    (wideBy 3 999 (past point (past colon t)))
+
+-- hours stand before the first of two colons; with one colon there are none
+unfoldable pub vttTime : List ℕ → Time
+vttTime t = cond (contains colon (past colon t)) (minutesOn (wideFrom mostHours (upTo colon t)) (past colon t)) (minutesOn (Value 0) t)
+
+-- the time that a text, trimmed, says in a kind: `h:m:s.f` in ASS, `h:m:s,f` or `h:m:s.f` in SRT, `mm:ss.ttt` or `hh:mm:ss.ttt` in WebVTT
 unfoldable pub timeIn : (kind : ℕ) → List ℕ → Time
-timeIn kind text = cond (kindBad kind) Bad (timeWith (unitsOf kind) (markIn kind (trim text)) (trim text))
+timeIn kind text = cond (kindBad kind) Bad (cond (eqb kind 2) (vttTime (trim text)) (timeWith (unitsOf kind) (markIn kind (trim text)) (trim text)))
 
 -- the number of the answer (22, bad time), and its values
 abbrev pub timeNumber : Time → ℕ

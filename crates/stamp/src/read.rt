@@ -7,7 +7,7 @@ ghost use mathlib.Core.Path.{_≡_};
 ghost use Prim.Native.Nat.{_+_, _*_, _≤_};
 ghost use Rattle.base.specs.Limits.{mostHours, mostMinutes, mostSeconds};
 ghost use Rattle.pattern.specs.Find.{upTo, past};
-ghost use Rattle.stamp.specs.Read.{colon, timeFrom, timeWith, markIn, timeIn, Below};
+ghost use Rattle.stamp.specs.Read.{colon, timeFrom, timeWith, wideBy, wideFrom, minutesOn, vttTime, markIn, timeIn, Below};
 
 // A time that was read, in units, and the mark before its fraction.
 pub enum Time {
@@ -85,6 +85,51 @@ fn mark_in(text: &[u8], kind: u32) -> u8
     mark_of(kind)
 }
 
+// Exactly n digits, the value at most `most`.
+fn wide_by(s: &[u8], n: usize, most: u32) -> Number
+    ensures { λ r. ⌜ r ≡ wideBy n most (now (s .entry)) ⌝ }
+{
+    if s.len() == n {
+        return text::digits_to(s, most);
+    }
+    Number::Bad
+}
+
+// Two digits or more, the value at most `most`.
+fn wide_from(s: &[u8], most: u32) -> Number
+    ensures { λ r. ⌜ r ≡ wideFrom most (now (s .entry)) ⌝ }
+{
+    if s.len() < 2 {
+        return Number::Bad;
+    }
+    text::digits_to(s, most)
+}
+
+// mm:ss.ttt behind the hours h.
+fn minutes_on(h: Number, text: &[u8]) -> Time
+    requires { ⌜ Below mostHours h ⌝ }
+    ensures { λ r. ⌜ r ≡ minutesOn h (now (text .entry)) ⌝ }
+{
+    let m = wide_by(before_colon(text), 2, base::MOST_MINUTES);
+    let last = after_colon(text);
+    let s = wide_by(pattern::up_to(last, b"."), 2, base::MOST_SECONDS);
+    let f = wide_by(pattern::past(last, b"."), 3, 999);
+    join(h, m, s, f, 1000, b'.')
+}
+
+// A time of WebVTT: hours stand before the first of two colons.
+fn read_vtt(text: &[u8]) -> Time
+    ensures { λ r. ⌜ r ≡ vttTime (now (text .entry)) ⌝ }
+{
+    let rest = after_colon(text);
+    if pattern::has(rest, b":") {
+        let h = wide_from(before_colon(text), base::MOST_HOURS);
+        return minutes_on(h, rest);
+    }
+    let none: u32 = 0;
+    minutes_on(Number::Value(none), text)
+}
+
 // Reads a time, trimmed first, and tells the mark that it saw.
 pub fn read_time(text: &[u8], kind: u32) -> Time
     ensures { λ r. ⌜ r ≡ timeIn kind (now (text .entry)) ⌝ }
@@ -93,5 +138,8 @@ pub fn read_time(text: &[u8], kind: u32) -> Time
         return Time::Bad;
     }
     let t = white::trimmed(text);
+    if kind == 2 {
+        return read_vtt(t);
+    }
     read_with(t, units_of(kind), mark_in(t, kind))
 }

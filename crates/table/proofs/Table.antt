@@ -26,7 +26,7 @@ use Rattle.assline.specs.Tags.{holdsAny}
 use Rattle.columns.specs.Section.{bracketed, inside}
 use Rattle.assline.specs.Frame.{pieceAt, fieldPieces}
 use Rattle.ass.specs.Line.{captionSays, wordSays, textSays, lineSays}
-use Rattle.timing.specs.Style.{srtEnd}
+use Rattle.timing.specs.Style.{srtEnd, endIn, stampsIn}
 use Rattle.timing.specs.Arrow.{timingOf, afterArrow}
 use Rattle.block.specs.Block.{timingLineSays, blockSays}
 use Rattle.table.specs.Example.{theSegments}
@@ -34,7 +34,7 @@ use Rattle.table.specs.Table.{Table}
 use Rattle.table.proofs.TheMap.{segments-is}
 
 rows : Table (segment 0 3 0 3 0 3003 ∷ segment 6 10 6006 4 3003 4004 ∷ [])
-unfolding leadLen secondLow secondHigh tail widthBy charWidth codeBy codeHead whiteHigh white whiteHead last endsWhite whiteTail headFrom keepFrom trimHead trimTail trim starts equals first contains upTo past piecesFrom pieces digit digits valueFrom natural unsigned number linesOf textOf terminatorLength terminatorOf kindBad unitsOf markOf timeWith markIn timeIn namesIn placeIn columnsIn fields fieldAt holdsAny bracketed inside pieceAt fieldPieces captionSays wordSays textSays lineSays emitBy render timeText textWith pad width widthUnder fractionDigits hourDigits fateOf decideOf decideTicks findFrom meetsParts lostLater ticksOf startUnits endUnits scaledUp srtEnd timingOf afterArrow timingLineSays blockSays
+unfolding leadLen secondLow secondHigh tail widthBy charWidth codeBy codeHead whiteHigh white whiteHead last endsWhite whiteTail headFrom keepFrom trimHead trimTail trim starts equals first contains upTo past piecesFrom pieces digit digits valueFrom natural unsigned number linesOf textOf terminatorLength terminatorOf kindBad unitsOf markOf timeWith markIn timeIn namesIn placeIn columnsIn fields fieldAt holdsAny bracketed inside pieceAt fieldPieces captionSays wordSays textSays lineSays emitBy render timeText textWith pad width widthUnder fractionDigits hourDigits fateOf decideOf decideTicks findFrom meetsParts lostLater ticksOf startUnits endUnits scaledUp srtEnd endIn stampsIn timingOf afterArrow timingLineSays blockSays
 rows =
     record {
       across = refl;

@@ -19,7 +19,7 @@ use Rattle.event.specs.Says.{bytes, start, stop, stays, passes, cue, unplaced, 
 use Rattle.event.specs.Emit.{Warning, warning, emitOf}
 use Rattle.columns.specs.declared.layout.Columns.{Columns}
 use Rattle.ass.specs.Line.{LineSays, faulty, says, lineSays}
-use Rattle.timing.specs.Style.{srt}
+use Rattle.timing.specs.Style.{styleOf}
 use Rattle.block.specs.Block.{blockFrame, blockCue, blockSays, says as blockSaid}
 use Rattle.table.specs.Example.{setting}
 
@@ -89,8 +89,8 @@ pub record Table (m : List Segment) : Type 0 where
   pub last-units : timeUnits (timeIn 0 (ascii "0:59:59.99")) ≡ 359999
   pub last-mark : timeMark (timeIn 0 (ascii "0:59:59.99")) ≡ 46
   -- SRT: the end `100:00:00,456` is read as 100 h and 45 ms, trailing `6`
-  pub srt-end : blockSays srt 1 (lf "0:0:1,5 --> 100:00:00,456" ∷ [])
-      ≡ blockSaid (cue (blockCue 1 1005 44 360000045 44 (blockFrame [] (ascii "6") (10 ∷ []) [])))
+  pub srt-end : blockSays (styleOf 1) 1 (lf "0:0:1,5 --> 100:00:00,456" ∷ [])
+      ≡ blockSaid (cue (blockCue 1 1005 44 360000045 44 false (blockFrame [] (ascii "6") (10 ∷ []) [])))
   -- ---- a line: the space after `Dialogue:` goes with the field
   pub dialogue : becomes m (lineSays inPlace 2 (lf "Dialogue: 0:00:00.21,0:00:00.25,c")) ≡ lf "Dialogue:0:00:00.10,0:00:00.15,c"
   -- ---- the rules of a line
@@ -127,6 +127,7 @@ pub record Table (m : List Segment) : Type 0 where
         stop = 25;
         stopMark = 46;
         tagged = true;
+        stamped = false;
         frame = bytes (ascii "Comment:") ∷ start ∷ bytes (ascii ",") ∷ stop ∷ bytes (ascii ",") ∷ bytes (ascii "{\\k5}a,b") ∷ bytes (10 ∷ []) ∷ [];
       }))
   pub commas : becomes m (lineSays inPlace 2 (lf "Comment:0:0:0.21,0:0:0.25,a,b")) ≡ lf "Comment:0:00:00.10,0:00:00.15,a,b"

@@ -8,7 +8,7 @@ pub enum Number {
     Bad,
 }
 
-fn is_digit(b: u8) -> bool
+pub fn is_digit(b: u8) -> bool
     ensures { λ r. ⌜ r ≡ digit b ⌝ }
 {
     if b < 0x30 {
@@ -18,7 +18,7 @@ fn is_digit(b: u8) -> bool
 }
 
 // One or more digits whose value is at most `most`.
-fn digits_to(s: &[u8], most: u32) -> Number
+pub fn digits_to(s: &[u8], most: u32) -> Number
     ensures { λ r. ⌜ r ≡ natural most (now (s .entry)) ⌝ }
 {
     if s.len() == 0 {

@@ -3,6 +3,8 @@ mod decimal;
 mod line;
 
 pub use decimal::Number;
+pub use decimal::digits_to;
+pub use decimal::is_digit;
 pub use decimal::number_to;
 pub use line::is_blank;
 pub use line::line_length;

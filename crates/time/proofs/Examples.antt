@@ -17,9 +17,9 @@ unfolding startUnits endUnits scaledUp
 cut-caption = (refl, refl)
 
 -- lone conversions: at the limits, past them, and which refusal comes first
-units-limits : (unitsNumber 0 1 (2 ^ 36) ≡ 0) × (unitsNumber 1 1000000 (2 ^ 36 + 1) ≡ 16) × (unitsNumber 2 1000000 5 ≡ 16) × (unitsNumber 2 0 5 ≡ 15) × (unitsNumber 0 1000000000 5 ≡ 0) × (unitsNumber 0 1000000001 5 ≡ 15)
+units-limits : (unitsNumber 0 1 (2 ^ 36) ≡ 0) × (unitsNumber 1 1000000 (2 ^ 36 + 1) ≡ 16) × (unitsNumber 2 1000000 (2 ^ 36) ≡ 0) × (unitsNumber 3 1000000 5 ≡ 16) × (unitsNumber 3 0 5 ≡ 15) × (unitsNumber 0 1000000000 5 ≡ 0) × (unitsNumber 0 1000000001 5 ≡ 15)
 unfolding unitsNumber settingNumber timescaleBad kindBad faultUnless _orElse_
-units-limits = (refl, refl, refl, refl, refl, refl)
+units-limits = (refl, refl, refl, refl, refl, refl, refl)
 
 ticks-limits : (ticksNumber 1 1 (2 ^ 53) ≡ 0) × (ticksNumber 0 1 (2 ^ 53 + 1) ≡ 16) × (ticksNumber 0 0 (2 ^ 53 + 1) ≡ 15)
 unfolding ticksNumber settingNumber timescaleBad kindBad faultUnless _orElse_
@@ -34,6 +34,6 @@ far-ticks : (startUnits 1 1000 (2 ^ 53) ≡ 9007199254740992000) × (endUnits 1 
 unfolding startUnits endUnits scaledUp
 far-ticks = (refl, refl, refl, refl)
 
-refused-value : (convertedTo (unitsNumber 2 1000 5) 7 .value ≡ 0) × (convertedTo (unitsNumber 1 1000 5) 7 .value ≡ 7)
+refused-value : (convertedTo (unitsNumber 3 1000 5) 7 .value ≡ 0) × (convertedTo (unitsNumber 1 1000 5) 7 .value ≡ 7)
 unfolding convertedTo unitsNumber settingNumber timescaleBad kindBad faultUnless _orElse_
 refused-value = (refl, refl)

@@ -17,45 +17,47 @@ use Rattle.time.proofs.Scale.{quotient-below, up-down}
 
 -- ---- kinds
 -- by the kind: a claim about every known kind holds when it holds for each
-pub by-kind : (P : ℕ → Type 0) → P 0 → P 1 → (kind : ℕ) → kindBad kind ≡ false → P kind
+pub by-kind : (P : ℕ → Type 0) → P 0 → P 1 → P 2 → (kind : ℕ) → kindBad kind ≡ false → P kind
 unfolding kindBad
-by-kind P a b zero e = a
-by-kind P a b (suc zero) e = b
-by-kind P a b (suc (suc k)) e =
-    let none : true ≡ cond (eqb (suc (suc k)) 0) false (cond (eqb (suc (suc k)) 1) false true) =
-    no! _ (ne-eqb (suc (suc k)) 0 (λ z. omega arith)) (no! _ (ne-eqb (suc (suc k)) 1 (λ z. omega arith)) refl) in
+by-kind P a b c zero e = a
+by-kind P a b c (suc zero) e = b
+by-kind P a b c (suc (suc zero)) e = c
+by-kind P a b c (suc (suc (suc k))) e =
+    let none : true ≡ cond (eqb (suc (suc (suc k))) 0) false (cond (eqb (suc (suc (suc k))) 1) false (cond (eqb (suc (suc (suc k))) 2) false true)) =
+    no! _ (ne-eqb (suc (suc (suc k))) 0 (λ z. omega arith))
+    (no! _ (ne-eqb (suc (suc (suc k))) 1 (λ z. omega arith)) (no! _ (ne-eqb (suc (suc (suc k))) 2 (λ z. omega arith)) refl)) in
     absurd (true≢false (none ∙ e))
 
 module _ (kind : ℕ) (e : kindBad kind ≡ false) where
   pub units-low : 100 ≤ unitsOf kind
   unfolding unitsOf
-  units-low = by-kind (λ k. 100 ≤ unitsOf k) (omega arith) (omega arith) kind e
+  units-low = by-kind (λ k. 100 ≤ unitsOf k) (omega arith) (omega arith) (omega arith) kind e
 
   pub units-high : unitsOf kind ≤ 1000
   unfolding unitsOf
-  units-high = by-kind (λ k. unitsOf k ≤ 1000) (omega arith) (omega arith) kind e
+  units-high = by-kind (λ k. unitsOf k ≤ 1000) (omega arith) (omega arith) (omega arith) kind e
 
   pub fraction-low : 2 ≤ fractionDigits kind
   unfolding fractionDigits
-  fraction-low = by-kind (λ k. 2 ≤ fractionDigits k) (omega arith) (omega arith) kind e
+  fraction-low = by-kind (λ k. 2 ≤ fractionDigits k) (omega arith) (omega arith) (omega arith) kind e
 
   pub fraction-high : fractionDigits kind ≤ 3
   unfolding fractionDigits
-  fraction-high = by-kind (λ k. fractionDigits k ≤ 3) (omega arith) (omega arith) kind e
+  fraction-high = by-kind (λ k. fractionDigits k ≤ 3) (omega arith) (omega arith) (omega arith) kind e
 
   pub hour-high : hourDigits kind ≤ 2
   unfolding hourDigits
-  hour-high = by-kind (λ k. hourDigits k ≤ 2) (omega arith) (omega arith) kind e
+  hour-high = by-kind (λ k. hourDigits k ≤ 2) (omega arith) (omega arith) (omega arith) kind e
 
   -- the fraction's digits hold every fraction
   pub fraction-holds : unitsOf kind ≤ 10 ^ fractionDigits kind
   unfolding unitsOf fractionDigits
-  fraction-holds = by-kind (λ k. unitsOf k ≤ 10 ^ fractionDigits k) (omega arith) (omega arith) kind e
+  fraction-holds = by-kind (λ k. unitsOf k ≤ 10 ^ fractionDigits k) (omega arith) (omega arith) (omega arith) kind e
 
   -- the mark is no digit
   pub mark-plain : (b : ℕ) → 48 ≤ b → b ≤ 57 → markOf kind ≡ b → ⊥
   unfolding markOf
-  mark-plain = by-kind (λ k. (b : ℕ) → 48 ≤ b → b ≤ 57 → markOf k ≡ b → ⊥) (λ b l h z. omega arith) (λ b l h z. omega arith) kind e
+  mark-plain = by-kind (λ k. (b : ℕ) → 48 ≤ b → b ≤ 57 → markOf k ≡ b → ⊥) (λ b l h z. omega arith) (λ b l h z. omega arith) (λ b l h z. omega arith) kind e
 
 -- ---- limits
 pub record Within (kind T mostT value most : ℕ) : Type 0 where

@@ -1,4 +1,4 @@
-// The kinds of captions, 0 ASS and 1 SRT, and what each of them fixes about times.
+// The kinds of captions, 0 ASS, 1 SRT and 2 WebVTT, and what each of them fixes about times.
 ghost use mathlib.Core.Path.{_≡_};
 ghost use Rattle.time.specs.Kind.{kindBad, unitsOf, markOf, fractionDigits, hourDigits};
 
@@ -10,6 +10,9 @@ pub fn kind_bad(kind: u32) -> bool
         return false;
     }
     if kind == 1 {
+        return false;
+    }
+    if kind == 2 {
         return false;
     }
     true
@@ -25,6 +28,9 @@ pub fn units_of(kind: u32) -> u32
     if kind == 1 {
         return 1000;
     }
+    if kind == 2 {
+        return 1000;
+    }
     0
 }
 
@@ -37,6 +43,9 @@ pub fn mark_of(kind: u32) -> u8
     }
     if kind == 1 {
         return b',';
+    }
+    if kind == 2 {
+        return b'.';
     }
     0
 }
@@ -51,6 +60,9 @@ pub fn fraction_digits(kind: u32) -> usize
     if kind == 1 {
         return 3;
     }
+    if kind == 2 {
+        return 3;
+    }
     0
 }
 
@@ -62,6 +74,9 @@ pub fn hour_digits(kind: u32) -> usize
         return 1;
     }
     if kind == 1 {
+        return 2;
+    }
+    if kind == 2 {
         return 2;
     }
     0

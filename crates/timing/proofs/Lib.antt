@@ -1,2 +1,3 @@
 -- The laws of the crate that belong to no one function.
 pub mod PlaceLaws
+pub mod VttLaws

@@ -9,5 +9,8 @@ pub fn is_blank_in(kind: u32, line: &[u8]) -> bool
     if kind == 1 {
         return text::is_blank(line);
     }
+    if kind == 2 {
+        return text::text_of(line).len() == 0;
+    }
     false
 }

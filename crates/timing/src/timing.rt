@@ -4,7 +4,7 @@ ghost use Prim.Native.Nat.{_≤_};
 ghost use lib.ListN.{length};
 ghost use Rattle.pattern.specs.Find.{contains, upTo};
 ghost use Rattle.text.specs.Line.{linesOf};
-ghost use Rattle.timing.specs.Style.{srtEnd};
+ghost use Rattle.timing.specs.Style.{srtEnd, vttEnd, endIn};
 ghost use Rattle.timing.specs.Arrow.{arrow, afterArrow};
 ghost use Rattle.timing.specs.Place.{timingPlace};
 
@@ -35,8 +35,8 @@ pub fn after_arrow(s: &[u8]) -> &[u8]
     white::trim_head(pattern::past(s, b"-->"))
 }
 
-// How many bytes of what follows the arrow are the end time.
-pub fn end_length(r: &[u8]) -> usize
+// SRT's end time: 12 bytes, or all.
+fn srt_end(r: &[u8]) -> usize
     ensures { λ n. ⌜ n ≡ srtEnd (now (r .entry)) ⌝ }
 {
     if r.len() < 12 {
@@ -46,6 +46,25 @@ pub fn end_length(r: &[u8]) -> usize
         return r.len();
     }
     12
+}
+
+// WebVTT's end time: up to the first space or tab.
+fn vtt_end(r: &[u8]) -> usize
+    ensures { λ n. ⌜ n ≡ vttEnd (now (r .entry)) ⌝ }
+{
+    let a = pattern::find(r, b" ");
+    let b = pattern::find(r, b"\t");
+    if a < b { a } else { b }
+}
+
+// How many bytes of what follows the arrow are the end time.
+pub fn end_length(kind: u32, r: &[u8]) -> usize
+    ensures { λ n. ⌜ n ≡ endIn kind (now (r .entry)) ⌝ }
+{
+    if kind == 2 {
+        return vtt_end(r);
+    }
+    srt_end(r)
 }
 
 // The first line with an arrow.

@@ -29,7 +29,7 @@ line s = ascii s ++ 10 ∷ []
 -- a BOM stays; the columns stand until the next Format line, across a section that is not Events; lines count from 1; a last line needs no terminator
 columns-stay : assSaid (bom ++ line "[Events]" ++ line "Format: Start, End, Text" ++ line "[Fonts]" ++ line "Dialogue: x" ++ line "[Events]" ++ line "Dialogue: 0:0:0.21,0:0:0.25,a,b" ++ ascii "Comment: x") ≡
     stays bom ∷ stays (line "[Events]") ∷ stays (line "Format: Start, End, Text") ∷ stays (line "[Fonts]") ∷ stays (line "Dialogue: x") ∷ stays (line "[Events]")
-    ∷ cue (record { line = 6; start = 21; startMark = 46; stop = 25; stopMark = 46; tagged = false; frame = bytes (ascii "Dialogue:") ∷ start ∷ bytes (ascii ",") ∷ stop ∷ bytes (ascii ",") ∷ bytes (ascii "a,b") ∷ bytes (10 ∷ []) ∷ [] })
+    ∷ cue (record { line = 6; start = 21; startMark = 46; stop = 25; stopMark = 46; tagged = false; stamped = false; frame = bytes (ascii "Dialogue:") ∷ start ∷ bytes (ascii ",") ∷ stop ∷ bytes (ascii ",") ∷ bytes (ascii "a,b") ∷ bytes (10 ∷ []) ∷ [] })
     ∷ passes short 7 (ascii "Comment: x") ∷ []
 unfolding leadLen secondLow secondHigh tail widthBy charWidth codeBy codeHead whiteHigh white whiteHead last endsWhite whiteTail headFrom keepFrom trimHead trimTail trim starts equals first contains upTo past piecesFrom pieces digit digits valueFrom natural unsigned number linesOf textOf terminatorLength terminatorOf kindBad unitsOf markOf timeWith markIn timeIn namesIn placeIn columnsIn fields fieldAt holdsAny bracketed inside pieceAt fieldPieces captionSays wordSays textSays lineSays linesSaid assSaid
 columns-stay = refl

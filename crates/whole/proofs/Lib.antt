@@ -2,3 +2,4 @@
 pub mod BlockShape
 mod AssTexts
 mod SrtTexts
+mod VttTexts

@@ -1,6 +1,7 @@
 -- Worked examples of whole SRT texts, by computation.
 use Prim.Native.Nat.{ℕ}
 use Prim.Native.String.{String}
+use mathlib.Core.Bool.{false}
 use mathlib.Core.Path.{_≡_, refl}
 use mathlib.Core.List.{List, [], _∷_, _++_}
 use Rattle.base.specs.Ascii.{ascii}
@@ -14,7 +15,7 @@ use Rattle.time.specs.Kind.{kindBad, unitsOf, markOf}
 use Rattle.stamp.specs.Read.{markIn, timeWith, timeIn}
 use Rattle.event.specs.Says.{stays, cue}
 use Rattle.event.specs.Mark.{bom}
-use Rattle.timing.specs.Style.{srtEnd, blankIn}
+use Rattle.timing.specs.Style.{srtEnd, endIn, stampsIn, blankIn}
 use Rattle.timing.specs.Arrow.{timingOf, afterArrow}
 use Rattle.block.specs.Block.{blockFrame, blockCue, timingLineSays, blockSays}
 use Rattle.whole.specs.Srt.{blockOf, blocksOf, blocksSaid, textBlocks, srtSaid}
@@ -33,11 +34,11 @@ blocks = refl
 
 -- a BOM stays, as do blank lines; the timing line is the text's third; a block without one passes
 parts : srtSaid sample ≡
-    stays bom ∷ stays (line "") ∷ cue (blockCue 3 1005 44 2005 44 (blockFrame (line "7") [] (10 ∷ []) (line "a"))) ∷ stays (line "") ∷ stays (line " ") ∷ stays (line "b" ++ ascii "c") ∷ []
-unfolding leadLen secondLow secondHigh tail widthBy charWidth codeBy codeHead whiteHigh white whiteHead last endsWhite whiteTail headFrom keepFrom trimHead trimTail trim starts first contains upTo past digit digits valueFrom natural unsigned number linesOf textOf terminatorLength terminatorOf blank kindBad unitsOf markOf timeWith markIn timeIn srtEnd blankIn timingOf afterArrow timingLineSays blockSays blocksOf blocksSaid srtSaid
+    stays bom ∷ stays (line "") ∷ cue (blockCue 3 1005 44 2005 44 false (blockFrame (line "7") [] (10 ∷ []) (line "a"))) ∷ stays (line "") ∷ stays (line " ") ∷ stays (line "b" ++ ascii "c") ∷ []
+unfolding leadLen secondLow secondHigh tail widthBy charWidth codeBy codeHead whiteHigh white whiteHead last endsWhite whiteTail headFrom keepFrom trimHead trimTail trim starts first contains upTo past digit digits valueFrom natural unsigned number linesOf textOf terminatorLength terminatorOf blank kindBad unitsOf markOf timeWith markIn timeIn srtEnd endIn stampsIn blankIn timingOf afterArrow timingLineSays blockSays blocksOf blocksSaid srtSaid
 parts = refl
 
 -- a bad time ends the text
 bad-time : srtSaid (line "a" ++ line "" ++ line "0:0:1,5 --> x" ++ line "" ++ line "b") ≡ stays (line "a") ∷ stays (line "") ∷ []
-unfolding leadLen secondLow secondHigh tail widthBy charWidth codeBy codeHead whiteHigh white whiteHead last endsWhite whiteTail headFrom keepFrom trimHead trimTail trim starts first contains upTo past digit digits valueFrom natural unsigned number linesOf textOf terminatorLength terminatorOf blank kindBad unitsOf markOf timeWith markIn timeIn srtEnd blankIn timingOf afterArrow timingLineSays blockSays blocksOf blocksSaid srtSaid
+unfolding leadLen secondLow secondHigh tail widthBy charWidth codeBy codeHead whiteHigh white whiteHead last endsWhite whiteTail headFrom keepFrom trimHead trimTail trim starts first contains upTo past digit digits valueFrom natural unsigned number linesOf textOf terminatorLength terminatorOf blank kindBad unitsOf markOf timeWith markIn timeIn srtEnd endIn stampsIn blankIn timingOf afterArrow timingLineSays blockSays blocksOf blocksSaid srtSaid
 bad-time = refl

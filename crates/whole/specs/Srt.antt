@@ -1,4 +1,4 @@
--- A whole SRT text as its public description and the Rust have it: its blocks one after the other, each decided by itself.
+-- A whole text of blocks: SRT as its public description and the Rust have it, its blocks one after the other, each decided by itself.
 -- No limit of length and no test for UTF-8 stand here.
 use mathlib.Core.Bool.{cond}
 use mathlib.Core.List.{List, [], _∷_, _++_, map}
@@ -6,7 +6,7 @@ use Prim.Native.Nat.{ℕ, suc, _+_}
 use Rattle.text.specs.Line.{linesOf, lineCount}
 use Rattle.event.specs.Says.{Part, stays}
 use Rattle.event.specs.Mark.{marked, behindMark, markWritten}
-use Rattle.timing.specs.Style.{srt, blankIn}
+use Rattle.timing.specs.Style.{styleOf, blankIn}
 use Rattle.block.specs.Block.{BlockSays, faulty, says, blockSays}
 
 -- ---- a block is the non-blank lines, then the blank ones; blank lines at the head of a text are a block without a body
@@ -31,9 +31,9 @@ abbrev pub blankOnto : List ℕ → List Block → List Block
 blankOnto l [] = blockOf [] (l ∷ []) ∷ []
 blankOnto l (b ∷ bs) = ontoBlanks l (b .body) (b .blanks) bs
 
-unfoldable pub blocksOf : List (List ℕ) → List Block
-blocksOf [] = []
-blocksOf (l ∷ ls) = cond (blankIn 1 l) (blankOnto l (blocksOf ls)) (ontoBlock l (blocksOf ls))
+unfoldable pub blocksOf : (kind : ℕ) → List (List ℕ) → List Block
+blocksOf kind [] = []
+blocksOf kind (l ∷ ls) = cond (blankIn kind l) (blankOnto l (blocksOf kind ls)) (ontoBlock l (blocksOf kind ls))
 
 -- ---- what blocks say
 -- a block's part, then what comes behind it; a bad time ends the text, as the Rust does
@@ -42,18 +42,18 @@ blockSaidThen (faulty f) after = []
 blockSaidThen (says p) after = p ∷ after
 
 -- n lines came before the block
-abbrev pub bodySaid : (n : ℕ) → (body : List (List ℕ)) → (after : List Part) → List Part
-bodySaid n [] after = after
-bodySaid n (l ∷ ls) after = blockSaidThen (blockSays srt (suc n) (l ∷ ls)) after
+abbrev pub bodySaid : (kind n : ℕ) → (body : List (List ℕ)) → (after : List Part) → List Part
+bodySaid kind n [] after = after
+bodySaid kind n (l ∷ ls) after = blockSaidThen (blockSays (styleOf kind) (suc n) (l ∷ ls)) after
 
 -- the block by itself, then its blank lines, which stay, then the blocks behind it
-unfoldable pub blocksSaid : (n : ℕ) → List Block → List Part
-blocksSaid n [] = []
-blocksSaid n (b ∷ bs) = bodySaid n (b .body) (map stays (b .blanks) ++ blocksSaid (n + lineCount (b .body) + lineCount (b .blanks)) bs)
+unfoldable pub blocksSaid : (kind n : ℕ) → List Block → List Part
+blocksSaid kind n [] = []
+blocksSaid kind n (b ∷ bs) = bodySaid kind n (b .body) (map stays (b .blanks) ++ blocksSaid kind (n + lineCount (b .body) + lineCount (b .blanks)) bs)
 
 -- a text: a BOM stays, and the blocks stand behind it
 abbrev pub textBlocks : List ℕ → List Block
-textBlocks text = blocksOf (linesOf (behindMark text))
+textBlocks text = blocksOf 1 (linesOf (behindMark text))
 
 unfoldable pub srtSaid : List ℕ → List Part
-srtSaid text = markWritten (marked text) ++ blocksSaid 0 (textBlocks text)
+srtSaid text = markWritten (marked text) ++ blocksSaid 1 0 (textBlocks text)

@@ -9,6 +9,9 @@ use Rattle.event.proofs.counted_by.Reads as counted-by-reads
 use Rattle.block.proofs.srt.warn.Reads as warn-reads
 use Rattle.block.proofs.srt.write_kept.Reads as write-kept-reads
 
+stamps-in-requires : tie.Need-stamps-in-requires
+stamps-in-requires c κs = search needs
+
 counted-by-requires : tie.Need-counted-by-requires
 counted-by-requires c κs = search needs
 
@@ -25,12 +28,13 @@ same-length-2 : tie.Need-same-length-2
 same-length-2 c = search needs
 
 returns : tie.Need-returns
-returns c = let A = c .before .before .before .before .before .before .before .before .before .before .before .before .before .before .before .args in keep-told _ (A .line) (A .old .start) _ (A .old .stop) _ (blockFrame (A .before .now) (A .trailing .now) (A .end .now) (A .after .now)) (A .new) _ _ _ _ _ _ _ (c .before .before .before .before .before .before .before .before .counted-by .ensures) (c .before .before .before .before .before .before .write-kept .ensures) (c .before .before .warn .ensures)
+returns c = let A = c .before .before .before .before .before .before .before .before .before .before .before .before .before .before .before .before .args in keep-told _ (A .line) (A .old .start) _ (A .old .stop) _ _ (blockFrame (A .before .now) (A .trailing .now) (A .end .now) (A .after .now)) (A .new) _ _ _ _ _ _ _ (c .before .before .before .before .before .before .before .before .counted-by .ensures) (c .before .before .before .before .before .before .write-kept .ensures) _ (c .before .before .before .before .before .before .before .before .before .stamps-in .ensures) (c .before .before .warn .ensures)
 
 pub keep-spec : {M : Type 1} → statement M
 keep-spec =
     tie.close
     (tie.spec
+    stamps-in-requires
     counted-by-requires
     write-kept-requires
     warn-requires

@@ -16,7 +16,7 @@ enum-told : tie.Need-enum-told
 enum-told c = search needs
 
 returns : tie.Need-returns
-returns c = read-1 _ _ _ (c .before .before .read-time .ensures) (c .enum-told .given .1)
+returns c = read-1 _ _ _ _ (c .before .before .read-time .ensures) (c .enum-told .given .1)
 
 read-time-requires-2 : tie.Need-read-time-requires-2
 read-time-requires-2 c κs = search needs
@@ -28,10 +28,10 @@ enum-told-2 : tie.Need-enum-told-2
 enum-told-2 c = search needs
 
 returns-2 : tie.Need-returns-2
-returns-2 c = read-2 _ _ _ _ _ _ (c .before .before .before .before .before .before .read-time .ensures) (c .before .before .before .before .from .given .1) (c .before .before .read-time2 .ensures) (c .enum-told2 .given .1)
+returns-2 c = read-2 _ _ _ _ _ _ _ (c .before .before .before .before .before .before .read-time .ensures) (c .before .before .before .before .from .given .1) (c .before .before .read-time2 .ensures) (c .enum-told2 .given .1)
 
 returns-3 : tie.Need-returns-3
-returns-3 c = read-3 _ _ _ _ _ _ _ _ (c .before .before .before .before .before .before .before .read-time .ensures) (c .before .before .before .before .before .from .given .1) (c .before .before .before .read-time2 .ensures) (c .before .to .given .1)
+returns-3 c = read-3 _ _ _ _ _ _ _ _ _ (c .before .before .before .before .before .before .before .read-time .ensures) (c .before .before .before .before .before .from .given .1) (c .before .before .before .read-time2 .ensures) (c .before .to .given .1)
 
 pub read-times-spec : {M : Type 1} → statement M
 read-times-spec =

@@ -1,4 +1,5 @@
-use Rattle.retimefile.proofs.WholeLaws.{chooses-ass, chooses-srt}
+use native.Mathlib.Omega.{arith}
+use Rattle.retimefile.proofs.WholeLaws.{chooses}
 use borrow.Author.Needs.{needs}
 use Rattle.retimefile.proofs.whole.run.Statement.{statement}
 use Rattle.retimefile.proofs.whole.run.Tie as tie
@@ -17,7 +18,7 @@ run-file-requires : tie.Need-run-file-requires
 run-file-requires c κs = search needs
 
 returns : tie.Need-returns
-returns c = chooses-ass _ _ _ (c .run-file .ensures)
+returns c = chooses 0 _ _ _ (omega arith) (c .run-file .ensures)
 
 slice-aggregate-open-text-2 : tie.Need-slice-aggregate-open-text-2
 slice-aggregate-open-text-2 c = search needs
@@ -29,7 +30,25 @@ run-file-requires-2 : tie.Need-run-file-requires-2
 run-file-requires-2 c κs = search needs
 
 returns-2 : tie.Need-returns-2
-returns-2 c = chooses-srt _ _ _ (c .run-file2 .ensures)
+returns-2 c = chooses 1 _ _ _ (omega arith) (c .run-file2 .ensures)
+
+slice-aggregate-open-text-3 : tie.Need-slice-aggregate-open-text-3
+slice-aggregate-open-text-3 c = search needs
+
+open-text-requires-3 : tie.Need-open-text-requires-3
+open-text-requires-3 c κs = search needs
+
+run-file-requires-3 : tie.Need-run-file-requires-3
+run-file-requires-3 c κs = search needs
+
+returns-3 : tie.Need-returns-3
+returns-3 c = chooses 2 _ _ _ (omega arith) (c .run-file3 .ensures)
+
+run-file-requires-4 : tie.Need-run-file-requires-4
+run-file-requires-4 c κs = search needs
+
+returns-4 : tie.Need-returns-4
+returns-4 c = chooses 1 _ _ _ (omega arith) (c .run-file4 .ensures)
 
 pub run-spec : {M : Type 1} → statement M
 run-spec =
@@ -42,4 +61,10 @@ run-spec =
     slice-aggregate-open-text-2
     open-text-requires-2
     run-file-requires-2
-    returns-2)
+    returns-2
+    slice-aggregate-open-text-3
+    open-text-requires-3
+    run-file-requires-3
+    returns-3
+    run-file-requires-4
+    returns-4)

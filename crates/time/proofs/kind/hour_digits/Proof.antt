@@ -15,5 +15,9 @@ returns-3 : tie.Need-returns-3
 unfolding hourDigits
 returns-3 c = search chain depth 12
 
+returns-4 : tie.Need-returns-4
+unfolding hourDigits
+returns-4 c = search chain depth 12
+
 pub hour-digits-spec : {M : Type 1} → statement M
-hour-digits-spec = tie.close (tie.spec returns returns-2 returns-3)
+hour-digits-spec = tie.close (tie.spec returns returns-2 returns-3 returns-4)

@@ -15,5 +15,9 @@ returns-3 : tie.Need-returns-3
 unfolding kindBad
 returns-3 c = search chain depth 12
 
+returns-4 : tie.Need-returns-4
+unfolding kindBad
+returns-4 c = search chain depth 12
+
 pub kind-bad-spec : {M : Type 1} → statement M
-kind-bad-spec = tie.close (tie.spec returns returns-2 returns-3)
+kind-bad-spec = tie.close (tie.spec returns returns-2 returns-3 returns-4)

@@ -15,5 +15,9 @@ returns-3 : tie.Need-returns-3
 unfolding markOf
 returns-3 c = search chain depth 12
 
+returns-4 : tie.Need-returns-4
+unfolding markOf
+returns-4 c = search chain depth 12
+
 pub mark-of-spec : {M : Type 1} → statement M
-mark-of-spec = tie.close (tie.spec returns returns-2 returns-3)
+mark-of-spec = tie.close (tie.spec returns returns-2 returns-3 returns-4)

@@ -15,5 +15,9 @@ returns-3 : tie.Need-returns-3
 unfolding unitsOf
 returns-3 c = search chain depth 12
 
+returns-4 : tie.Need-returns-4
+unfolding unitsOf
+returns-4 c = search chain depth 12
+
 pub units-of-spec : {M : Type 1} → statement M
-units-of-spec = tie.close (tie.spec returns returns-2 returns-3)
+units-of-spec = tie.close (tie.spec returns returns-2 returns-3 returns-4)

@@ -1,26 +1,28 @@
-use Rattle.timing.proofs.PlaceLaws.{end-1, end-2, end-3}
+use Rattle.timing.specs.Style.{endIn}
+use Rattle.base.proofs.Laws.{chain, calls}
 use borrow.Author.Needs.{needs}
 use Rattle.timing.proofs.timing.end_length.Statement.{statement}
 use Rattle.timing.proofs.timing.end_length.Tie as tie
-use Rattle.timing.proofs.timing.end_length.Reads as reads
-use Rattle.timing.proofs.timing.end_length.Lts as lts
-use Rattle.base.proofs.byte.Reads as byte-reads
-use Rattle.utf8.proofs.is_tail.Reads as is-tail-reads
+
+vtt-end-requires : tie.Need-vtt-end-requires
+vtt-end-requires c κs = search needs
 
 returns : tie.Need-returns
-returns c = search end-1
+unfolding endIn
+returns c = search calls depth 12
 
-byte-requires : tie.Need-byte-requires
-byte-requires c κs = search needs
-
-is-tail-requires : tie.Need-is-tail-requires
-is-tail-requires c κs = search needs
+srt-end-requires : tie.Need-srt-end-requires
+srt-end-requires c κs = search needs
 
 returns-2 : tie.Need-returns-2
-returns-2 c = search end-2
-
-returns-3 : tie.Need-returns-3
-returns-3 c = search end-3
+unfolding endIn
+returns-2 c = search calls depth 12
 
 pub end-length-spec : {M : Type 1} → statement M
-end-length-spec = tie.close (tie.spec returns byte-requires is-tail-requires returns-2 returns-3)
+end-length-spec =
+    tie.close
+    (tie.spec
+    vtt-end-requires
+    returns
+    srt-end-requires
+    returns-2)
