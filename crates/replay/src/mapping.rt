@@ -1,5 +1,6 @@
 // The map of a case that has a text.
 use crate::retiming::print_retimed;
+use libc::STDOUT_FILENO;
 ghost use mathlib.Core.Path.{_≡_};
 ghost use lib.ListN.{take};
 
@@ -61,6 +62,27 @@ pub fn through_given(
         all,
         notes,
     );
+}
+
+// Whether the map that x has is one that request 2.12 admits.
+pub fn print_ascends(x: &[u8]) {
+    let mut map = [0u64; 8750];
+    let n = x.len() / 8;
+    if map.len() < n {
+        mapfile::print_number(b"refused ", 15);
+        return;
+    }
+    fill(x, n, &mut map);
+    let given = front_words(&map, n);
+    if segment::map_bad(given) {
+        mapfile::print_number(b"refused ", 15);
+        return;
+    }
+    if ascending::ascends(given) {
+        io::write_all(STDOUT_FILENO, b"ascends yes\n");
+        return;
+    }
+    io::write_all(STDOUT_FILENO, b"ascends no\n");
 }
 
 // A text through the map of a sheet and a list.
