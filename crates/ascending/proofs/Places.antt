@@ -2,13 +2,13 @@
 use mathlib.Core.Path.{_≡_, refl, sym, ap, subst, _∙_}
 use mathlib.Core.Bool.{Bool, true, false, _||_, cond, true≢false}
 use mathlib.Core.List.{List, [], _∷_}
-use Prim.Native.Nat.{ℕ, zero, suc, _+_, _-_, _≤_, _<_, min, max}
+use Prim.Native.Nat.{ℕ, zero, suc, _≤_, _<_, min, max}
 use native.Mathlib.Omega.{arith}
 use native.Mathlib.Nat.{le-trans, le-refl}
-use borrow.Author.Tests.{lt-ltb, eq-eqb, ne-eqb, ltb-true, ltb-false}
+use borrow.Author.Tests.{lt-ltb, eq-eqb, ne-eqb, ltb-false}
 use lib.Dec.{ltb, eqb}
 use Rattle.time.specs.Kind.{unitsOf}
-use Rattle.time.specs.Convert.{ticksOf, startUnits, endUnits}
+use Rattle.time.specs.Convert.{ticksOf}
 use Rattle.time.proofs.Conversions.{ticks-mono, start-mono, end-mono}
 use Rattle.segment.specs.declared.segment.Segment.{Segment}
 use Rattle.segment.specs.Segment.{sourceOf, outputStartOf, sourceEnd}
@@ -160,16 +160,16 @@ in-order i j (x ∷ xs) s o a b a′ b′ w l =
     go z false false p q ih = ih
 
 -- ---- in units, as written
+pub kept-as : (r : Retimed) (s e : ℕ) → WrittenAs (fateFor r) s e → (r .start ≡ s) × (r .stop ≡ e)
+kept-as r s e w = go (r .«start_cut» || r .«end_cut») w
+  where
+    go : (t : Bool) → WrittenAs (cond t (clipped (r .start) (r .stop)) (shifted (r .start) (r .stop))) s e → (r .start ≡ s) × (r .stop ≡ e)
+    go true w = w
+    go false w = w
+
 module _ (T U : ℕ) (posT : 0 < T) (a b a′ b′ : ℕ) where
   abbrev fateAt : (a b : ℕ) → Found → Fate
   fateAt a b f = fateBy (decideHit T U a b f)
-
-  kept-as : (r : Retimed) (s e : ℕ) → WrittenAs (fateFor r) s e → (r .start ≡ s) × (r .stop ≡ e)
-  kept-as r s e w = go (r .«start_cut» || r .«end_cut») w
-    where
-      go : (t : Bool) → WrittenAs (cond t (clipped (r .start) (r .stop)) (shifted (r .start) (r .stop))) s e → (r .start ≡ s) × (r .stop ≡ e)
-      go true w = w
-      go false w = w
 
   written : (f g : Found) (s e s′ e′ : ℕ) → Starts a a′ f g → (b ≤ b′ → Ends b b′ f g) → WrittenAs (fateAt a b f) s e → WrittenAs (fateAt a′ b′ g) s′ e′
       → (s ≤ s′) × (b ≤ b′ → e ≤ e′)

@@ -1,6 +1,6 @@
 -- Small maps by computation: which ascend; and captions whose order is lost where a premise of request 2.12 is missing.
 use mathlib.Core.Path.{_≡_, refl}
-use mathlib.Core.Bool.{Bool, true, false}
+use mathlib.Core.Bool.{true, false}
 use mathlib.Core.List.{List, [], _∷_}
 use Prim.Native.Nat.{ℕ}
 use Rattle.time.specs.Kind.{unitsOf}
@@ -22,6 +22,11 @@ at q o d = segment 0 0 q 0 o d
 no-segment : ascends [] ≡ true
 unfolding ascends ascendsFrom
 no-segment = refl
+
+-- document 01's worked map
+worked : ascends (at 0 0 3003 ∷ at 6006 3003 4004 ∷ []) ≡ true
+unfolding ascends ascendsFrom stepsBack after
+worked = refl
 
 touching : ascends (at 5 0 10 ∷ at 15 10 5 ∷ []) ≡ true
 unfolding ascends ascendsFrom stepsBack after
