@@ -1,4 +1,5 @@
 // The answer to a case, by its op.
+use crate::mapping::print_ascends;
 use crate::mapping::print_made;
 use crate::mapping::through_given;
 use crate::mapping::through_made;
@@ -99,6 +100,10 @@ fn answer_plain(op: u32, head: &[u8], x: &[u8], y: &[u8]) {
     }
     if op == 4 {
         print_converted(head, x);
+        return;
+    }
+    if op == 10 {
+        print_ascends(x);
         return;
     }
     mapfile::print_number(b"unknown op ", op);

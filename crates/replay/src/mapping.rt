@@ -1,5 +1,6 @@
 // The map of a case that has a text.
 use crate::retiming::print_retimed;
+use libc::STDOUT_FILENO;
 ghost use mathlib.Core.Path.{_≡_};
 ghost use Prim.Native.Nat.{_≤_};
 ghost use lib.ListN.{take};
@@ -84,6 +85,27 @@ pub fn print_made(sheet: &[u8], list: &[u8], direction: u32, lent: u32) {
     let mut work = [0; base::MOST_WORK];
     let n = work_lent(lent);
     mapfile::print_map_of(sheet, list, direction, &mut work[..n]);
+}
+
+// Whether the map that x has is one that request 2.12 admits.
+pub fn print_ascends(x: &[u8]) {
+    let mut map = [0u64; 8750];
+    let n = x.len() / 8;
+    if map.len() < n {
+        mapfile::print_number(b"refused ", 15);
+        return;
+    }
+    fill(x, n, &mut map);
+    let given = front_words(&map, n);
+    if segment::map_bad(given) {
+        mapfile::print_number(b"refused ", 15);
+        return;
+    }
+    if ascending::ascends(given) {
+        io::write_all(STDOUT_FILENO, b"ascends yes\n");
+        return;
+    }
+    io::write_all(STDOUT_FILENO, b"ascends no\n");
 }
 
 // A text through the map of a sheet and a list, with so many work bytes.
