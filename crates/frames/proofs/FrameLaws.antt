@@ -6,7 +6,7 @@ use mathlib.Core.Bool.{Bool, true, false}
 use native.Mathlib.Omega.{arith}
 use lib.Dec.{leb, eqb}
 use Rattle.blocks.specs.Block.{wordAt}
-use Rattle.frames.specs.Frames.{longOf, recordWord, decodeIn, decodeBy, decodeOf, syncOf, durationOf}
+use Rattle.frames.specs.Frames.{longOf, recordWord, decodeIn, decodeBy, decodeOf, syncOf, durationIn, durationOf}
 
 pub long-is : (s : List ℕ) (x : ℕ) → x ≡ wordAt s 5 → eqb x 1 ≡ longOf s
 unfolding longOf
@@ -37,10 +37,13 @@ pub word-short : (i : ℕ) (t : Bool) → t ≡ false → 129 + 2 * (i / 63 + i)
 unfolding recordWord
 word-short i t e = rw e (omega arith)
 
-pub duration-short : (s : List ℕ) (i w x : ℕ) (t : Bool) → t ≡ longOf s → t ≡ false → w ≡ recordWord t i → x ≡ wordAt s (w + 1) → x ≡ durationOf s i
+pub duration-short : (s : List ℕ) (i w x : ℕ) (t : Bool) → t ≡ longOf s → t ≡ false → w ≡ recordWord false i → x ≡ wordAt s (w + 1) → x ≡ durationOf s i
 unfolding durationOf
 duration-short s i w x t et f ew ex = rw (ex, ew, ← et, f)
 
-pub duration-long : (s : List ℕ) (i w x y : ℕ) (t : Bool) → t ≡ longOf s → t ≡ true → w ≡ recordWord t i → x ≡ wordAt s (w + 1) → y ≡ wordAt s (w + 2) → x + 4294967296 * y ≡ durationOf s i
+pub duration-two : (s : List ℕ) (i w x y : ℕ) → w ≡ recordWord true i → x ≡ wordAt s (w + 1) → y ≡ wordAt s (w + 2) → x + 4294967296 * y ≡ durationIn true s (recordWord true i)
+duration-two s i w x y ew ex ey = rw (ex, ey, ew)
+
+pub duration-long : (s : List ℕ) (i d : ℕ) (t : Bool) → t ≡ longOf s → t ≡ true → d ≡ durationIn true s (recordWord true i) → d ≡ durationOf s i
 unfolding durationOf
-duration-long s i w x y t et f ew ex ey = rw (ex, ey, ew, ← et, f)
+duration-long s i d t et f ed = ed ∙ rw (← et, f)

@@ -2,8 +2,9 @@
 use order::DecodeIdx;
 use order::DisplayIdx;
 ghost use mathlib.Core.Path.{_≡_};
+ghost use mathlib.Core.Bool.{true};
 ghost use Prim.Native.Nat.{_<_, _^_};
-ghost use Rattle.frames.specs.Frames.{timescaleOf, framesOf, rateNumOf, rateDenOf, longOf, recordWord, decodeIn, decodeBy, decodeOf, syncOf, durationOf};
+ghost use Rattle.frames.specs.Frames.{timescaleOf, framesOf, rateNumOf, rateDenOf, longOf, recordWord, decodeIn, decodeBy, decodeOf, syncOf, durationIn, durationOf};
 
 // T, ticks a second.
 pub fn timescale(s: &[u8]) -> u32
@@ -81,15 +82,22 @@ pub fn sync_at(s: &[u8], i: DisplayIdx) -> bool
     2147483648 <= blocks::word(s, w)
 }
 
+// The duration of a sample in the second layout: two words, the low one first.
+fn long_duration(s: &[u8], i: u32) -> u64
+    ensures { λ r. ⌜ r ≡ durationIn true (now (s .entry)) (recordWord true i) ⌝ }
+{
+    let w = record_word(true, i);
+    let low = blocks::word(s, w + 1) as u64;
+    low + 4294967296 * (blocks::word(s, w + 2) as u64)
+}
+
 // The duration in ticks of a sample, by its decode index.
 pub fn duration_at(s: &[u8], i: DecodeIdx) -> u64
     ensures { λ r. ⌜ r ≡ durationOf (now (s .entry)) (i .0) ⌝ }
 {
-    let two = long(s);
-    let w = record_word(two, i.0);
-    let low = blocks::word(s, w + 1) as u64;
-    if two {
-        return low + 4294967296 * (blocks::word(s, w + 2) as u64);
+    if long(s) {
+        return long_duration(s, i.0);
     }
-    low
+    let w = record_word(false, i.0);
+    blocks::word(s, w + 1) as u64
 }
