@@ -1,5 +1,6 @@
 pub mod Laws
 pub mod RefusalLaws
 pub mod RefusalNumbers
+pub mod Refusals
 pub mod PartLaws
 pub mod PutLaws

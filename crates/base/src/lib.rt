@@ -1,8 +1,12 @@
 // What every crate shares. No function here has a `requires`.
+mod amount;
 mod limits;
 mod part;
 mod write;
 
+pub use amount::larger;
+pub use amount::minus;
+pub use amount::smaller;
 pub use limits::LEAST_OUTPUT;
 pub use limits::LEAST_PLACES;
 pub use limits::MOST_BLOCK;

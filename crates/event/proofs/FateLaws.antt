@@ -44,7 +44,7 @@ none-more x xs a b e none y i k = go (List·Memᴰ·cases-cons i)
     go (inr j) = none y j k
 
 -- ---- the hit is the first that meets
-abbrev HitRight : List Segment → (a b : ℕ) → Found → Type 0
+abbrev pub HitRight : List Segment → (a b : ℕ) → Found → Type 0
 HitRight m a b miss = NoneMeets m a b
 HitRight m a b (hit i x xs) = FirstMet m a b x
 
@@ -64,7 +64,7 @@ first-hit : (i : ℕ) (x : Segment) (xs : List Segment) (a b : ℕ) (t : Bool) �
 first-hit i x xs a b true e r = record { earlier = []; others = xs; stands = refl; met = met x a b e; none-earlier = λ y j k. List·Memᴰ·not-nil j }
 first-hit i x xs a b false e r = later-hit x xs a b (findFrom (suc i) xs a b) e r
 
-find-right : (i : ℕ) (m : List Segment) (a b : ℕ) → HitRight m a b (findFrom i m a b)
+pub find-right : (i : ℕ) (m : List Segment) (a b : ℕ) → HitRight m a b (findFrom i m a b)
 unfolding findFrom
 find-right i [] a b = λ y j k. List·Memᴰ·not-nil j
 find-right i (x ∷ xs) a b = first-hit i x xs a b (meets x a b) refl (find-right (suc i) xs a b)

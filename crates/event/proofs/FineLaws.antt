@@ -5,8 +5,7 @@ use mathlib.Core.List.{List, [], _∷_}
 use Prim.Native.Nat.{ℕ, suc, _+_, _-_, _*_, _%_, _≤_, _<_, min, max}
 use native.Mathlib.Omega.{arith}
 use borrow.Author.Tests.{ltb-false}
-use lib.Dec.{ltb, eqb}
-use lib.ListN.{length}
+use lib.Dec.{ltb}
 use Rattle.base.specs.Limits.{mostTimescale, mostTicks, mostSegments, mostFrame}
 use Rattle.time.specs.Kind.{kindBad, unitsOf}
 use Rattle.time.specs.Convert.{ticksOf, startUnits, endUnits, timescaleBad, ticksWithin, startWithin, endWithin, coreTimescale, coreUnits, coreTicks}
@@ -24,6 +23,7 @@ use Rattle.event.specs.Decide.{moved, retimedBy, retimedAt, decideHit, d
 use Rattle.event.specs.Says.{Cue, cue}
 use Rattle.event.specs.Emit.{cueEmit, emitBy, emitOf}
 use Rattle.event.specs.Told.{answered, cueIn, partIn}
+use Rattle.segment.proofs.SegmentLaws.{any-good}
 use Rattle.event.proofs.DecideLaws.{Fits, fits}
 
 -- ---- a setting within the limits: a known kind, and T from 1 to 1,000,000,000
@@ -96,14 +96,6 @@ module _ (c : Config) (set : Set c) where
   decide-same m S E g hs he =
       rw (ticks-same S hs, ticks-same E he)
       (hit-same _ _ (findHit m (ticksOf (c .timescale) (unitsOf (c .kind)) S) (ticksOf (c .timescale) (unitsOf (c .kind)) E)) (find-sound 0 m _ _ g))
-
-  any-good : (m : List ℕ) → mapBad m ≡ false → anyBad (segmentsOf m) ≡ false
-  unfolding mapBad
-  any-good m e = go (eqb (length m % 6) 0) e
-    where
-      go : (t : Bool) → cond t (cond (ltb (6 * mostSegments) (length m)) true (anyBad (segmentsOf m))) true ≡ false → anyBad (segmentsOf m) ≡ false
-      go true q = cond-right (ltb (6 * mostSegments) (length m)) (anyBad (segmentsOf m)) q
-      go false q = absurd (true≢false q)
 
   pub decide-fine : (m : List ℕ) (S E : ℕ) → mapBad m ≡ false → S ≤ coreUnits → E ≤ coreUnits → decideIn c (segmentsOf m) S E ≡ decideOf c (segmentsOf m) S E
   decide-fine m S E g hs he = decide-same (segmentsOf m) S E (any-good m g) hs he

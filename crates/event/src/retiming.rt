@@ -28,18 +28,6 @@ pub enum Decision {
     Kept(Retimed),
 }
 
-fn larger(a: u64, b: u64) -> u64
-    ensures { λ r. ⌜ r ≡ max a b ⌝ }
-{
-    if a < b { b } else { a }
-}
-
-fn smaller(a: u64, b: u64) -> u64
-    ensures { λ r. ⌜ r ≡ min a b ⌝ }
-{
-    if a < b { a } else { b }
-}
-
 // Whether one of the segments meets the ticks a to b: the part-lost rule of those behind the one that is hit.
 fn lost_rule(behind: &[u64], a: u64, b: u64) -> bool
     ensures { λ r. ⌜ r ≡ lostRule (segmentsOf (now (behind .entry))) a b ⌝ }
@@ -70,8 +58,8 @@ fn retime(x: Met, map: &[u64], config: Config, a: u64, b: u64) -> Retimed
     let source = x.source;
     let output = x.output;
     let last = source + x.duration;
-    let from = output + (larger(a, source) - source);
-    let to = output + (smaller(b, last) - source);
+    let from = output + (base::larger(a, source) - source);
+    let to = output + (base::smaller(b, last) - source);
     let start = time::core_start(from, config.timescale, config.kind);
     let stop = time::core_end(to, config.timescale, config.kind);
     let start_cut = a < source;

@@ -1,6 +1,6 @@
 -- Laws of the flat map and of its limits.
 use mathlib.Core.Path.{_≡_, refl, sym, ap, subst, _∙_}
-use mathlib.Core.Bool.{Bool, true, false, cond}
+use mathlib.Core.Bool.{Bool, true, false, cond, true≢false}
 use mathlib.Core.List.{List, [], _∷_, _++_}
 use Prim.Native.Nat.{ℕ, zero, suc, _+_, _-_, _*_, _%_, _≤_, _<_}
 use native.Mathlib.Omega.{arith}
@@ -129,3 +129,13 @@ flat-back (x ∷ xs) = ap (λ (ys : List Segment). x ∷ ys) (flat-back xs)
 pub end-good : (a d : ℕ) → endBad a d ≡ false → a + d ≤ mostTicks
 unfolding endBad
 end-good a d e = ltb-false mostTicks (a + d) e
+
+-- ---- a good map has no bad segment
+pub any-good : (m : List ℕ) → mapBad m ≡ false → anyBad (segmentsOf m) ≡ false
+unfolding mapBad
+any-good m e = go (eqb (length m % 6) 0) (ltb (6 * mostSegments) (length m)) e
+  where
+    go : (t s : Bool) → cond t (cond s true (anyBad (segmentsOf m))) true ≡ false → anyBad (segmentsOf m) ≡ false
+    go true true q = absurd (true≢false q)
+    go true false q = q
+    go false s q = absurd (true≢false q)

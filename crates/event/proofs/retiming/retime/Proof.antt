@@ -5,9 +5,9 @@ use Rattle.event.proofs.retiming.retime.Statement.{statement}
 use Rattle.event.proofs.retiming.retime.Tie as tie
 use Rattle.event.proofs.retiming.retime.Reads as reads
 use Rattle.event.proofs.retiming.retime.Lts as lts
-use Rattle.event.proofs.retiming.larger.Reads as larger-reads
 use Rattle.event.proofs.retiming.lost_part.Reads as lost-part-reads
-use Rattle.event.proofs.retiming.smaller.Reads as smaller-reads
+use Rattle.base.proofs.larger.Reads as larger-reads
+use Rattle.base.proofs.smaller.Reads as smaller-reads
 use Rattle.time.proofs.core_end.Reads as core-end-reads
 use Rattle.time.proofs.core_start.Reads as core-start-reads
 
