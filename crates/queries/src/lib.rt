@@ -1,0 +1,5 @@
+// Questions about a map, each answered in a line on standard output: what `replay` asks beside document 01's calls.
+mod asking;
+mod rising;
+
+pub use asking::answer;
