@@ -1,5 +1,5 @@
 // The answer to a case, by its op.
-use crate::mapping::print_ascends;
+use crate::mapping::asks;
 use crate::mapping::print_made;
 use crate::mapping::through_given;
 use crate::mapping::through_made;
@@ -89,7 +89,7 @@ fn print_value(c: time::Converted) {
 }
 
 // An op that has no text.
-fn answer_plain(op: u32, head: &[u8], x: &[u8], y: &[u8]) {
+fn answer_plain(op: u32, head: &[u8], x: &[u8], y: &[u8], z: &[u8]) {
     if op == 1 {
         print_list(x);
         return;
@@ -102,8 +102,7 @@ fn answer_plain(op: u32, head: &[u8], x: &[u8], y: &[u8]) {
         print_converted(head, x);
         return;
     }
-    if op == 10 {
-        print_ascends(x);
+    if asks(head, x, y, z) {
         return;
     }
     mapfile::print_number(b"unknown op ", op);
@@ -123,5 +122,5 @@ pub fn answer(head: &[u8], x: &[u8], y: &[u8], z: &[u8], all: &mut [u8], notes: 
         through_given(first, second, plan, x, z, all, notes);
         return;
     }
-    answer_plain(op, head, x, y);
+    answer_plain(op, head, x, y, z);
 }

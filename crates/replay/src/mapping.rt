@@ -1,6 +1,5 @@
 // The map of a case that has a text.
 use crate::retiming::print_retimed;
-use libc::STDOUT_FILENO;
 ghost use mathlib.Core.Path.{_≡_};
 ghost use Prim.Native.Nat.{_≤_};
 ghost use lib.ListN.{take};
@@ -87,25 +86,30 @@ pub fn print_made(sheet: &[u8], list: &[u8], direction: u32, lent: u32) {
     mapfile::print_map_of(sheet, list, direction, &mut work[..n]);
 }
 
-// Whether the map that x has is one that request 2.12 admits.
-pub fn print_ascends(x: &[u8]) {
+// Whether the op is a question about the map that x has; its answer is printed. The numbers of y and z go with it.
+pub fn asks(head: &[u8], x: &[u8], y: &[u8], z: &[u8]) -> bool {
     let mut map = [0u64; 8750];
+    let mut few = [0u64; 8];
+    let mut many = [0u64; 16384];
     let n = x.len() / 8;
-    if map.len() < n {
-        mapfile::print_number(b"refused ", 15);
-        return;
-    }
+    let m = y.len() / 8;
+    let l = z.len() / 8;
     fill(x, n, &mut map);
-    let given = front_words(&map, n);
-    if segment::map_bad(given) {
-        mapfile::print_number(b"refused ", 15);
-        return;
-    }
-    if ascending::ascends(given) {
-        io::write_all(STDOUT_FILENO, b"ascends yes\n");
-        return;
-    }
-    io::write_all(STDOUT_FILENO, b"ascends no\n");
+    fill(y, m, &mut few);
+    fill(z, l, &mut many);
+    let op = blocks::word(head, 0);
+    let a = blocks::word(head, 1);
+    let b = blocks::word(head, 2);
+    let c = blocks::word(head, 3);
+    queries::answer(
+        op,
+        a,
+        b,
+        c,
+        front_words(&map, n),
+        front_words(&few, m),
+        front_words(&many, l),
+    )
 }
 
 // A text through the map of a sheet and a list, with so many work bytes.
