@@ -1,5 +1,5 @@
-/* The retimer's C functions: frame sheet check, trim list check, time conversions.
- * They keep no state, write nothing but the sheet check's work bytes, and return on every input. Numbers: docs/NUMBERS.md. */
+/* The retimer's C functions: frame sheet check, trim list check, time conversions, and captions whose times are known only roughly.
+ * They keep no state, write nothing but what is lent to them for that, and return on every input. Numbers: docs/NUMBERS.md. */
 #ifndef RETIMER_H
 #define RETIMER_H
 
@@ -33,6 +33,16 @@ uint64_t retimer_ticks_to_units_ceil(uint64_t value, uint32_t timescale, uint32_
 /* The number of a conversion from units, and of one from ticks: 0, 15 (timescale) or 16 (kind or value). */
 uint32_t retimer_units_number(uint64_t value, uint32_t timescale, uint32_t kind);
 uint32_t retimer_ticks_number(uint64_t value, uint32_t timescale, uint32_t kind);
+
+/* A map is 64-bit numbers, six to a segment: start frame, end frame, source start, frame count, output start, duration. Its length is in numbers. */
+
+/* What is sure of a caption that starts between two ticks and ends between two ticks, bounds included and any of 64 bits.
+ * 0; 15 for a bad map; 16 where a lower bound is above its upper bound. With 0 the judgement, else left as it was, is one of these three. */
+#define RETIMER_SURELY_DROPPED 0 /* no choice within the bounds meets a kept segment */
+#define RETIMER_SURELY_KEPT 1    /* every choice does */
+#define RETIMER_UNSURE 2         /* one does, another does not */
+uint32_t retimer_rough(const uint64_t *map, size_t length, uint64_t start_low, uint64_t start_high, uint64_t end_low, uint64_t end_high,
+                       uint64_t *judgement);
 
 #ifdef __cplusplus
 }

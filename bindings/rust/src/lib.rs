@@ -1,5 +1,9 @@
 //! Safe functions over the retimer's static library. Each has the contract of the proved function that it calls: it
-//! returns on every input, and writes nothing but the work bytes that are lent to the sheet's check.
+//! returns on every input, and writes nothing but what is lent to it for that.
+
+mod rough;
+
+pub use rough::{rough, Judgement};
 
 #[link(name = "cutter", kind = "static")]
 extern "C" {

@@ -6,6 +6,7 @@ mod telling;
 
 pub use meeting::Hit;
 pub use meeting::Met;
+pub use meeting::find_hit;
 pub use meeting::meets;
 pub use retiming::Decision;
 pub use retiming::Retimed;

@@ -35,7 +35,7 @@ caption-fate kind q Strange = refl
 caption-fate kind q Dropped = refl
 caption-fate kind q (Kept r) = refl
 
-cue-fate : (c : Config) (m : List Segment) (q : Cue) → emitOf c m (cue q) .caption ≡ decided (fateOf c m (q .start) (q .stop))
+pub cue-fate : (c : Config) (m : List Segment) (q : Cue) → emitOf c m (cue q) .caption ≡ decided (fateOf c m (q .start) (q .stop))
 unfolding emitBy fateOf
 cue-fate c m q = caption-fate (c .kind) q (decideOf c m (q .start) (q .stop))
 
@@ -43,7 +43,7 @@ fate-in : Fate → Caption → Fate
 fate-in f none = f
 fate-in f (decided g) = g
 
-given-fate : (f g : Fate) → decided f ≡ decided g → f ≡ g
+pub given-fate : (f g : Fate) → decided f ≡ decided g → f ≡ g
 unfolding fate-in
 given-fate f g e = ap (fate-in f) e
 
@@ -68,7 +68,7 @@ written-in : (c : Config) (m : List Segment) (ps : List Part) → WrittenIn c m 
 unfolding emitBy fateOf
 written-in c m ps x = cue-bytes (c .kind) (x .read) (decideOf c m (x .read .start) (x .read .stop)) (x .start) (x .stop) (fate-written x)
 
-opens : (kind T : ℕ) (m : List ℕ) (o : Opened) → OpenAnswered kind T m o → o .number ≡ 0 → openSession kit (configOf kind T) m .number ≡ 0
+pub opens : (kind T : ℕ) (m : List ℕ) (o : Opened) → OpenAnswered kind T m o → o .number ≡ 0 → openSession kit (configOf kind T) m .number ≡ 0
 unfolding openOf
 opens kind T m o a z = sym (a .number) ∙ z
 

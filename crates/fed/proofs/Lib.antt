@@ -1,0 +1,3 @@
+-- The theorems.
+pub mod Cues
+pub mod SameJudgement
