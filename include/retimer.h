@@ -1,4 +1,4 @@
-/* The retimer's C functions: frame sheet check, trim list check, time conversions, and captions whose times are known only roughly.
+/* The retimer's C functions: frame sheet check, trim list check, time conversions, captions whose times are known only roughly, and what becomes of a caption and why.
  * They keep no state, write nothing but what is lent to them for that, and return on every input. Numbers: docs/NUMBERS.md. */
 #ifndef RETIMER_H
 #define RETIMER_H
@@ -43,6 +43,19 @@ uint32_t retimer_ticks_number(uint64_t value, uint32_t timescale, uint32_t kind)
 #define RETIMER_UNSURE 2         /* one does, another does not */
 uint32_t retimer_rough(const uint64_t *map, size_t length, uint64_t start_low, uint64_t start_high, uint64_t end_low, uint64_t end_high,
                        uint64_t *judgement);
+
+/* What becomes of a caption of two times in units, at most 2^36 each, and why. 0; 15 for a bad timescale or map; 16 for a kind above 2, a time above the limit, or
+ * fewer places lent for causes than the map has segments. Else than with 0 nothing is written; the lent places must not overlap one another or the map.
+ * With 0: the fate; of a caption that is kept the place of its segment in the list, from 0, and how many ticks are cut off at each end, and no cause is written;
+ * of a dropped one these three are 0, and a cause for each segment stands at the start of `causes`, those behind staying as they were. */
+#define RETIMER_DROPPED 0
+#define RETIMER_SHIFTED 1
+#define RETIMER_CLIPPED 2
+#define RETIMER_NO_LENGTH 1    /* causes, the first that applies: the segment has no length */
+#define RETIMER_ENDS_BEFORE 2  /* it ends at or before the caption's start */
+#define RETIMER_STARTS_AFTER 3 /* it starts at or after the caption's end */
+uint32_t retimer_why(const uint64_t *map, size_t length, uint32_t timescale, uint32_t kind, uint64_t start, uint64_t stop, uint64_t *causes, size_t places,
+                     uint64_t *fate, uint64_t *place, uint64_t *start_cut, uint64_t *end_cut);
 
 #ifdef __cplusplus
 }

@@ -2,8 +2,10 @@
 //! returns on every input, and writes nothing but what is lent to it for that.
 
 mod rough;
+mod why;
 
 pub use rough::{rough, Judgement};
+pub use why::{why, Cause, Fate};
 
 #[link(name = "cutter", kind = "static")]
 extern "C" {

@@ -1,5 +1,6 @@
 // The C functions for the Rust cutter: thin wrappers with the contracts of what they call. include/retimer.h declares them.
 mod judging;
+mod telling;
 
 ghost use mathlib.Core.Path.{_≡_};
 ghost use lib.ListN.{length};

@@ -1,3 +1,4 @@
 -- The theorems.
 pub mod Cues
 pub mod SameJudgement
+pub mod SameFate

@@ -4,23 +4,30 @@ use borrow.Author.Needs.{needs}
 use Rattle.queries.proofs.asking.answer.Statement.{statement}
 use Rattle.queries.proofs.asking.answer.Tie as tie
 
-print-rough-requires : tie.Need-print-rough-requires
-print-rough-requires c κs = search needs
+print-why-requires : tie.Need-print-why-requires
+print-why-requires c κs = search needs
 
 returns : tie.Need-returns
 unfolding isQuery
 returns c = search chain depth 12
 
-print-ascends-requires : tie.Need-print-ascends-requires
-print-ascends-requires c κs = search needs
+print-rough-requires : tie.Need-print-rough-requires
+print-rough-requires c κs = search needs
 
 returns-2 : tie.Need-returns-2
 unfolding isQuery
 returns-2 c = search chain depth 12
 
+print-ascends-requires : tie.Need-print-ascends-requires
+print-ascends-requires c κs = search needs
+
 returns-3 : tie.Need-returns-3
 unfolding isQuery
 returns-3 c = search chain depth 12
 
+returns-4 : tie.Need-returns-4
+unfolding isQuery
+returns-4 c = search chain depth 12
+
 pub answer-spec : {M : Type 1} → statement M
-answer-spec = tie.close (tie.spec print-rough-requires returns print-ascends-requires returns-2 returns-3)
+answer-spec = tie.close (tie.spec print-why-requires returns print-rough-requires returns-2 print-ascends-requires returns-3 returns-4)

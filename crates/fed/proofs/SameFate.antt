@@ -1,0 +1,31 @@
+-- REQUEST 2.8, tied to a feed: `same-fate`.
+use mathlib.Core.Path.{_≡_, sym, ap, _∙_}
+use mathlib.Core.List.{List}
+use Prim.Native.Nat.{ℕ, _≤_}
+use lib.ListN.{length}
+use Rattle.segment.specs.Segment.{segmentsOf}
+use Rattle.event.specs.declared.setting.Config.{Config}
+use Rattle.event.specs.Fates.{Fate}
+use Rattle.event.specs.Says.{Part}
+use Rattle.event.specs.Emit.{decided}
+use Rattle.event.specs.Told.{countedOf}
+use Rattle.reason.proofs.Truth.{fate-is, taken-number, told-number}
+use Rattle.machine.specs.Session.{openSession}
+use Rattle.machine.proofs.Numbers.{Opened as Admitted, opened}
+use Rattle.kinds.specs.Kit.{kit}
+use Rattle.promise.specs.Promise.{configOf}
+use Rattle.promise.proofs.ThePromise.{promise-opened}
+use Rattle.sequence.proofs.TheSequence.{opens}
+use Rattle.fed.specs.Reason.{SameFate, ReasonFed}
+use Rattle.fed.proofs.Cues.{fate-given}
+
+same-fates : (c : Config) (m : List ℕ) (ps : List Part) → Admitted c m → SameFate c m ps
+same-fates c m ps g q i f e hs he places room =
+    let n = taken-number m (c .timescale) (c .kind) (q .start) (q .stop) places (g .timescale-good) (g .map-good) (g .kind-known) hs he room in (
+      told-number m (c .timescale) (c .kind) (q .start) (q .stop) places n,
+      fate-is m (c .timescale) (c .kind) (q .start) (q .stop) places n ∙ ap (λ (x : Fate). countedOf (decided x)) (fate-given c (segmentsOf m) q f e),
+    )
+
+pub same-fate : ReasonFed
+same-fate kind T m o a z cs p r =
+    let g = opened kit (configOf kind T) m (opens kind T m o a z) in (promise-opened kind T m o a z cs p r, same-fates (configOf kind T) m _ g)

@@ -1,0 +1,6 @@
+-- Laws of the reasons.
+pub mod CauseLaws
+pub mod Answers
+pub mod Named
+pub mod Truth
+pub mod Rows

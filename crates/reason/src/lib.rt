@@ -1,0 +1,9 @@
+// Why a caption is kept or dropped (request 2.8).
+mod causes;
+mod places;
+mod telling;
+
+pub use places::fate_code;
+pub use places::left_in;
+pub use telling::Why;
+pub use telling::reason;
