@@ -1,4 +1,4 @@
-/* The retimer's C functions: frame sheet check, trim list check, time conversions, captions whose times are known only roughly, and what becomes of a caption and why.
+/* The retimer's C functions: frame sheet check, trim list check, time conversions, questions about a map.
  * They keep no state, write nothing but what is lent to them for that, and return on every input. Numbers: docs/NUMBERS.md. */
 #ifndef RETIMER_H
 #define RETIMER_H
@@ -34,7 +34,8 @@ uint64_t retimer_ticks_to_units_ceil(uint64_t value, uint32_t timescale, uint32_
 uint32_t retimer_units_number(uint64_t value, uint32_t timescale, uint32_t kind);
 uint32_t retimer_ticks_number(uint64_t value, uint32_t timescale, uint32_t kind);
 
-/* A map is 64-bit numbers, six to a segment: start frame, end frame, source start, frame count, output start, duration. Its length is in numbers. */
+/* A map is given as a pointer that is not NULL and the count of its numbers, six to a segment: start frame, end frame, source start, frame count, output
+ * start, duration. Places lent for an answer are not NULL, and no two of them are the same. */
 
 /* What is sure of a caption that starts between two ticks and ends between two ticks, bounds included and any of 64 bits.
  * 0; 15 for a bad map; 16 where a lower bound is above its upper bound. With 0 the judgement, else left as it was, is one of these three. */
@@ -56,6 +57,13 @@ uint32_t retimer_rough(const uint64_t *map, size_t length, uint64_t start_low, u
 #define RETIMER_STARTS_AFTER 3 /* it starts at or after the caption's end */
 uint32_t retimer_why(const uint64_t *map, size_t length, uint32_t timescale, uint32_t kind, uint64_t start, uint64_t stop, uint64_t *causes, size_t places,
                      uint64_t *fate, uint64_t *place, uint64_t *start_cut, uint64_t *end_cut);
+
+/* How many starts survive a cut: captions of so many units at the starts 0 to count - 1, in units of the kind. How many are shifted, clipped and dropped goes
+ * to the three places, and they sum to count. length and count are at most 36000000.
+ * 0; 15 for the timescale or the map; 28 for a map whose segments of positive duration do not ascend without overlap in source and output; 16 for kind, length
+ * or count. With a number that is not 0, the three places hold zeros. */
+uint32_t retimer_census(const uint64_t *map, size_t map_length, uint32_t timescale, uint32_t kind, uint64_t length, uint64_t count, uint64_t *shifted,
+                        uint64_t *clipped, uint64_t *dropped);
 
 #ifdef __cplusplus
 }

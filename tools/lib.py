@@ -3,6 +3,7 @@ import os
 import struct
 import subprocess
 import sys
+import tempfile
 
 root = os.path.dirname(os.path.dirname(os.path.abspath(__file__)))
 name = os.path.basename(sys.argv[0])
@@ -158,6 +159,45 @@ def as_bytes(words):
     return struct.pack('<%dI' % len(words), *words)
 
 
+# ---- a folder with sheet.bin, trim.txt and captions
+KINDS = ('subs.ass', 'subs.srt', 'subs.vtt')
+
+
+def refused(number):
+    """Ends the tool as tools/retime ends: a line `refused N: what it says` (docs/GUIDE.md), exit status 1."""
+    with open(os.path.join(root, 'docs/GUIDE.md'), encoding='utf-8') as f:
+        says = [line.split('|')[2].strip() for line in f if line.startswith(f'| {number} |')]
+    print(f'refused {number}: {(says or ["see docs/NUMBERS.md"])[0]}', file=sys.stderr)
+    sys.exit(1)
+
+
+def folder_map(folder):
+    """The timescale of a folder's sheet and the bytes of its map, by `mapper`; a refusal ends the tool."""
+    if not os.path.isdir(folder):
+        stop(f'{folder} is no folder', 2)
+    for file, then in (('sheet.bin', 'taken as empty'), ('trim.txt', 'the whole recording is kept')):
+        if not os.path.exists(os.path.join(folder, file)):
+            said(f'no {file} in {folder}: {then}')
+    first, *rows = output([built('mapper')], cwd=folder, text=True).splitlines()
+    word, number = first.split()
+    if word == 'refused':
+        refused(int(number))
+    return int(number), struct.pack('<%dQ' % (6 * len(rows)), *(int(x) for row in rows for x in row.split()))
+
+
+def folder_kind(folder):
+    """The kind of a folder's captions: of the first file that is there, as `retime` takes them; None without any."""
+    return next((k for k, file in enumerate(KINDS) if os.path.exists(os.path.join(folder, file))), None)
+
+
+def ask(one):
+    """The words that `replay` answers to one case; a refusal ends the tool."""
+    told = replayed(built('replay'), [one])[0].decode().split()
+    if told[0] == 'refused':
+        refused(int(told[1]))
+    return told
+
+
 # ---- trim lists
 WHITE_SPACE = '\t\n\v\f\r \x85\xa0\u1680\u2000\u2001\u2002\u2003\u2004\u2005\u2006\u2007\u2008\u2009\u200a\u2028\u2029\u202f\u205f\u3000'
 
@@ -199,6 +239,15 @@ def each_answer(program, out, count):
         at = i + 1 if i >= 0 else len(out)
         found.append(out[start:at])
     return found
+
+
+def replayed(program, stream):
+    """A program's answers to a list of cases, read from a file."""
+    with tempfile.NamedTemporaryFile() as f:
+        f.write(b''.join(stream))
+        f.flush()
+        f.seek(0)
+        return each_answer([program], output([program], stdin=f), len(stream))
 
 
 def whole(case):

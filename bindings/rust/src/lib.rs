@@ -2,9 +2,11 @@
 //! returns on every input, and writes nothing but what is lent to it for that.
 
 mod rough;
+mod starts;
 mod why;
 
 pub use rough::{rough, Judgement};
+pub use starts::{count_starts, Starts};
 pub use why::{why, Cause, Fate};
 
 #[link(name = "cutter", kind = "static")]
@@ -95,6 +97,8 @@ pub fn ticks_to_units_ceil(ticks: u64, timescale: u32, kind: Kind) -> Result<u64
 
 /// The C functions as they are, for callers that pass any number as a kind.
 pub mod raw {
+    pub use crate::starts::census;
+
     /// The number of a sheet: as `check_sheet`, and 16 where fewer work bytes are lent than n / 8, rounded up. With 0 and 25
     /// those needed end zero, whatever stood there, and any others stay; with other numbers all stay.
     pub fn sheet_check(sheet: &[u8], work: &mut [u8]) -> u32 {

@@ -1,7 +1,11 @@
 // The C functions for the Rust cutter: thin wrappers with the contracts of what they call. include/retimer.h declares them.
 mod judging;
+mod starts;
 mod telling;
 
+pub use judging::retimer_rough;
+pub use starts::retimer_census;
+pub use telling::retimer_why;
 ghost use mathlib.Core.Path.{_≡_};
 ghost use lib.ListN.{length};
 ghost use Rattle.sheet.specs.Sheet.{sheetOf, workAfter, numberOf};

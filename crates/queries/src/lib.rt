@@ -3,5 +3,6 @@ mod asking;
 mod reasoning;
 mod rising;
 mod roughly;
+mod starts;
 
 pub use asking::answer;

@@ -25,9 +25,18 @@ returns-3 : tie.Need-returns-3
 unfolding isQuery
 returns-3 c = search chain depth 12
 
+print-census-requires : tie.Need-print-census-requires
+print-census-requires c κs = search needs
+
 returns-4 : tie.Need-returns-4
 unfolding isQuery
 returns-4 c = search chain depth 12
 
+returns-5 : tie.Need-returns-5
+unfolding isQuery
+returns-5 c = search chain depth 12
+
 pub answer-spec : {M : Type 1} → statement M
-answer-spec = tie.close (tie.spec print-why-requires returns print-rough-requires returns-2 print-ascends-requires returns-3 returns-4)
+answer-spec =
+    tie.close
+    (tie.spec print-why-requires returns print-rough-requires returns-2 print-ascends-requires returns-3 print-census-requires returns-4 returns-5)
