@@ -11,7 +11,7 @@ use Rattle.stamp.specs.declared.read.Time.the-variants.{At, Bad}
 use Rattle.stamp.specs.Read.{timeIn}
 use Rattle.whyfile.specs.declared.question.Question.{Question}
 
--- the kind that a word names; 3 where it names none
+-- the kind that a word names: `ass` 0, `srt` 1, `vtt` 2; 3 where it names none
 unfoldable pub kindOf : List ℕ → ℕ
 kindOf w =
     cond (equals (97 ∷ 115 ∷ 115 ∷ []) w) 0
