@@ -1,4 +1,4 @@
-/* The retimer's C functions: frame sheet check, trim list check, time conversions, questions about a map.
+/* The retimer's C functions: frame sheet check, trim list check, time conversions, and questions about a map.
  * They keep no state, write nothing but what is lent to them for that, and return on every input. Numbers: docs/NUMBERS.md. */
 #ifndef RETIMER_H
 #define RETIMER_H
@@ -34,8 +34,8 @@ uint64_t retimer_ticks_to_units_ceil(uint64_t value, uint32_t timescale, uint32_
 uint32_t retimer_units_number(uint64_t value, uint32_t timescale, uint32_t kind);
 uint32_t retimer_ticks_number(uint64_t value, uint32_t timescale, uint32_t kind);
 
-/* A map is given as a pointer that is not NULL and the count of its numbers, six to a segment: start frame, end frame, source start, frame count, output
- * start, duration. Places lent for an answer are not NULL, and no two of them are the same. */
+/* A map is 64-bit numbers, six to a segment: start frame, end frame, source start, frame count, output start, duration. Its length is in numbers.
+ * A place that is lent for an answer is not NULL, and no two are the same. */
 
 /* What is sure of a caption that starts between two ticks and ends between two ticks, bounds included and any of 64 bits.
  * 0; 15 for a bad map; 16 where a lower bound is above its upper bound. With 0 the judgement, else left as it was, is one of these three. */
@@ -64,6 +64,14 @@ uint32_t retimer_why(const uint64_t *map, size_t length, uint32_t timescale, uin
  * or count. With a number that is not 0, the three places hold zeros. */
 uint32_t retimer_census(const uint64_t *map, size_t map_length, uint32_t timescale, uint32_t kind, uint64_t length, uint64_t count, uint64_t *shifted,
                         uint64_t *clipped, uint64_t *dropped);
+
+/* The delay that loses the fewest captions, of the first `budget` in the order 0, 1, -1, 2, -2 to 6000, -6000 units; of equal ones the first. Captions are start
+ * and end in turn, in units of the kind, at most 4096 of them, each time at most 2^36; captions_length counts times. A caption is lost where a time falls below zero, or where it is clipped or dropped.
+ * delay: the delay, which may be negative; loss: captions lost under it; tried: the delays tried, 12001 or the budget where that is smaller; off: how far off the loss can be: no delay
+ * at all loses fewer than loss - off.
+ * 0; 15 for the timescale or the map; 29 for budget 0 or more than 4096 captions; 16 for kind, an odd captions_length or a time. With a number that is not 0, the four places hold zeros. */
+uint32_t retimer_best_delay(const uint64_t *map, size_t map_length, uint32_t timescale, uint32_t kind, const uint64_t *captions, size_t captions_length,
+                            uint32_t budget, int64_t *delay, uint32_t *loss, uint32_t *tried, uint32_t *off);
 
 #ifdef __cplusplus
 }

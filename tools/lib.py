@@ -1,4 +1,5 @@
 """What the tools share: their arguments, programs that are proved and built first, the oracle, frame sheets, times as text."""
+import functools
 import os
 import struct
 import subprocess
@@ -70,6 +71,7 @@ def output(command, **how):
     return run(command, stdout=subprocess.PIPE, **how).stdout
 
 
+@functools.cache
 def built(program):
     """The path of a proved program; what is missing is proved and built."""
     said(f'rt check {program} (proves and builds what is missing)')

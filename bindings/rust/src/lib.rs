@@ -1,10 +1,12 @@
 //! Safe functions over the retimer's static library. Each has the contract of the proved function that it calls: it
 //! returns on every input, and writes nothing but what is lent to it for that.
 
+mod delays;
 mod rough;
 mod starts;
 mod why;
 
+pub use delays::{best_delay, BestDelay};
 pub use rough::{rough, Judgement};
 pub use starts::{count_starts, Starts};
 pub use why::{why, Cause, Fate};
@@ -97,6 +99,7 @@ pub fn ticks_to_units_ceil(ticks: u64, timescale: u32, kind: Kind) -> Result<u64
 
 /// The C functions as they are, for callers that pass any number as a kind.
 pub mod raw {
+    pub use crate::delays::flat_delay;
     pub use crate::starts::census;
 
     /// The number of a sheet: as `check_sheet`, and 16 where fewer work bytes are lent than n / 8, rounded up. With 0 and 25

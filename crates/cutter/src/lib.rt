@@ -1,8 +1,10 @@
 // The C functions for the Rust cutter: thin wrappers with the contracts of what they call. include/retimer.h declares them.
+mod delays;
 mod judging;
 mod starts;
 mod telling;
 
+pub use delays::retimer_best_delay;
 pub use judging::retimer_rough;
 pub use starts::retimer_census;
 pub use telling::retimer_why;

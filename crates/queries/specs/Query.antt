@@ -4,4 +4,4 @@ use Prim.Native.Nat.{ℕ}
 use lib.Dec.{eqb}
 
 unfoldable pub isQuery : ℕ → Bool
-isQuery op = cond (eqb op 8) true (cond (eqb op 9) true (cond (eqb op 10) true (cond (eqb op 11) true false)))
+isQuery op = cond (eqb op 8) true (cond (eqb op 9) true (cond (eqb op 10) true (cond (eqb op 11) true (cond (eqb op 12) true false))))

@@ -25,18 +25,23 @@ returns-3 : tie.Need-returns-3
 unfolding isQuery
 returns-3 c = search chain depth 12
 
-print-census-requires : tie.Need-print-census-requires
-print-census-requires c κs = search needs
-
 returns-4 : tie.Need-returns-4
 unfolding isQuery
 returns-4 c = search chain depth 12
+
+print-census-requires : tie.Need-print-census-requires
+print-census-requires c κs = search needs
 
 returns-5 : tie.Need-returns-5
 unfolding isQuery
 returns-5 c = search chain depth 12
 
+print-delay-requires : tie.Need-print-delay-requires
+print-delay-requires c κs = search needs
+
+returns-6 : tie.Need-returns-6
+unfolding isQuery
+returns-6 c = search chain depth 12
+
 pub answer-spec : {M : Type 1} → statement M
-answer-spec =
-    tie.close
-    (tie.spec print-why-requires returns print-rough-requires returns-2 print-ascends-requires returns-3 print-census-requires returns-4 returns-5)
+answer-spec = tie.close (tie.spec print-why-requires returns print-rough-requires returns-2 print-ascends-requires returns-3 print-census-requires returns-4 print-delay-requires returns-5 returns-6)

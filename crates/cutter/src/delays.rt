@@ -1,0 +1,31 @@
+// The delay that loses least (request 2.14), for callers from C.
+ghost use mathlib.Core.Path.{_≡_};
+ghost use Rattle.delay.specs.Answer.{delayAnswer};
+
+// The number of a search for the best delay: 0, 15, 16 or 29; the delay, its loss, the tries and how far off it can be go to the lent places, zeros where it is refused.
+#[no_mangle]
+pub extern "C" fn retimer_best_delay(
+    map: &[u64],
+    timescale: u32,
+    kind: u32,
+    captions: &[u64],
+    budget: u32,
+    delay: &mut i64,
+    loss: &mut u32,
+    tried: &mut u32,
+    off: &mut u32,
+) -> u32
+    ensures { λ r. ⌜ r ≡ delayAnswer (now (map .entry)) timescale kind (now (captions .entry)) budget .number ⌝ }
+    ensures { λ _. ⌜ now (delay .exit) ≡ delayAnswer (now (map .entry)) timescale kind (now (captions .entry)) budget .delay ⌝ }
+    ensures { λ _. ⌜ now (loss .exit) ≡ delayAnswer (now (map .entry)) timescale kind (now (captions .entry)) budget .loss ⌝ }
+    ensures { λ _. ⌜ now (tried .exit) ≡ delayAnswer (now (map .entry)) timescale kind (now (captions .entry)) budget .tried ⌝ }
+    ensures { λ _. ⌜ now (off .exit) ≡ delayAnswer (now (map .entry)) timescale kind (now (captions .entry)) budget .off ⌝ }
+{
+    let d = delay::best_delay(map, timescale, kind, captions, budget);
+    let units = d.delay;
+    *delay = units;
+    *loss = d.loss;
+    *tried = d.tried;
+    *off = d.off;
+    d.number
+}

@@ -1,0 +1,14 @@
+-- Laws of delays.
+pub mod Signed
+pub mod Floor
+pub mod Best
+pub mod PaintLaws
+pub mod WindowLaws
+pub mod LookUp
+pub mod NearLaws
+pub mod TallyLaws
+pub mod ChoiceLaws
+pub mod SavingLaws
+pub mod AnswerLaws
+pub mod TheDelay
+pub mod Rows
