@@ -233,8 +233,9 @@ def each_answer(program, out, count):
         if not out.startswith(mark, at):
             stop('%s: no answer to case %d of %d' % (program[0], k, count))
         start = end = at + len(mark)
-        if out.startswith(b'retimed ', start):
-            i = out.index(b'\noutput ', start) + 8
+        if out.startswith((b'retimed ', b'output ', b'taken '), start):
+            mark = b'\nheld ' if out.startswith(b'taken ', start) else b'\noutput '
+            i = out.index(mark, start - 1) + len(mark)
             j = out.index(b'\n', i)
             end = j + 1 + int(out[i:j])
         i = out.find(b'\ncase %d\n' % (k + 1), end - 1)

@@ -7,48 +7,80 @@ use native.Mathlib.Omega.{arith}
 use lib.Dec.{ltb}
 use lib.ListN.{length, take}
 use borrow.Author.Tests.{lt-ltb, le-ltb}
-use Rattle.base.specs.Limits.{mostTaken, mostHeld}
+use Rattle.base.specs.Limits.{mostTaken, mostHeld, mostLine}
 use Rattle.columns.specs.declared.layout.Columns.{Columns}
-use Rattle.machine.specs.Session.{configBad, countsAbove}
+use Rattle.base.proofs.Laws.{or-right}
+use Rattle.text.specs.Line.{hasLf, lineCount}
+use Rattle.machine.specs.Cut.{Cut, closedLines}
+use Rattle.machine.specs.Session.{configBad, countsAbove, outcomeBad}
+use Rattle.machine.proofs.CutLaws.{cut-rest}
 use Rattle.kinds.specs.Kit.{columnsBad, heldBad, strange}
+use Rattle.kinds.proofs.KindLaws.{held-ass}
 use Rattle.foreign.specs.declared.holding.Session.{Session}
 use Rattle.foreign.specs.View.{heldOf, foreignOf}
 use Rattle.foreign.proofs.HeldLaws.{held-large}
+use Rattle.foreign.proofs.MarkLaws.{or-none}
 use Rattle.foreign.proofs.ViewLaws.{held-length, held-plain, foreign-view}
 
--- ---- the columns and the held bytes
-abbrev pub keptBad : (kind taken : ℕ) → Columns → (n : ℕ) → (room : List ℕ) → Bool
-keptBad kind taken c n room = ltb taken n || strange kind c (heldOf n room)
+-- ---- the outcome, the columns and the held bytes
+abbrev pub marksBad : (ended : Bool) → (outcome lines : ℕ) → (held : List ℕ) → Bool
+marksBad e k l held = outcomeBad e k || ltb l (lineCount (closedLines held))
 
-module _ (kind taken : ℕ) (c : Columns) (n : ℕ) (room : List ℕ) where
-  pub kept-many : taken < n → true ≡ keptBad kind taken c n room
+module _ (e : Bool) (k l : ℕ) (held : List ℕ) (a : Bool) (f : a ≡ outcomeBad e k) where
+  pub marks-outcome : a ≡ true → true ≡ marksBad e k l held
+  marks-outcome p = let q : outcomeBad e k ≡ true = sym f ∙ p in rw q
+
+  pub marks-lines : (n : ℕ) → a ≡ false → n ≡ lineCount (closedLines held) → ltb l n ≡ marksBad e k l held
+  marks-lines n p g = let q : outcomeBad e k ≡ false = sym f ∙ p in rw q (ap (ltb l) g)
+
+abbrev pub keptBad : (kind taken : ℕ) → Columns → (n : ℕ) → (ended : Bool) → (outcome lines : ℕ) → (room : List ℕ) → Bool
+keptBad kind taken c n e k l room = ltb taken n || (strange kind c (heldOf n room) || marksBad e k l (heldOf n room))
+
+module _ (kind taken : ℕ) (c : Columns) (n : ℕ) (ended : Bool) (outcome lines : ℕ) (room : List ℕ) where
+  pub kept-many : taken < n → true ≡ keptBad kind taken c n ended outcome lines room
   kept-many p = rw (lt-ltb taken n p)
 
   module _ (p : n ≤ taken) (a : Bool) (e : a ≡ columnsBad c) where
-    pub kept-columns : a ≡ true → true ≡ keptBad kind taken c n room
+    pub kept-columns : a ≡ true → true ≡ keptBad kind taken c n ended outcome lines room
     kept-columns q = let k : columnsBad c ≡ true = sym e ∙ q in rw (le-ltb taken n p, k)
 
-    pub kept-large : a ≡ false → mostHeld < n → true ≡ keptBad kind taken c n room
+    pub kept-large : a ≡ false → mostHeld < n → true ≡ keptBad kind taken c n ended outcome lines room
     kept-large q r =
         let k : columnsBad c ≡ false = sym e ∙ q in
         let h : heldBad kind (heldOf n room) ≡ true = held-large kind (heldOf n room) (omega (arith, held-length n room)) in
         rw (le-ltb taken n p, k, h)
 
-    pub kept-held : (l : List ℕ) (b : Bool) → a ≡ false → n ≤ mostHeld → length room ≡ mostHeld → l ≡ take n room → b ≡ heldBad kind l → b ≡ keptBad kind taken c n room
-    kept-held l b q r z f g =
+    pub kept-held : (l : List ℕ) (b : Bool) → a ≡ false → n ≤ mostHeld → length room ≡ mostHeld → l ≡ take n room → b ≡ heldBad kind l → b ≡ true → true ≡ keptBad kind taken c n ended outcome lines room
+    kept-held l b q r z f g h =
         let k : columnsBad c ≡ false = sym e ∙ q in
-        rw (le-ltb taken n p, k) (g ∙ ap (heldBad kind) (f ∙ sym (held-plain n room (omega arith))))
+        let y : heldBad kind (heldOf n room) ≡ true = ap (heldBad kind) (held-plain n room (omega arith) ∙ sym f) ∙ sym g ∙ h in
+        rw (le-ltb taken n p, k, y)
+
+    pub kept-marks : (l : List ℕ) (b x : Bool) → a ≡ false → n ≤ mostHeld → length room ≡ mostHeld → l ≡ take n room → b ≡ heldBad kind l → b ≡ false → x ≡ marksBad ended outcome lines l → x ≡ keptBad kind taken c n ended outcome lines room
+    kept-marks l b x q r z f g h w =
+        let k : columnsBad c ≡ false = sym e ∙ q in
+        let v : heldOf n room ≡ l = held-plain n room (omega arith) ∙ sym f in
+        let y : heldBad kind (heldOf n room) ≡ false = ap (heldBad kind) v ∙ sym g ∙ h in
+        rw (le-ltb taken n p, k, y) (w ∙ ap (marksBad ended outcome lines) (sym v))
+
+    -- ASS holds no LF
+    pub kept-ass : (l : List ℕ) (b x : Bool) → a ≡ false → n ≤ mostHeld → length room ≡ mostHeld → l ≡ take n room → b ≡ heldBad kind l → b ≡ false → kind ≡ 0 → x ≡ outcomeBad ended outcome → x ≡ keptBad kind taken c n ended outcome lines room
+    kept-ass l b x q r z f g h i w =
+        let y : (ltb mostLine (length l) || hasLf l) ≡ false = sym (held-ass l) ∙ ap (λ (j : ℕ). heldBad j l) (sym i) ∙ sym g ∙ h in
+        let none : lineCount (closedLines l) ≡ 0 = ap (λ (y : Cut ℕ). lineCount (y .pieces)) (cut-rest l (or-right (ltb mostLine (length l)) (hasLf l) y)) in
+        let low : ltb lines (lineCount (closedLines l)) ≡ false = le-ltb lines (lineCount (closedLines l)) (omega arith) in
+        kept-marks l b x q r z f g h (w ∙ or-none (outcomeBad ended outcome) ∙ ap (λ (t : Bool). outcomeBad ended outcome || t) (sym low))
 
 -- ---- the whole
 module _ (s : Session) where
   foreign-is : foreignOf s
       ≡ (configBad (s .config) || (ltb mostTaken (s .taken) || (countsAbove (s .taken) (s .counts) || (ltb (s .taken) (s .lines)
-      || keptBad (s .config .kind) (s .taken) (s .columns) (s .«held_len») (s .held)))))
+      || keptBad (s .config .kind) (s .taken) (s .columns) (s .«held_len») (s .ended) (s .outcome) (s .lines) (s .held)))))
   foreign-is =
       foreign-view s ∙ ap
       (λ (n : ℕ).
       configBad (s .config) || (ltb mostTaken (s .taken) || (countsAbove (s .taken) (s .counts) || (ltb (s .taken) (s .lines)
-      || (ltb (s .taken) n || strange (s .config .kind) (s .columns) (heldOf (s .«held_len») (s .held)))))))
+      || (ltb (s .taken) n || (strange (s .config .kind) (s .columns) (heldOf (s .«held_len») (s .held)) || marksBad (s .ended) (s .outcome) (s .lines) (heldOf (s .«held_len») (s .held))))))))
       (held-length (s .«held_len») (s .held))
 
   module _ (a : Bool) (e : a ≡ configBad (s .config)) where
@@ -73,5 +105,5 @@ module _ (s : Session) where
           pub foreign-lines : s .taken < s .lines → true ≡ foreignOf s
           foreign-lines t = sym (foreign-is ∙ rw (after-config, le-ltb mostTaken (s .taken) q, after-counts, lt-ltb (s .taken) (s .lines) t))
 
-          pub foreign-kept : (k : Bool) → s .lines ≤ s .taken → k ≡ keptBad (s .config .kind) (s .taken) (s .columns) (s .«held_len») (s .held) → k ≡ foreignOf s
+          pub foreign-kept : (k : Bool) → s .lines ≤ s .taken → k ≡ keptBad (s .config .kind) (s .taken) (s .columns) (s .«held_len») (s .ended) (s .outcome) (s .lines) (s .held) → k ≡ foreignOf s
           foreign-kept k t g = sym (foreign-is ∙ rw (after-config, le-ltb mostTaken (s .taken) q, after-counts, le-ltb (s .taken) (s .lines) t) (sym g))

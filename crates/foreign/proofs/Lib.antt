@@ -2,3 +2,4 @@ pub mod AmountLaws
 pub mod HeldLaws
 pub mod ViewLaws
 pub mod ForeignLaws
+pub mod MarkLaws

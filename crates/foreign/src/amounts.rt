@@ -2,7 +2,7 @@
 use columns::Columns;
 use event::Config;
 ghost use mathlib.Core.Path.{_≡_};
-ghost use Rattle.machine.specs.Session.{configBad};
+ghost use Rattle.machine.specs.Session.{configBad, isOutcome, outcomeBad};
 ghost use Rattle.kinds.specs.Kit.{columnsBad};
 
 // Whether there is no such kind, or the timescale is out of range.
@@ -13,6 +13,35 @@ pub fn config_bad(config: Config) -> bool
         return true;
     }
     time::timescale_bad(config.timescale)
+}
+
+// Whether a text can end with this number.
+pub fn is_outcome(outcome: u32) -> bool
+    ensures { λ r. ⌜ r ≡ isOutcome outcome ⌝ }
+{
+    if outcome == 0 {
+        return true;
+    }
+    if outcome == 24 {
+        return true;
+    }
+    if outcome < 19 {
+        return false;
+    }
+    outcome <= 22
+}
+
+// Whether there is no such outcome, or one before the end.
+pub fn outcome_bad(ended: bool, outcome: u32) -> bool
+    ensures { λ r. ⌜ r ≡ outcomeBad ended outcome ⌝ }
+{
+    if is_outcome(outcome) {
+        if ended {
+            return false;
+        }
+        return outcome != 0;
+    }
+    true
 }
 
 // Whether there are too many columns, or a place past them.

@@ -1,9 +1,10 @@
 // The held bytes: the open block's lines, each with its LF, then the unfinished line.
 ghost use mathlib.Core.Path.{_≡_};
-ghost use mathlib.Core.Bool.{_||_, not};
+ghost use mathlib.Core.Bool.{_||_, not, cond};
+ghost use lib.Dec.{eqb};
 ghost use lib.ListN.{length};
 ghost use Rattle.utf8.specs.Utf8.{utf8};
-ghost use Rattle.text.specs.Line.{concat, linesOf};
+ghost use Rattle.text.specs.Line.{concat, linesOf, lineCount};
 ghost use Rattle.timing.specs.Style.{blankIn};
 ghost use Rattle.machine.specs.Cut.{closedLines};
 ghost use Rattle.kinds.specs.Kit.{linesBad, heldBad};
@@ -20,6 +21,29 @@ pub fn block_end(held: &[u8]) -> usize
         n -= 1;
     }
     0
+}
+
+// 1 for LF, else 0.
+fn lf_one(b: u8) -> usize
+    ensures { λ r. ⌜ r ≡ cond (eqb b 10) 1 0 ⌝ }
+{
+    if b == 10 {
+        return 1;
+    }
+    0
+}
+
+// How many LFs are held.
+pub fn lf_count(held: &[u8]) -> usize
+    ensures { λ r. ⌜ r ≡ lineCount (closedLines (now (held .entry))) ⌝ }
+{
+    let mut n: usize = 0;
+    let mut i: usize = 0;
+    while i < held.len() {
+        n += lf_one(held[i]);
+        i += 1;
+    }
+    n
 }
 
 // Whether a finished line ends a block or is not UTF-8.

@@ -4,6 +4,7 @@ mod held;
 mod holding;
 mod whole;
 
+pub use amounts::is_outcome;
 pub use held::block_end;
 pub use holding::Session;
 pub use whole::foreign;

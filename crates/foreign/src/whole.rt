@@ -1,7 +1,9 @@
 // A foreign session (17).
 use crate::amounts::columns_bad;
 use crate::amounts::config_bad;
+use crate::amounts::outcome_bad;
 use crate::held::held_bad;
+use crate::held::lf_count;
 use crate::holding::Session;
 use columns::Columns;
 use machine::counts_above;
@@ -10,13 +12,35 @@ ghost use mathlib.Core.Bool.{_||_};
 ghost use lib.Dec.{ltb};
 ghost use lib.ListN.{length};
 ghost use Rattle.base.specs.Limits.{mostHeld};
+ghost use Rattle.text.specs.Line.{lineCount};
+ghost use Rattle.machine.specs.Cut.{closedLines};
+ghost use Rattle.machine.specs.Session.{outcomeBad};
 ghost use Rattle.kinds.specs.Kit.{strange};
 ghost use Rattle.foreign.specs.View.{heldOf, foreignOf};
 
+// Whether the outcome can't be, or more LFs are held than lines have ended.
+fn marks_bad(ended: bool, outcome: u32, lines: u32, held: &[u8]) -> bool
+    ensures { λ r. ⌜ r ≡ (outcomeBad ended outcome || ltb lines (lineCount (closedLines (now (held .entry))))) ⌝ }
+{
+    if outcome_bad(ended, outcome) {
+        return true;
+    }
+    (lines as usize) < lf_count(held)
+}
+
 // Whether more bytes are held than were taken, or the columns or the held bytes, the first `n` of the room, are ones that 17 refuses.
-fn kept_bad(kind: u32, taken: u32, columns: Columns, n: usize, room: &[u8]) -> bool
+fn kept_bad(
+    kind: u32,
+    taken: u32,
+    columns: Columns,
+    n: usize,
+    ended: bool,
+    outcome: u32,
+    lines: u32,
+    room: &[u8],
+) -> bool
     requires { ⌜ length (now room) ≡ mostHeld ⌝ }
-    ensures { λ r. ⌜ r ≡ (ltb taken n || strange kind columns (heldOf n (now (room .entry)))) ⌝ }
+    ensures { λ r. ⌜ r ≡ (ltb taken n || (strange kind columns (heldOf n (now (room .entry))) || (outcomeBad ended outcome || ltb lines (lineCount (closedLines (heldOf n (now (room .entry)))))))) ⌝ }
 {
     if (taken as usize) < n {
         return true;
@@ -27,7 +51,14 @@ fn kept_bad(kind: u32, taken: u32, columns: Columns, n: usize, room: &[u8]) -> b
     if base::MOST_HELD < n {
         return true;
     }
-    held_bad(kind, base::front(room, n))
+    let held = base::front(room, n);
+    if held_bad(kind, held) {
+        return true;
+    }
+    if kind == 0 {
+        return outcome_bad(ended, outcome);
+    }
+    marks_bad(ended, outcome, lines, held)
 }
 
 // Whether the session is foreign.
@@ -50,5 +81,14 @@ pub fn foreign(session: Session) -> bool
     if taken < session.lines {
         return true;
     }
-    kept_bad(config.kind, taken, columns, session.held_len, &session.held)
+    kept_bad(
+        config.kind,
+        taken,
+        columns,
+        session.held_len,
+        session.ended,
+        session.outcome,
+        session.lines,
+        &session.held,
+    )
 }

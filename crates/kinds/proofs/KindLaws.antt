@@ -21,6 +21,7 @@ use Rattle.block.specs.Block.{BlockSays, blockSays, faulty as blockFaulty, says
 use Rattle.machine.specs.Cut.{Cut, cut, isLf, closedLines, unfinished}
 use Rattle.machine.specs.Machine.{Says, faulty, says}
 use Rattle.machine.proofs.CutLaws.{cut-held}
+use Rattle.machine.proofs.Keeps.{Kept}
 use Rattle.machine.proofs.Laws.{StepOk, CloseOk, Lawful}
 use Rattle.kinds.specs.Takes.{State, blankState, ofLine, lineTakes, withBlock, ofBlock, closes, adds, blockTakes, headTakes, takes, blockEnds, ends}
 use Rattle.kinds.specs.Kit.{linesBad, heldBad, kit}
@@ -237,17 +238,71 @@ held-good-block j s h f k e =
 pub blank-fit : (kind : ℕ) → BlockFit kind [] → Fit kind blankState
 blank-fit kind b = record { bounded = none-bounded; small = omega arith; lines = refl; block = b }
 
--- the fields that both kinds have in common
+-- ---- the lines held: at most one more with each line
+abbrev pub Rows : State → ℕ
+Rows s = lineCount (s .block)
+
+abbrev pub Lined : State → Says State → Type 0
+Lined s x = Kept (λ t. Rows t ≤ suc (Rows s)) x
+
+count-snoc : (ks : List (List ℕ)) (l : List ℕ) → lineCount (ks ++ (l ∷ [])) ≡ suc (lineCount ks)
+count-snoc [] l = refl
+count-snoc (k ∷ ks) l = ap suc (count-snoc ks l)
+
+either : (P : Says State → Type 0) (t : Bool) (x y : Says State) → P x → P y → P (cond t x y)
+either P true x y a b = a
+either P false x y a b = b
+
+said-lined : (s : State) (x : LineSays) → Lined s (ofLine s x)
+said-lined s (lineFaulty f) = tt
+said-lined s (lineSaid c p) = omega arith
+
+told-lined : (s : State) (more : List Part) (x : BlockSays) → Lined s (ofBlock s more x)
+told-lined s more (blockFaulty f) = tt
+told-lined s more (blockSaid p) = omega arith
+
+closes-lined : (j : ℕ) (s : State) (n : ℕ) (b : List (List ℕ)) (more : List Part) → Lined s (closes (styleOf (suc j)) s n b more)
+closes-lined j s n [] more = omega arith
+closes-lined j s n (k ∷ ks) more = told-lined s more (blockSays (styleOf (suc j)) (suc n - lineCount (k ∷ ks)) (k ∷ ks))
+
+adds-lined : (t : Bool) (s : State) (l : List ℕ) → Lined s (adds t s l)
+adds-lined true s l = omega (arith, count-snoc (s .block) l)
+adds-lined false s l = tt
+
+pub ass-lined : (s : State) (n : ℕ) (l : List ℕ) → Lined s (lineTakes s n l)
+unfolding lineTakes
+ass-lined s n l = either (Lined s) (utf8 l) (ofLine s (lineSays (s .columns) n l)) (faulty notUtf8) (said-lined s (lineSays (s .columns) n l)) tt
+
+pub block-lined : (j : ℕ) (s : State) (n : ℕ) (l : List ℕ) → Lined s (blockTakes (styleOf (suc j)) s n l)
+unfolding blockTakes
+block-lined j s n l =
+    either (Lined s) (utf8 l) _ (faulty notUtf8)
+    (either (Lined s) (blankIn (suc j) l) _ _ (closes-lined j s n (s .block) (stays l ∷ [])) (adds-lined (leb (length (concat (s .block)) + length l) mostBlock) s l)) tt
+
+head-lined : (s : State) (l : List ℕ) → Lined s (headTakes s l)
+unfolding headTakes
+head-lined s l =
+    either (Lined s) (utf8 l) _ (faulty notUtf8) (either (Lined s) (isHeader l) (says s (stays l ∷ [])) (faulty badHeader) (omega arith) tt) tt
+
+pub vtt-lined : (s : State) (n : ℕ) (l : List ℕ) (b : Bool) → Lined s (cond b (headTakes s l) (blockTakes (styleOf 2) s n l))
+vtt-lined s n l b = either (Lined s) b (headTakes s l) _ (head-lined s l) (block-lined 1 s n l)
+
+-- the fields that all kinds have in common
 module _ (kind : ℕ) (b : BlockFit kind [])
     (steps : (s : State) (n : ℕ) (l : List ℕ) → Fit kind s → length l ≤ mostLine → LineOk kind s l (takes kind s n l))
     (finishes : (s : State) (n : ℕ) → CloseOk (Fit kind) pending size s (ends kind s n))
-    (holds : (s : State) (h : List ℕ) → Fit kind s → length h ≤ mostLine → hasLf h ≡ false → heldBad kind (concat (s .block) ++ h) ≡ false) where
+    (holds : (s : State) (h : List ℕ) → Fit kind s → length h ≤ mostLine → hasLf h ≡ false → heldBad kind (concat (s .block) ++ h) ≡ false)
+    (lined : (s : State) (n : ℕ) (l : List ℕ) → Lined s (takes kind s n l)) where
   abbrev pub laws : Lawful kit kind
   laws =
       record {
         Fit = Fit kind;
         pending = pending;
         size = size;
+        rows = λ s. Rows s;
+        start-rows = refl;
+        step-rows = lined;
+        pack-rows = λ s h f e. ap (λ (c : Cut ℕ). lineCount (c .pieces)) (held-cut kind s h f e);
         start-fit = blank-fit kind b;
         start-pending = refl;
         start-size = refl;
@@ -266,6 +321,7 @@ ass-laws =
     (λ s n l h k. subst (LineOk 0 s l) (sym (takes-ass s n l)) (ass-step s n l h k))
     (λ s n. subst (CloseOk (Fit 0) pending size s) (sym (ends-ass s n)) (omega (arith, no-part)))
     (λ s h f k e. held-good-ass s h f k e)
+    (λ s n l. subst (Lined s) (sym (takes-ass s n l)) (ass-lined s n l))
 
 abbrev pub srt-laws : Lawful kit 1
 srt-laws =
@@ -273,6 +329,7 @@ srt-laws =
     (λ s n l h k. subst (LineOk 1 s l) (sym (takes-srt s n l)) (block-step 0 s n l h))
     (λ s n. subst (CloseOk (Fit 1) pending size s) (sym (ends-srt s n)) (block-close 0 s n (s .block) refl))
     (λ s h f k e. held-good-block 0 s h f k e)
+    (λ s n l. subst (Lined s) (sym (takes-srt s n l)) (block-lined 0 s n l))
 
 abbrev pub vtt-laws : Lawful kit 2
 vtt-laws =
@@ -280,6 +337,7 @@ vtt-laws =
     (λ s n l h k. subst (LineOk 2 s l) (sym (takes-vtt s n l)) (vtt-step s n l h (headerDue 2 n (s .block))))
     (λ s n. subst (CloseOk (Fit 2) pending size s) (sym (ends-vtt s n)) (vtt-close s n (headerDue 2 n (s .block))))
     (λ s h f k e. held-good-block 1 s h f k e)
+    (λ s n l. subst (Lined s) (sym (takes-vtt s n l)) (vtt-lined s n l (headerDue 2 n (s .block))))
 
 -- ---- both kinds
 pub known-three : (k : ℕ) → kindBad (suc (suc (suc k))) ≡ false → ⊥

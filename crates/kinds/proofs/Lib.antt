@@ -1,6 +1,5 @@
 pub mod ColumnBounds
 pub mod KindLaws
-pub mod Reachable
 pub mod EmptyPiece
 pub mod Refused
 pub mod Native

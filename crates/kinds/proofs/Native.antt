@@ -9,13 +9,13 @@ use lib.ListN.{length}
 use borrow.Author.Tests.{ltb-false}
 use Rattle.base.specs.Limits.{mostLine, mostBlock, mostTaken, mostHeld}
 use Rattle.base.proofs.Laws.{or-left, or-right}
-use Rattle.text.specs.Line.{concat, hasLf}
+use Rattle.text.specs.Line.{concat, hasLf, lineCount}
 use Rattle.time.specs.Kind.{kindBad}
 use Rattle.time.specs.Convert.{timescaleBad}
 use Rattle.time.proofs.Limits.{by-kind}
 use Rattle.columns.specs.declared.layout.Columns.{Columns}
 use Rattle.machine.specs.Cut.{Cut, closedLines, unfinished}
-use Rattle.machine.specs.Session.{Session, configBad, countsAbove, foreign}
+use Rattle.machine.specs.Session.{Session, configBad, countsAbove, outcomeBad, foreign}
 use Rattle.machine.proofs.CutLaws.{cut-rest, cut-ends, cut-open, cut-length}
 use Rattle.kinds.specs.Kit.{linesBad, heldBad, columnsBad, kit}
 use Rattle.kinds.proofs.ColumnBounds.{Bounded, good-bounded}
@@ -80,6 +80,8 @@ pub record Native (s : Session Columns) : Type 0 where
   pub lines-few : s .lines ≤ s .taken
   pub held-few : length (s .held) ≤ s .taken
   pub holds : Holds (s .config .kind) (s .known) (s .held)
+  pub outcome-good : outcomeBad (s .ended) (s .outcome) ≡ false
+  pub rows-few : lineCount (closedLines (s .held)) ≤ s .lines
 
 pub is-native : (s : Session Columns) → foreign kit s ≡ false → Native s
 is-native s e =
@@ -88,6 +90,8 @@ is-native s e =
     let e3 = or-right (countsAbove (s .taken) (s .counts)) _ e2 in
     let e4 = or-right (ltb (s .taken) (s .lines)) _ e3 in
     let e5 = or-right (ltb (s .taken) (length (s .held))) _ e4 in
+    let e6 = or-right (columnsBad (s .known) || heldBad (s .config .kind) (s .held)) _ e5 in
+    let e7 = or-left (columnsBad (s .known) || heldBad (s .config .kind) (s .held)) _ e5 in
     let g = or-left (configBad (s .config)) _ e in
     let k = or-left (kindBad (s .config .kind)) (timescaleBad (s .config .timescale)) g in
     record {
@@ -98,6 +102,8 @@ is-native s e =
       lines-few = ltb-false (s .taken) (s .lines) (or-left (ltb (s .taken) (s .lines)) _ e3);
       held-few = ltb-false (s .taken) (length (s .held)) (or-left (ltb (s .taken) (length (s .held))) _ e4);
       holds =
-          holds (s .known) (good-bounded (s .known) (or-left (columnsBad (s .known)) (heldBad (s .config .kind) (s .held)) e5)) (s .held)
-          (s .config .kind) k (or-right (columnsBad (s .known)) (heldBad (s .config .kind) (s .held)) e5);
+          holds (s .known) (good-bounded (s .known) (or-left (columnsBad (s .known)) (heldBad (s .config .kind) (s .held)) e7)) (s .held)
+          (s .config .kind) k (or-right (columnsBad (s .known)) (heldBad (s .config .kind) (s .held)) e7);
+      outcome-good = or-left (outcomeBad (s .ended) (s .outcome)) _ e6;
+      rows-few = ltb-false (s .lines) (lineCount (closedLines (s .held))) (or-right (outcomeBad (s .ended) (s .outcome)) _ e6);
     }

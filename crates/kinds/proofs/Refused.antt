@@ -9,7 +9,7 @@ use Rattle.time.specs.Convert.{timescaleBad}
 use Rattle.segment.specs.Segment.{mapBad}
 use Rattle.columns.specs.declared.layout.Columns.{Columns}
 use Rattle.machine.specs.Counts.{noCounts}
-use Rattle.machine.specs.Session.{configBad, Call, lentOf, argumentBad, gate, foreign, noSession, respond, answer}
+use Rattle.machine.specs.Session.{isOutcome, outcomeBad, configBad, Call, lentOf, argumentBad, gate, foreign, noSession, respond, answer}
 use Rattle.machine.proofs.Native.{not-foreign}
 use Rattle.machine.proofs.CutLaws.{has-none}
 use Rattle.kinds.specs.Takes.{noColumns, blankState}
@@ -20,10 +20,14 @@ config-good : configBad (record { kind = 0; timescale = 1 }) ≡ false
 unfolding kindBad timescaleBad
 config-good = refl
 
+refused-outcome : outcomeBad true 0 ≡ false
+unfolding outcomeBad isOutcome
+refused-outcome = refl
+
 pub refused-native : foreign kit (noSession kit) ≡ false
 refused-native =
     not-foreign kit (record { kind = 0; timescale = 1 }) 0 0 [] noColumns noCounts 0 true config-good (omega arith) (omega arith) (omega arith) (omega arith)
-    (ass-laws .not-strange blankState [] (ass-laws .start-fit) (omega arith) has-none)
+    (ass-laws .not-strange blankState [] (ass-laws .start-fit) (omega arith) has-none) refused-outcome (omega arith)
 
 pub refused-ended : (x : Call) → answer kit (noSession kit) x .number ≡ 18
 refused-ended x = ap (λ (f : Bool). respond kit (gate f true (mapBad (lentOf x .map)) (argumentBad 0 x)) (noSession kit) x .number) refused-native

@@ -5,10 +5,12 @@ use mathlib.Core.List.{List, []}
 use Prim.Native.Nat.{ℕ, suc, _+_, _≤_}
 use lib.ListN.{length}
 use Rattle.base.specs.Limits.{mostLine}
-use Rattle.text.specs.Line.{hasLf, endsLine}
+use Rattle.text.specs.Line.{hasLf, endsLine, lineCount}
 use Rattle.event.specs.Says.{Part, captionsIn}
+use Rattle.machine.specs.Cut.{closedLines}
 use Rattle.machine.specs.Machine.{Says, faulty, says}
 use Rattle.machine.specs.Session.{Kit}
+use Rattle.machine.proofs.Keeps.{Kept}
 
 module _ {σ : Type 0} (Fit : σ → Type 0) (pending size : σ → ℕ) where
   -- a line ends at most one caption, counting one that is still open, and holds no more than its bytes
@@ -33,6 +35,11 @@ pub record Lawful {σ κ : Type 0} (K : Kit σ κ) (kind : ℕ) : Type 1 where
   pub pending : σ → ℕ
   -- bytes of finished lines that are held
   pub size : σ → ℕ
+  -- finished lines that are held
+  pub rows : σ → ℕ
+  pub start-rows : rows (K .machine kind .start) ≡ 0
+  pub step-rows : (s : σ) (n : ℕ) (l : List ℕ) → Kept (λ t. rows t ≤ suc (rows s)) (K .machine kind .step s n l)
+  pub pack-rows : (s : σ) (h : List ℕ) → Fit s → hasLf h ≡ false → lineCount (closedLines (K .pack s h)) ≡ rows s
   pub start-fit : Fit (K .machine kind .start)
   pub start-pending : pending (K .machine kind .start) ≡ 0
   pub start-size : size (K .machine kind .start) ≡ 0

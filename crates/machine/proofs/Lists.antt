@@ -3,7 +3,7 @@ use mathlib.Core.Path.{_≡_, refl, sym, ap, ap₂, subst, _∙_}
 use mathlib.Core.Logic.{inl, inr}
 use mathlib.Core.Bool.{Bool, true, false, not, true≢false}
 use mathlib.Core.List.{List, [], _∷_, _++_, append-nil, append-assoc}
-use Prim.Native.Nat.{ℕ, _+_, _≤_}
+use Prim.Native.Nat.{ℕ, suc, _+_, _≤_}
 use native.Mathlib.Omega.{arith}
 use lib.Dec.{ltb, eqb}
 use lib.ListN.{length, length-append}
@@ -16,9 +16,10 @@ use Rattle.event.specs.Says.{Part, captionsIn}
 use Rattle.event.specs.Emit.{Emit, Warning, outputOf, warningsOf}
 use Rattle.machine.specs.declared.counting.Counts.{Counts}
 use Rattle.machine.specs.Counts.{noCounts, countAll, countsOf}
-use Rattle.machine.specs.Machine.{Machine, Run, going, stopped, run, finishRun, restOf}
+use Rattle.machine.specs.Cut.{closedLines, unfinished}
+use Rattle.machine.specs.Machine.{Machine, Says, faulty, says, Run, going, stopped, run, finishRun, restOf}
 use Rattle.machine.specs.Reader.{Reading, reading, readText}
-use Rattle.machine.specs.Session.{configBad, Session, Kit, Call, feed, finish, lentOf, pieceOf, argumentBad, refuse, gate}
+use Rattle.machine.specs.Session.{isOutcome, outcomeBad, configBad, Session, Kit, Call, feed, finish, lentOf, pieceOf, argumentBad, refuse, gate}
 use Rattle.machine.specs.Session.{foreign, blankOf, fresh, Answer, settle, resume, accepted, respond, answer, emitted}
 use Rattle.machine.specs.Calls.{Played, Reader, Heard, ReaderAnswer, play, ProperCall, Proper, readerAccepts, readerAnswer, newReader, hear, readingOf, SameAsReader}
 use Rattle.machine.proofs.Emits.{emits-append, emits-none, output-append, output-none, warnings-append, warnings-none, count-append, count-none, total-parts}
@@ -27,6 +28,8 @@ use Rattle.machine.proofs.Resume.{after, ByFault, run-append, run-after
 use Rattle.machine.proofs.CutLaws.{has-none}
 use Rattle.machine.proofs.ReaderGate.{readerResponds, reader-gated}
 use Rattle.machine.proofs.Laws.{Lawful}
+use Rattle.machine.proofs.Keeps.{Kept as LineKept, Going, run-keeps}
+use Rattle.machine.proofs.Numbers.{OfText, of-outcome, lines-number}
 use Rattle.machine.proofs.Native.{GoingOk, Ok, text-ok, finish-ok, not-foreign}
 
 module _ {σ κ : Type 0} (K : Kit σ κ) (c : Config) (m : List ℕ) (L : Lawful K (c .kind)) (cOk : configBad c ≡ false) where
@@ -205,23 +208,41 @@ module _ {σ κ : Type 0} (K : Kit σ κ) (c : Config) (m : List ℕ) (L : Lawfu
   gated t s n h ps e q x p false true e1 e2 = refused _ ps _ 16 x (live t s n h ps e q)
   gated t s n h ps e q x p false false e1 e2 = admitted t s n h ps e x (own-map x p e1) (room (length t) x e2)
 
+  -- no more lines are held than have ended
+  few-rows : (t : List ℕ) (s : σ) (n : ℕ) (h : List ℕ) (ps : List Part) → run M (begin M) t ≡ going s n h ps → L .rows s ≤ n
+  few-rows t s n h ps e = subst (Going (λ (x : σ) (i : ℕ). L .rows x ≤ i)) e (run-keeps M (λ (x : σ) (i : ℕ). L .rows x ≤ i) row-step (begin M) t (omega (arith, L .start-rows)))
+    where
+      row-kept : (x : σ) (i : ℕ) (y : Says σ) → L .rows x ≤ i → LineKept (λ z. L .rows z ≤ suc (L .rows x)) y → LineKept (λ z. L .rows z ≤ suc i) y
+      row-kept x i (faulty f) h k = tt
+      row-kept x i (says z ps) h k = omega arith
+
+      row-step : (x : σ) (i : ℕ) (l : List ℕ) → L .rows x ≤ i → LineKept (λ z. L .rows z ≤ suc i) (M .step x i l)
+      row-step x i l h = row-kept x i (M .step x i l) h (L .step-rows x i l)
+
+  live-outcome : outcomeBad false 0 ≡ false
+  unfolding outcomeBad isOutcome
+  live-outcome = refl
+
   live-native : (t : List ℕ) (s : σ) (n : ℕ) (h : List ℕ) (ps : List Part) → run M (begin M) t ≡ going s n h ps → length t ≤ mostTaken
       → foreign K (liveSession (length t) s n h (counted ps)) ≡ false
   live-native t s n h ps e q =
       let g = reached t s n h ps e in
       not-foreign K c (length t) n (K .pack s h) (K .known s) (counted ps) 0 false cOk q (omega (arith, g .bytes))
       (omega (arith, g .few, g .bytes, total-parts c (segmentsOf m) ps))
-      (omega (arith, L .pack-length s h, g .room)) (L .not-strange s h (g .fit) (g .short) (g .open-line))
+      (omega (arith, L .pack-length s h, g .room)) (L .not-strange s h (g .fit) (g .short) (g .open-line)) live-outcome (omega (arith, L .pack-rows s h (g .fit) (g .open-line), few-rows t s n h ps e))
 
   blank-held : K .strange (c .kind) (K .known (M .start)) [] ≡ false
   blank-held =
       subst (λ (x : List ℕ). K .strange (c .kind) (K .known (M .start)) x ≡ false) (L .start-pack)
       (L .not-strange (M .start) [] (L .start-fit) (omega arith) has-none)
 
-  dead-native : (t k : ℕ) (ps : List Part) → captionsIn ps ≤ t → t ≤ mostTaken → foreign K (deadSession t k (counted ps)) ≡ false
-  dead-native t k ps o q =
+  dead-native : (t k : ℕ) (ps : List Part) → OfText k → captionsIn ps ≤ t → t ≤ mostTaken → foreign K (deadSession t k (counted ps)) ≡ false
+  dead-native t k ps f o q =
       not-foreign K c t 0 [] (K .known (M .start)) (counted ps) k true cOk q (omega arith)
-      (omega (arith, total-parts c (segmentsOf m) ps)) (omega arith) blank-held
+      (omega (arith, total-parts c (segmentsOf m) ps)) (omega arith) blank-held (of-outcome k f) (omega arith)
+
+  read-number : (f : Bool) (t : List ℕ) (k : ℕ) (ps : List Part) → read f t ≡ reading k ps → OfText k
+  read-number f t k ps e = subst (λ (r : Reading). OfText (r .fault)) e (lines-number M f (closedLines t) (unfinished t) (M .start) 0)
 
   -- one call
   keeps : (s : Session κ) (ps : List Part) (r : Reader) → Inv s ps r → (x : Call) → ProperCall m x → Kept (answer K s x) ps (readerAnswer read r x)
@@ -235,7 +256,7 @@ module _ {σ κ : Type 0} (K : Kit σ κ) (c : Config) (m : List ℕ) (L : Lawfu
   keeps _ _ _ (dead t f k ps w o q) x p =
       subst (λ (b : Bool). Kept (respond K (gate b true (mapBad (lentOf x .map)) (argumentBad (length t) x)) (deadSession (length t) k (counted ps)) x) ps
       (readerAnswer read (readerAt t f true) x))
-      (sym (dead-native (length t) k ps o q))
+      (sym (dead-native (length t) k ps (read-number f t k ps w) o q))
       (subst (Kept (respond K (refuse 18) (deadSession (length t) k (counted ps)) x) ps) (sym (reader-gated read (readerAt t f true) x))
       (refused _ ps _ 18 x (dead t f k ps w o q)))
 
@@ -301,6 +322,14 @@ module _ {σ κ : Type 0} (K : Kit σ κ) (c : Config) (m : List ℕ) (L : Lawfu
 
   pub led : (xs : List Call) → Proper m xs → Led xs
   led xs p = let w = lists xs p (fresh K c) [] newReader starts in record { parts = w .all; inv = w .inv }
+
+  -- it is not foreign
+  inv-native : (s : Session κ) (ps : List Part) (r : Reader) → Inv s ps r → foreign K s ≡ false
+  inv-native _ _ _ (live t s n h ps e q) = live-native t s n h ps e q
+  inv-native _ _ _ (dead t f k ps w o q) = dead-native (length t) k ps (read-number f t k ps w) o q
+
+  pub led-native : (xs : List Call) → Proper m xs → foreign K (play K (fresh K c) xs .session) ≡ false
+  led-native xs p = let l = led xs p in inv-native (play K (fresh K c) xs .session) (l .parts) (hear read newReader xs .reader) (l .inv)
 
   -- from a fresh session, for every list of calls
   pub same-as-reader : (xs : List Call) → Proper m xs → SameAsReader read c m (play K (fresh K c) xs) (hear read newReader xs)

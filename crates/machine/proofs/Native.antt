@@ -9,7 +9,7 @@ use lib.ListN.{length, drop, length-append, length-drop}
 use borrow.Author.Tests.{leb-true, le-ltb}
 use Rattle.base.specs.Limits.{mostLine, mostTaken}
 use Rattle.base.proofs.Laws.{and-right}
-use Rattle.text.specs.Line.{hasLf}
+use Rattle.text.specs.Line.{hasLf, lineCount}
 use Rattle.pattern.specs.Find.{equals}
 use Rattle.event.specs.declared.setting.Config.{Config}
 use Rattle.event.specs.Says.{Part, captionsIn}
@@ -17,7 +17,8 @@ use Rattle.machine.specs.declared.counting.Counts.{Counts}
 use Rattle.machine.specs.Counts.{total}
 use Rattle.machine.specs.Machine.{Machine, Says, faulty, says, bom, hasBom, takeLine, withBom, lineWith, restFor, Run, going, stopped}
 use Rattle.machine.specs.Machine.{lineEnd, byte, byteStep, run, closed, lastEnd, atEnd, finishRun}
-use Rattle.machine.specs.Session.{Kit, configBad, foreign}
+use Rattle.machine.specs.Cut.{closedLines}
+use Rattle.machine.specs.Session.{Kit, configBad, outcomeBad, foreign}
 use Rattle.machine.proofs.Emits.{parts-append, parts-none, parts-stay}
 use Rattle.machine.proofs.CutLaws.{has-none}
 use Rattle.machine.proofs.OpenLines.{has-lf-append, ends-lf, bom-ends}
@@ -142,9 +143,9 @@ module _ {σ κ : Type 0} (K : Kit σ κ) (kind : ℕ) (L : Lawful K kind) (k : 
 
 -- 17 is not answered
 pub not-foreign : {σ κ : Type 0} (K : Kit σ κ) (c : Config) (t n : ℕ) (held : List ℕ) (known : κ) (x : Counts) (k : ℕ) (e : Bool)
-    → configBad c ≡ false → t ≤ mostTaken → n ≤ t → total x ≤ t → length held ≤ t → K .strange (c .kind) known held ≡ false
+    → configBad c ≡ false → t ≤ mostTaken → n ≤ t → total x ≤ t → length held ≤ t → K .strange (c .kind) known held ≡ false → outcomeBad e k ≡ false → lineCount (closedLines held) ≤ n
     → foreign K (record { config = c; taken = t; lines = n; held = held; known = known; counts = x; outcome = k; ended = e }) ≡ false
-not-foreign K c t n held known x k e ok h1 h2 h3 h4 h5 =
+not-foreign K c t n held known x k e ok h1 h2 h3 h4 h5 h6 h7 =
     rw (
       ok,
       le-ltb mostTaken t h1,
@@ -155,4 +156,6 @@ not-foreign K c t n held known x k e ok h1 h2 h3 h4 h5 =
       le-ltb t n h2,
       le-ltb t (length held) h4,
       h5,
+      h6,
+      le-ltb n (lineCount (closedLines held)) h7,
     )

@@ -7,6 +7,7 @@ use Prim.Native.Nat.{ℕ, suc, _+_, _≤_}
 use native.Mathlib.Omega.{arith}
 use lib.Dec.{leb, eqb}
 use lib.ListN.{length}
+use borrow.Author.Tests.{ne-eqb, le-leb}
 use Rattle.base.specs.Limits.{mostLine}
 use Rattle.time.specs.Kind.{kindBad}
 use Rattle.time.specs.Convert.{timescaleBad}
@@ -15,6 +16,8 @@ use Rattle.event.specs.declared.setting.Config.{Config}
 use Rattle.event.specs.Says.{Part, Fault, longLine, notUtf8, longBlock, badTime, badHeader, faultNumber}
 use Rattle.machine.specs.Machine.{Machine, Says, faulty, says, withBom, takeLine, Rest, nothing, bomAlone, lastLine, restOf, Run, going, stopped}
 use Rattle.machine.specs.Machine.{lineEnd, byte, byteStep, run, closed, lastEnd, atEnd, finishRun}
+use Rattle.machine.specs.Reader.{Reading, readLine, readClose, readLast, readRest, readLines}
+use Rattle.machine.specs.Session.{isOutcome, outcomeBad}
 use Rattle.machine.specs.Session.{Session, Kit, Call, feed, finish, lentOf, argumentBad, gate, configBad, foreign, fresh, openBy, openSession, settle, resume, accepted, respond, answer}
 
 -- done, or a fault of the text
@@ -149,3 +152,36 @@ module _ {σ κ : Type 0} (K : Kit σ κ) where
 
 pub opened-config : (c : Config) (m : List ℕ) → Opened c m → configBad c ≡ false
 opened-config c m o = rw (o .kind-known, o .timescale-good)
+
+-- ---- a text read from the start: 0, 19 to 22, or 24
+module _ {σ : Type 0} (M : Machine σ) where
+  said-line : (short : Bool) (x : Says σ) (after : σ → Reading) → ((t : σ) → OfText (after t .fault)) → OfText (readLine M short x after .fault)
+  said-line false x after h = inr (inl (omega arith, omega arith))
+  said-line true (faulty f) after h = fault-of-text f
+  said-line true (says t ps) after h = h t
+
+  said-close : (x : Says σ) → OfText (readClose M x .fault)
+  said-close (faulty f) = fault-of-text f
+  said-close (says t ps) = inl refl
+
+  said-last : (x : Rest) (s : σ) (n : ℕ) (r : List ℕ) → OfText (readLast M x s n r .fault)
+  said-last nothing s n r = said-close (M .close s n)
+  said-last bomAlone s n r = said-close (withBom (M .close s n))
+  said-last lastLine s n r =
+      said-line true (takeLine M s n r) (λ t. readClose M (M .close t (suc n))) (λ t. said-close (M .close t (suc n)))
+
+  said-rest : (short finished : Bool) (s : σ) (n : ℕ) (r : List ℕ) → OfText (readRest M short finished s n r .fault)
+  said-rest false finished s n r = inr (inl (omega arith, omega arith))
+  said-rest true false s n r = inl refl
+  said-rest true true s n r = said-last (restOf n r) s n r
+
+  pub lines-number : (finished : Bool) (ls : List (List ℕ)) (r : List ℕ) (s : σ) (n : ℕ) → OfText (readLines M finished ls r s n .fault)
+  lines-number finished [] r s n = said-rest (leb (length r) mostLine) finished s n r
+  lines-number finished (l ∷ ls) r s n =
+      said-line (leb (length l) mostLine) (takeLine M s n l) (λ t. readLines M finished ls r t (suc n)) (λ t. lines-number finished ls r t (suc n))
+
+pub of-outcome : (k : ℕ) → OfText k → outcomeBad true k ≡ false
+unfolding outcomeBad isOutcome
+of-outcome k (inl e) = rw e
+of-outcome k (inr (inl h)) = rw (ne-eqb k 0 (λ z. omega (arith, h .0)), le-leb 19 k (h .0), le-leb k 22 (h .1))
+of-outcome k (inr (inr e)) = rw e

@@ -1,10 +1,11 @@
 -- The session: open, feed and finish as functions of values.
-use mathlib.Core.Bool.{Bool, true, false, _||_}
+use mathlib.Core.Bool.{Bool, true, false, _||_, _&&_, not}
 use mathlib.Core.List.{List, []}
 use Prim.Native.Nat.{ℕ, _+_}
-use lib.Dec.{ltb}
+use lib.Dec.{ltb, leb, eqb}
 use lib.ListN.{length}
 use Rattle.base.specs.Limits.{mostPiece, leastOutput, leastPlaces, mostTaken}
+use Rattle.text.specs.Line.{lineCount}
 use Rattle.time.specs.Kind.{kindBad}
 use Rattle.time.specs.Convert.{timescaleBad}
 use Rattle.segment.specs.Segment.{segmentsOf, mapBad}
@@ -13,6 +14,7 @@ use Rattle.event.specs.Says.{Part}
 use Rattle.event.specs.Emit.{Emit, emitsOf}
 use Rattle.machine.specs.declared.counting.Counts.{Counts}
 use Rattle.machine.specs.Counts.{noCounts, countAll}
+use Rattle.machine.specs.Cut.{closedLines}
 use Rattle.machine.specs.Machine.{Machine, Run, going, stopped, run, finishRun}
 
 abbrev pub configBad : Config → Bool
@@ -83,6 +85,14 @@ pub record Answer (κ : Type 0) : Type 0 where
 abbrev pub countsAbove : ℕ → Counts → Bool
 countsAbove t c = ltb t (c .shifted) || (ltb t (c .clipped) || (ltb t (c .dropped) || ltb t (c .passed)))
 
+-- what a text can end with: 0, 19 to 22 or 24
+unfoldable pub isOutcome : ℕ → Bool
+isOutcome k = eqb k 0 || ((leb 19 k && leb k 22) || eqb k 24)
+
+-- no such outcome, or one before the end
+unfoldable pub outcomeBad : (ended : Bool) → (outcome : ℕ) → Bool
+outcomeBad e k = not (isOutcome k) || (not e && not (eqb k 0))
+
 -- parts through a map of flat numbers
 abbrev pub emitted : Config → (map : List ℕ) → List Part → List Emit
 emitted c m ps = emitsOf c (segmentsOf m) ps
@@ -92,7 +102,8 @@ module _ {σ κ : Type 0} (K : Kit σ κ) where
   abbrev pub foreign : Session κ → Bool
   foreign s =
       configBad (s .config) || (ltb mostTaken (s .taken) || (countsAbove (s .taken) (s .counts) || (ltb (s .taken) (s .lines)
-      || (ltb (s .taken) (length (s .held)) || K .strange (s .config .kind) (s .known) (s .held)))))
+      || (ltb (s .taken) (length (s .held)) || (K .strange (s .config .kind) (s .known) (s .held)
+      || (outcomeBad (s .ended) (s .outcome) || ltb (s .lines) (lineCount (closedLines (s .held)))))))))
 
   -- nothing known and nothing taken
   abbrev pub blankOf : Config → (outcome : ℕ) → (ended : Bool) → (taken : ℕ) → Counts → Session κ

@@ -3,20 +3,17 @@ use mathlib.Core.Path.{_≡_, refl, sym, ap, subst, _∙_}
 use mathlib.Core.Logic.{inl, inr}
 use mathlib.Core.Bool.{Bool, true, false}
 use mathlib.Core.List.{List, [], _∷_, _++_}
-use Prim.Native.Nat.{ℕ, suc}
+use Prim.Native.Nat.{ℕ}
 use native.Mathlib.Omega.{arith}
-use lib.Dec.{leb}
 use lib.ListN.{length}
-use Rattle.base.specs.Limits.{mostLine}
 use Rattle.time.specs.Kind.{kindBad}
 use Rattle.segment.specs.Segment.{mapBad}
 use Rattle.machine.specs.Cut.{closedLines, unfinished}
-use Rattle.machine.specs.Machine.{Machine, Says, faulty, says, withBom, takeLine, Rest, nothing, bomAlone, lastLine, restOf}
-use Rattle.machine.specs.Reader.{Reading, readLine, readClose, readLast, readRest, readLines}
+use Rattle.machine.specs.Reader.{Reading}
 use Rattle.machine.specs.Session.{Call, feed, finish, lentOf, argumentBad, gate}
 use Rattle.machine.specs.Calls.{Proper, Reader, ReaderAnswer, newReader, readerAccepts, readerAnswer, hear}
 use Rattle.machine.proofs.ReaderGate.{readerResponds, reader-gated}
-use Rattle.machine.proofs.Numbers.{OfText, fault-of-text, opened}
+use Rattle.machine.proofs.Numbers.{OfText, lines-number, opened}
 use Rattle.kinds.specs.Takes.{machineOf, blankState}
 use Rattle.kinds.specs.Kit.{kit}
 use Rattle.session.specs.declared.calling.Opened.{Opened}
@@ -31,33 +28,6 @@ use Rattle.promise.proofs.ThePromise.{promise-opened}
 abbrev pub Not17 : List ℕ → Type 0
 Not17 [] = Unit {0}
 Not17 (k ∷ ks) = (k ≡ 17 → ⊥) × Not17 ks
-
--- ---- a text read from the start: 0, 19 to 22, or 24
-module _ {σ : Type 0} (M : Machine σ) where
-  line-number : (short : Bool) (x : Says σ) (after : σ → Reading) → ((t : σ) → OfText (after t .fault)) → OfText (readLine M short x after .fault)
-  line-number false x after h = inr (inl (omega arith, omega arith))
-  line-number true (faulty f) after h = fault-of-text f
-  line-number true (says t ps) after h = h t
-
-  close-number : (x : Says σ) → OfText (readClose M x .fault)
-  close-number (faulty f) = fault-of-text f
-  close-number (says t ps) = inl refl
-
-  last-number : (x : Rest) (s : σ) (n : ℕ) (r : List ℕ) → OfText (readLast M x s n r .fault)
-  last-number nothing s n r = close-number (M .close s n)
-  last-number bomAlone s n r = close-number (withBom (M .close s n))
-  last-number lastLine s n r =
-      line-number true (takeLine M s n r) (λ t. readClose M (M .close t (suc n))) (λ t. close-number (M .close t (suc n)))
-
-  rest-number : (short finished : Bool) (s : σ) (n : ℕ) (r : List ℕ) → OfText (readRest M short finished s n r .fault)
-  rest-number false finished s n r = inr (inl (omega arith, omega arith))
-  rest-number true false s n r = inl refl
-  rest-number true true s n r = last-number (restOf n r) s n r
-
-  lines-number : (finished : Bool) (ls : List (List ℕ)) (r : List ℕ) (s : σ) (n : ℕ) → OfText (readLines M finished ls r s n .fault)
-  lines-number finished [] r s n = rest-number (leb (length r) mostLine) finished s n r
-  lines-number finished (l ∷ ls) r s n =
-      line-number (leb (length l) mostLine) (takeLine M s n l) (λ t. readLines M finished ls r t (suc n)) (λ t. lines-number finished ls r t (suc n))
 
 plain-number : (kind : ℕ) → kindBad kind ≡ false → (f : Bool) (t : List ℕ) → OfText (plainRead kind f t .fault)
 plain-number kind k f t =

@@ -47,7 +47,7 @@ stopped-small : (v : model.Session Columns) (t : ℕ) (map : List ℕ) (y : Run 
 stopped-small v t map (going st n h ps) e = absurd e
 stopped-small v t map (stopped k ps) e = omega arith
 
-next-small : (s : Session) (x : Call) → sessionGate s x ≡ admit → length (respond kit admit (view s) x .session .held) ≤ mostHeld
+pub next-small : (s : Session) (x : Call) → sessionGate s x ≡ admit → length (respond kit admit (view s) x .session .held) ≤ mostHeld
 next-small s (feed l piece) e =
     let g = gate-admits s (feed l piece) e in
     settled-small (view s) (native-view s (g .0)) (l .map) piece (g .1) (s .taken + length piece)
@@ -74,7 +74,7 @@ module _ (s : Session) (w : Whole s) where
   gate-view (feed l (b ∷ p)) admit e = view-stored (respond kit admit (view s) (feed l (b ∷ p)) .session) (next-small s (feed l (b ∷ p)) e)
   gate-view (finish l) admit e = view-stored (respond kit admit (view s) (finish l) .session) (next-small s (finish l) e)
 
-  next-is : (x : Call) → nextOf s x ≡ nextBy (sessionGate s x) s x (respond kit (sessionGate s x) (view s) x .session)
+  pub next-is : (x : Call) → nextOf s x ≡ nextBy (sessionGate s x) s x (respond kit (sessionGate s x) (view s) x .session)
   unfolding nextOf
   next-is x = ap (λ (a : model.Answer Columns). nextBy (sessionGate s x) s x (a .session)) (answer-by s x)
 

@@ -46,20 +46,20 @@ module _ (kind T : ℕ) (m : List ℕ) (o : Opened) (a : OpenAnswered kind T m o
   unfolding openOf
   open-is = refl
 
-  session-is : o .session ≡ stored (openSession kit (configOf kind T) m .session)
+  pub session-is : o .session ≡ stored (openSession kit (configOf kind T) m .session)
   session-is = a .session ∙ ap (λ (x : model.Answer Columns). stored (x .session)) open-is
 
-  open-view : view (o .session) ≡ openSession kit (configOf kind T) m .session
+  pub open-view : view (o .session) ≡ openSession kit (configOf kind T) m .session
   open-view = ap view session-is ∙ view-stored (openSession kit (configOf kind T) m .session) (held-small kind T m)
 
   stored-size : Whole (stored (openSession kit (configOf kind T) m .session))
   unfolding stored
   stored-size = padded-length (openSession kit (configOf kind T) m .session .held) (held-small kind T m)
 
-  open-whole : Whole (o .session)
+  pub open-whole : Whole (o .session)
   open-whole = subst Whole (sym session-is) stored-size
 
-  open-number : o .number ≡ openSession kit (configOf kind T) m .number
+  pub open-number : o .number ≡ openSession kit (configOf kind T) m .number
   open-number = a .number ∙ ap (λ (x : model.Answer Columns). x .number) open-is
 
 -- DEMAND 3 through every map that open accepts

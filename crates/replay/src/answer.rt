@@ -1,7 +1,7 @@
 // The answer to a case, by its op.
 use crate::mapping::asks;
 use crate::mapping::print_made;
-use crate::mapping::through_given;
+use crate::mapping::texts;
 use crate::mapping::through_made;
 use libc::STDOUT_FILENO;
 
@@ -119,8 +119,15 @@ pub fn answer(head: &[u8], x: &[u8], y: &[u8], z: &[u8], all: &mut [u8], notes: 
         return;
     }
     if op == 5 {
-        through_given(first, second, plan, x, z, all, notes);
+        texts(head, x, y, z, all, notes);
         return;
     }
-    answer_plain(op, head, x, y, z);
+    if op < 13 {
+        answer_plain(op, head, x, y, z);
+        return;
+    }
+    if texts(head, x, y, z, all, notes) {
+        return;
+    }
+    mapfile::print_number(b"unknown op ", op);
 }

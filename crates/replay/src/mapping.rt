@@ -1,5 +1,4 @@
 // The map of a case that has a text.
-use crate::retiming::print_retimed;
 ghost use mathlib.Core.Path.{_≡_};
 ghost use Prim.Native.Nat.{_≤_};
 ghost use lib.ListN.{take};
@@ -37,32 +36,18 @@ fn fill(x: &[u8], n: usize, map: &mut [u64]) {
     }
 }
 
-// A text through the map that x has, six numbers to a segment.
-pub fn through_given(
-    timescale: u32,
-    kind: u32,
-    plan: u32,
-    x: &[u8],
-    text: &[u8],
-    all: &mut [u8],
-    notes: &mut [u8],
-) {
+// Whether the op is about a text or a session; its answer is printed. The map is the one that x has, six numbers to a segment.
+pub fn texts(head: &[u8], x: &[u8], y: &[u8], z: &[u8], all: &mut [u8], notes: &mut [u8]) -> bool {
     let mut map = [0u64; 8750];
     let n = x.len() / 8;
-    if map.len() < n {
-        mapfile::print_number(b"refused ", 15);
-        return;
-    }
     fill(x, n, &mut map);
-    print_retimed(
-        kind,
-        timescale,
-        front_words(&map, n),
-        text,
-        plan,
-        all,
-        notes,
-    );
+    let op = blocks::word(head, 0);
+    let a = blocks::word(head, 1);
+    let b = blocks::word(head, 2);
+    let c = blocks::word(head, 3);
+    let d = blocks::word(head, 4);
+    let given = front_words(&map, n);
+    retimings::answer(op, a, b, c, d, given, x, y, z, all, notes)
 }
 
 // How many work bytes a case lends: 0 is as many as are always enough, and more do not matter.
@@ -132,12 +117,16 @@ pub fn through_made(
         mapfile::print_number(b"refused ", made.number);
         return;
     }
-    print_retimed(
-        kind,
+    retimings::answer(
+        5,
         made.timescale,
-        mapfile::first_segments(&map, made.count),
-        text,
+        kind,
+        0,
         plan,
+        mapfile::first_segments(&map, made.count),
+        b"",
+        b"",
+        text,
         all,
         notes,
     );

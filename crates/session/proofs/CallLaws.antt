@@ -12,7 +12,7 @@ use Rattle.base.specs.Limits.{mostPiece, leastOutput, leastPlaces, mostTaken, m
 use Rattle.base.specs.Put.{put}
 use Rattle.base.proofs.Laws.{or-left, or-right}
 use Rattle.base.proofs.PutLaws.{put-nil}
-use Rattle.text.specs.Line.{concat}
+use Rattle.text.specs.Line.{concat, lineCount}
 use Rattle.time.specs.Kind.{kindBad}
 use Rattle.time.specs.Convert.{timescaleBad}
 use Rattle.segment.specs.Segment.{mapBad}
@@ -56,8 +56,9 @@ gate-passed false false false false q = (refl, refl, refl, refl)
 -- ---- what 17 leaves
 not-strange : (v : model.Session Columns) → foreign kit v ≡ false → strange (v .config .kind) (v .known) (v .held) ≡ false
 not-strange v e =
-    or-right (ltb (v .taken) (length (v .held))) _
-    (or-right (ltb (v .taken) (v .lines)) _ (or-right (countsAbove (v .taken) (v .counts)) _ (or-right (ltb mostTaken (v .taken)) _ (or-right (configBad (v .config)) _ e))))
+    or-left (strange (v .config .kind) (v .known) (v .held)) _
+    (or-right (ltb (v .taken) (length (v .held))) _
+    (or-right (ltb (v .taken) (v .lines)) _ (or-right (countsAbove (v .taken) (v .counts)) _ (or-right (ltb mostTaken (v .taken)) _ (or-right (configBad (v .config)) _ e)))))
 
 sane : (s : Session) → foreignOf s ≡ false → strange (s .config .kind) (s .columns) (heldOf (s .«held_len») (s .held)) ≡ false
 sane s e = not-strange (view s) (sym (foreign-view s) ∙ e)
@@ -115,6 +116,7 @@ passed-opening s map piece out places r l p e =
       start = refl;
       size = l;
       count = h;
+      rows = subst (λ (x : List ℕ). lineCount (closedLines x) ≤ s .lines) (held-plain (s .«held_len») (s .held) (omega arith)) (p .native .rows-few);
       sane = subst (λ (x : List ℕ). strange (s .config .kind) (s .columns) x ≡ false) (held-plain (s .«held_len») (s .held) (omega arith)) (sane s (p .not-foreign));
       out-long = p .out-fits;
       places-long = p .places-fit;

@@ -23,7 +23,7 @@ use Rattle.machine.specs.declared.counting.Counts.{Counts}
 use Rattle.machine.specs.Counts.{noCounts, count, countAll, one, captions}
 use Rattle.machine.specs.Cut.{closedLines, unfinished}
 use Rattle.machine.specs.Machine.{Machine, Says, faulty, says, Run, going, stopped, lineEnd, takeLine, byte, byteStep, run}
-use Rattle.machine.specs.Session.{Session, emitted}
+use Rattle.machine.specs.Session.{isOutcome, outcomeBad, Session, emitted}
 use Rattle.machine.proofs.Emits.{parts-append, parts-none, captions-emitted, count-none, emits-none, output-none}
 use Rattle.machine.proofs.CutLaws.{cut-joined, cut-length}
 use Rattle.machine.proofs.Resume.{ByFault, run-take, run-fault}
@@ -158,11 +158,15 @@ module _ (c : Config) (m : List ℕ) (r : Going) (held : List ℕ) (out places :
   pub begin-sizes : r .start + length (unfinished bytes) ≡ r .held
   begin-sizes = ap (λ (j : ℕ). j + length (unfinished bytes)) (p .start) ∙ cut-length bytes ∙ bytes-length
 
+  live-outcome : outcomeBad false 0 ≡ false
+  unfolding outcomeBad isOutcome
+  live-outcome = refl
+
   pub begin-native : Native begun
   begin-native =
       is-native begun
       (sound.not-foreign kit c mostTaken (r .lines) bytes (r .columns) noCounts 0 false (rw (d .kind-known, d .timescale-good)) (omega arith) (p .lines)
-      (omega arith) (omega (arith, bytes-length, p .count)) (p .sane))
+      (omega arith) (omega (arith, bytes-length, p .count)) (p .sane) live-outcome (p .rows))
 
   abbrev pub L : Lawful kit (c .kind)
   L = lawful (c .kind) (begin-native .kind-known)

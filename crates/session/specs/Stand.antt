@@ -7,7 +7,7 @@ use lib.Dec.{eqb}
 use lib.ListN.{length, take}
 use Rattle.base.specs.Limits.{mostTaken, mostHeld, mostLine, mostBlock, leastOutput, leastPlaces}
 use Rattle.pattern.specs.Find.{equals}
-use Rattle.text.specs.Line.{concat}
+use Rattle.text.specs.Line.{concat, lineCount}
 use Rattle.event.specs.declared.setting.Config.{Config}
 use Rattle.event.specs.Says.{Part}
 use Rattle.machine.specs.declared.counting.Counts.{Counts}
@@ -96,6 +96,7 @@ pub record Opening (c : Config) (r : Going) (held : List ℕ) (out places : ℕ)
   pub size : length held ≡ mostHeld
   pub count : r .held ≤ mostHeld
   pub sane : strange (c .kind) (r .columns) (take (r .held) held) ≡ false
+  pub rows : lineCount (closedLines (take (r .held) held)) ≤ r .lines
   pub out-long : leastOutput ≤ out
   pub places-long : leastPlaces ≤ places
   pub lines : r .lines ≤ mostTaken

@@ -1,4 +1,4 @@
-use Rattle.foreign.proofs.ForeignLaws.{kept-many, kept-columns, kept-large, kept-held}
+use Rattle.foreign.proofs.ForeignLaws.{kept-many, kept-columns, kept-large, kept-held, kept-ass, kept-marks}
 use borrow.Author.Needs.{needs}
 use Rattle.foreign.proofs.whole.kept_bad.Statement.{statement}
 use Rattle.foreign.proofs.whole.kept_bad.Tie as tie
@@ -24,6 +24,18 @@ held-bad-requires c κs = search needs
 returns-4 : tie.Need-returns-4
 returns-4 c = search kept-held
 
+outcome-bad-requires : tie.Need-outcome-bad-requires
+outcome-bad-requires c κs = search needs
+
+returns-5 : tie.Need-returns-5
+returns-5 c = search kept-ass
+
+marks-bad-requires : tie.Need-marks-bad-requires
+marks-bad-requires c κs = search needs
+
+returns-6 : tie.Need-returns-6
+returns-6 c = search kept-marks
+
 pub kept-bad-spec : {M : Type 1} → statement M
 kept-bad-spec =
     tie.close
@@ -34,4 +46,8 @@ kept-bad-spec =
     returns-3
     front-requires
     held-bad-requires
-    returns-4)
+    returns-4
+    outcome-bad-requires
+    returns-5
+    marks-bad-requires
+    returns-6)

@@ -9,7 +9,6 @@ use Rattle.replay.proofs.mapping.through_made.Lts as lts
 use Rattle.mapfile.proofs.print_number.Reads as print-number-reads
 use Rattle.mapfile.proofs.first_segments.Reads as first-segments-reads
 use Rattle.replay.proofs.mapping.work_lent.Reads as work-lent-reads
-use Rattle.replay.proofs.retiming.print_retimed.Reads as print-retimed-reads
 use Rattle.segmap.proofs.make.Reads as make-reads
 
 work-lent-requires : tie.Need-work-lent-requires
@@ -42,8 +41,14 @@ slice-aggregate-first-segments c = search needs
 first-segments-requires : tie.Need-first-segments-requires
 first-segments-requires c κs = search needs
 
-print-retimed-requires : tie.Need-print-retimed-requires
-print-retimed-requires c κs = search needs
+slice-aggregate-answer : tie.Need-slice-aggregate-answer
+slice-aggregate-answer c = search needs
+
+slice-aggregate-answer-2 : tie.Need-slice-aggregate-answer-2
+slice-aggregate-answer-2 c = search needs
+
+answer-requires : tie.Need-answer-requires
+answer-requires c κs = search needs
 
 same-length : tie.Need-same-length
 same-length c = search needs
@@ -68,7 +73,9 @@ through-made-spec =
     returns
     slice-aggregate-first-segments
     first-segments-requires
-    print-retimed-requires
+    slice-aggregate-answer
+    slice-aggregate-answer-2
+    answer-requires
     same-length
     same-length-2
     returns-2)

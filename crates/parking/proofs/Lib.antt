@@ -1,0 +1,5 @@
+pub mod Again
+pub mod Kept
+pub mod StoreLaws
+pub mod ReadLaws
+pub mod TakeLaws

@@ -1,0 +1,8 @@
+// A session parked, and taken up again. No exported function has a `requires`.
+mod reading;
+mod storing;
+mod taking;
+
+pub use storing::park;
+pub use taking::TakenUp;
+pub use taking::take_up;

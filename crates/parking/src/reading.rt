@@ -1,0 +1,163 @@
+// What 18 blocks say.
+use columns::Columns;
+use event::Config;
+use foreign::Session;
+use machine::Counts;
+ghost use mathlib.Core.Path.{_≡_};
+ghost use mathlib.Core.Bool.{true, _&&_};
+ghost use Prim.Native.Nat.{_≤_};
+ghost use lib.Dec.{eqb};
+ghost use lib.ListN.{length, take, drop};
+ghost use Rattle.base.specs.Limits.{mostHeld};
+ghost use Rattle.blocks.specs.Block.{wordAt};
+ghost use Rattle.machine.specs.Session.{isOutcome};
+ghost use Rattle.sealing.specs.Sealed.{isRow, roomOf, allZero};
+ghost use Rattle.parking.specs.Parked.{isMark, isFlag, unusedZero, isParked, sessionIn};
+
+fn is_mark(k: u32) -> bool
+    ensures { λ r. ⌜ r ≡ isMark k ⌝ }
+{
+    if k == 1 {
+        return true;
+    }
+    k == 2
+}
+
+fn is_flag(k: u32) -> bool
+    ensures { λ r. ⌜ r ≡ isFlag k ⌝ }
+{
+    if k == 0 {
+        return true;
+    }
+    k == 1
+}
+
+// Whether mark, ended, outcome and Events are ones that can be.
+fn words_good(s: &[u8]) -> bool
+    ensures { λ r. ⌜ r ≡ (isMark (wordAt (now (s .entry)) 1) && (isFlag (wordAt (now (s .entry)) 4) && (isOutcome (wordAt (now (s .entry)) 5) && isFlag (wordAt (now (s .entry)) 12)))) ⌝ }
+{
+    if is_mark(blocks::word(s, 1)) {
+        if is_flag(blocks::word(s, 4)) {
+            if foreign::is_outcome(blocks::word(s, 5)) {
+                return is_flag(blocks::word(s, 12));
+            }
+        }
+    }
+    false
+}
+
+// Whether the words that are unused once ended are zero, and the room.
+fn ended_zero(s: &[u8], room: &[u8]) -> bool
+    ensures { λ r. ⌜ r ≡ (eqb (wordAt (now (s .entry)) 7) 0 && (allZero (take 20 (drop 48 (now (s .entry)))) && allZero (now (room .entry)))) ⌝ }
+{
+    let lines = blocks::word(s, 7);
+    if lines != 0 {
+        return false;
+    }
+    if sealing::all_zero(base::front(base::rest(s, 48), 20)) {
+        return sealing::all_zero(room);
+    }
+    false
+}
+
+// Whether no unused byte is other than zero.
+fn unused_zero(s: &[u8], room: &[u8]) -> bool
+    requires { ⌜ now room ≡ roomOf (now s) ⌝ }
+    ensures { λ r. ⌜ r ≡ unusedZero (now (s .entry)) ⌝ }
+{
+    if sealing::all_zero(base::front(base::rest(s, 68), 440)) {
+        let ended = blocks::word(s, 4);
+        if ended == 0 {
+            let n = blocks::word(s, 16) as usize;
+            return sealing::all_zero(base::rest(room, n));
+        }
+        return ended_zero(s, room);
+    }
+    false
+}
+
+// Whether 18 blocks that hold are a parked session.
+pub fn is_parked(s: &[u8], room: &[u8]) -> bool
+    requires { ⌜ (isRow (now s) ≡ true) × (now room ≡ roomOf (now s)) ⌝ }
+    ensures { λ r. ⌜ r ≡ isParked (now (s .entry)) ⌝ }
+{
+    if words_good(s) {
+        return unused_zero(s, room);
+    }
+    false
+}
+
+fn config_in(s: &[u8]) -> Config
+    ensures { λ r. ⌜ r ≡ sessionIn (now (s .entry)) .config ⌝ }
+{
+    let kind = blocks::word(s, 2);
+    let timescale = blocks::word(s, 3);
+    Config { kind, timescale }
+}
+
+fn counts_in(s: &[u8]) -> Counts
+    ensures { λ r. ⌜ r ≡ sessionIn (now (s .entry)) .counts ⌝ }
+{
+    let shifted = blocks::word(s, 8);
+    let clipped = blocks::word(s, 9);
+    let dropped = blocks::word(s, 10);
+    let passed = blocks::word(s, 11);
+    Counts {
+        shifted,
+        clipped,
+        dropped,
+        passed,
+    }
+}
+
+fn columns_in(s: &[u8]) -> Columns
+    ensures { λ r. ⌜ r ≡ sessionIn (now (s .entry)) .columns ⌝ }
+{
+    let events = blocks::word(s, 12);
+    let columns = blocks::word(s, 13) as usize;
+    let start = blocks::word(s, 14) as usize;
+    let end = blocks::word(s, 15) as usize;
+    Columns {
+        events: events == 1,
+        columns,
+        start,
+        end,
+    }
+}
+
+// The first 8,192 bytes of the room.
+fn held_in(room: &[u8]) -> [u8; 8192]
+    requires { ⌜ mostHeld ≤ length (now room) ⌝ }
+    ensures { λ r. ⌜ r ≡ take mostHeld (now (room .entry)) ⌝ }
+{
+    let mut held = [0u8; 8192];
+    let n = base::bytes(&mut held, base::front(room, 8192));
+    held
+}
+
+// The session that the blocks name.
+pub fn session_in(s: &[u8], room: &[u8]) -> Session
+    requires { ⌜ (now room ≡ roomOf (now s)) × (mostHeld ≤ length (now room)) ⌝ }
+    ensures { λ r. ⌜ r ≡ sessionIn (now (s .entry)) ⌝ }
+{
+    let config = config_in(s);
+    let counts = counts_in(s);
+    let columns = columns_in(s);
+    let held = held_in(room);
+    let ended = blocks::word(s, 4);
+    let outcome = blocks::word(s, 5);
+    let taken = blocks::word(s, 6);
+    let lines = blocks::word(s, 7);
+    let held_len = blocks::word(s, 16) as usize;
+    Session {
+        config,
+        ended: ended == 1,
+        outcome,
+        taken,
+        lines,
+        counts,
+        columns,
+        held_len,
+        held,
+    }
+}

@@ -1,0 +1,156 @@
+// A session stored.
+use foreign::Session;
+ghost use mathlib.Core.Path.{_≡_};
+ghost use mathlib.Core.Bool.{true, false, cond};
+ghost use Prim.Native.Nat.{_%_, _^_, _≤_};
+ghost use lib.ListN.{length};
+ghost use Rattle.base.specs.Put.{put};
+ghost use Rattle.foreign.specs.View.{foreignOf};
+ghost use Rattle.parking.specs.Parked.{flag, headWords, parkedOf};
+ghost use Rattle.sealing.specs.Sealed.{sealedLength, wordsBytes};
+ghost use Rattle.parking.specs.Answer.{parkNumber, Parks};
+
+// The mark of a house that warns of lost parts by request 2.7's rule.
+const MARK: u32 = 2;
+
+// 1 for true, else 0.
+fn flag_word(t: bool) -> u32
+    ensures { λ r. ⌜ r ≡ flag t ⌝ }
+{
+    if t {
+        return 1;
+    }
+    0
+}
+
+// The low 32 bits.
+fn low_word(n: usize) -> u32
+    ensures { λ r. ⌜ r ≡ n % 2 ^ 32 ⌝ }
+{
+    (n % 4294967296) as u32
+}
+
+// Words 1 to 16 of a session that is going on.
+fn live_words(session: Session) -> [u32; 16]
+    requires { ⌜ (foreignOf session ≡ false) × (session .ended ≡ false) ⌝ }
+    ensures { λ r. ⌜ r ≡ headWords 2 session ⌝ }
+{
+    let config = session.config;
+    let counts = session.counts;
+    let columns = session.columns;
+    let events = flag_word(columns.events);
+    let width = low_word(columns.columns);
+    let start = low_word(columns.start);
+    let end = low_word(columns.end);
+    let held = low_word(session.held_len);
+    [
+        MARK,
+        config.kind,
+        config.timescale,
+        0,
+        session.outcome,
+        session.taken,
+        session.lines,
+        counts.shifted,
+        counts.clipped,
+        counts.dropped,
+        counts.passed,
+        events,
+        width,
+        start,
+        end,
+        held,
+    ]
+}
+
+// The same of an ended one: words 7 and 12 to 16 are unused.
+fn ended_words(session: Session) -> [u32; 16]
+    requires { ⌜ session .ended ≡ true ⌝ }
+    ensures { λ r. ⌜ r ≡ headWords 2 session ⌝ }
+{
+    let config = session.config;
+    let counts = session.counts;
+    [
+        MARK,
+        config.kind,
+        config.timescale,
+        1,
+        session.outcome,
+        session.taken,
+        0,
+        counts.shifted,
+        counts.clipped,
+        counts.dropped,
+        counts.passed,
+        0,
+        0,
+        0,
+        0,
+        0,
+    ]
+}
+
+// Words 1 to 16.
+fn head_words(session: Session) -> [u32; 16]
+    requires { ⌜ foreignOf session ≡ false ⌝ }
+    ensures { λ r. ⌜ r ≡ headWords 2 session ⌝ }
+{
+    if session.ended {
+        return ended_words(session);
+    }
+    live_words(session)
+}
+
+// 17, then 16, else 0.
+fn park_refusal(session: Session, lent: usize) -> u32
+    ensures { λ r. ⌜ r ≡ parkNumber session lent ⌝ }
+{
+    if foreign::foreign(session) {
+        return 17;
+    }
+    if lent < 9216 {
+        return 16;
+    }
+    0
+}
+
+// How many bytes are stored.
+fn kept_length(session: Session) -> usize
+    ensures { λ r. ⌜ r ≡ cond (session .ended) 0 (session .«held_len») ⌝ }
+{
+    if session.ended {
+        return 0;
+    }
+    session.held_len
+}
+
+// The bytes of words 1 to 16.
+fn head_bytes(session: Session) -> [u8; 64]
+    requires { ⌜ foreignOf session ≡ false ⌝ }
+    ensures { λ r. ⌜ r ≡ wordsBytes (headWords 2 session) ⌝ }
+{
+    sealing::words_bytes(head_words(session))
+}
+
+// The 18 blocks, at the start.
+fn store(session: Session, out: &mut [u8])
+    requires { ⌜ (foreignOf session ≡ false) × (sealedLength ≤ length (now out)) ⌝ }
+    ensures { λ _. ⌜ now (out .exit) ≡ put (parkedOf 2 session) (now (out .entry)) ⌝ }
+{
+    let head = head_bytes(session);
+    let n = kept_length(session);
+    let held = session.held;
+    sealing::seal(out, &head, base::front(&held, n));
+}
+
+// Stores the session as 18 blocks at the start of `out`, with mark 2.
+pub fn park(session: Session, out: &mut [u8]) -> u32
+    ensures { λ r. ⌜ Parks session r (now (out .entry)) (now (out .exit)) ⌝ }
+{
+    let refused = park_refusal(session, out.len());
+    if refused != 0 {
+        return refused;
+    }
+    store(session, out);
+    0
+}

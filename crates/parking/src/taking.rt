@@ -1,0 +1,88 @@
+// A session taken up.
+use crate::reading::is_parked;
+use crate::reading::session_in;
+use columns::Columns;
+use event::Config;
+use foreign::Session;
+use machine::Counts;
+ghost use mathlib.Core.Path.{_≡_};
+ghost use mathlib.Core.Bool.{true};
+ghost use Prim.Native.Nat.{_≤_};
+ghost use lib.ListN.{length};
+ghost use Rattle.base.specs.Limits.{mostHeld};
+ghost use Rattle.machine.specs.Session.{noSession};
+ghost use Rattle.kinds.specs.Kit.{kit};
+ghost use Rattle.foreign.specs.View.{stored};
+ghost use Rattle.sealing.specs.Sealed.{isRow, roomOf};
+ghost use Rattle.parking.specs.Answer.{TakesUp};
+
+pub struct TakenUp {
+    pub number: u32,
+    pub session: Session,
+}
+
+// What a refused open returns.
+fn no_session() -> Session
+    ensures { λ r. ⌜ r ≡ stored (noSession kit) ⌝ }
+{
+    let config = Config {
+        kind: 0,
+        timescale: 1,
+    };
+    let counts = Counts {
+        shifted: 0,
+        clipped: 0,
+        dropped: 0,
+        passed: 0,
+    };
+    let columns = Columns {
+        events: false,
+        columns: 0,
+        start: 0,
+        end: 0,
+    };
+    Session {
+        config,
+        ended: true,
+        outcome: 0,
+        taken: 0,
+        lines: 0,
+        counts,
+        columns,
+        held_len: 0,
+        held: [0; 8192],
+    }
+}
+
+fn refused(number: u32) -> TakenUp
+    ensures { λ r. ⌜ r ≡ record { number = number; session = stored (noSession kit) } ⌝ }
+{
+    let session = no_session();
+    TakenUp { number, session }
+}
+
+// Takes up the session of 18 blocks that hold, given the bytes of blocks 1 to 17.
+fn take_row(bytes: &[u8], room: &[u8]) -> TakenUp
+    requires { ⌜ (isRow (now bytes) ≡ true) × (now room ≡ roomOf (now bytes)) × (mostHeld ≤ length (now room)) ⌝ }
+    ensures { λ r. ⌜ TakesUp (now (bytes .entry)) r ⌝ }
+{
+    if is_parked(bytes, room) {
+        let session = session_in(bytes, room);
+        if foreign::foreign(session) {
+            return refused(17);
+        }
+        return TakenUp { number: 0, session };
+    }
+    refused(27)
+}
+
+// Takes up the session that 18 blocks hold.
+pub fn take_up(bytes: &[u8]) -> TakenUp
+    ensures { λ r. ⌜ TakesUp (now (bytes .entry)) r ⌝ }
+{
+    let mut room = [0u8; 8568];
+    if sealing::unseal(bytes, &mut room) {
+        return take_row(bytes, &room);
+    }
+    refused(27)
+}

@@ -1,0 +1,117 @@
+-- Steps as a caller makes them: feeds and finishes (promise/specs/Runs), and parkings, each a session stored and taken up again.
+use mathlib.Core.Path.{_≡_}
+use mathlib.Core.List.{List, [], _∷_, _++_}
+use Prim.Native.Nat.{ℕ, _≤_}
+use lib.ListN.{length, take}
+use Rattle.event.specs.Lost.{Rule}
+use Rattle.event.specs.Says.{Part}
+use Rattle.event.specs.Emit.{Warning, outputOf, placesOf}
+use Rattle.event.specs.Warns.{warnsBy}
+use Rattle.segment.specs.Segment.{segmentsOf}
+use Rattle.base.specs.Put.{put}
+use Rattle.columns.specs.declared.layout.Columns.{Columns}
+use Rattle.machine.specs.Machine.{run, finishRun}
+use Rattle.machine.specs.Session.{Call, feed, finish, lentOf, Gate, refuse, admit, gateOf, resume}
+use Rattle.machine.specs.Session as model
+use Rattle.machine.specs.Calls.{Played}
+use Rattle.kinds.specs.Takes.{machineOf}
+use Rattle.kinds.specs.Kit.{kit}
+use Rattle.foreign.specs.declared.holding.Session.{Session}
+use Rattle.foreign.specs.View.{view}
+use Rattle.session.specs.declared.calling.Fed.{Fed}
+use Rattle.session.specs.Answer.{feedCall, finishCall, answerOf, nextOf}
+use Rattle.session.specs.Stand.{partsIn}
+use Rattle.parking.specs.declared.taking.TakenUp.{TakenUp}
+use Rattle.sealing.specs.Sealed.{sealedLength}
+use Rattle.parking.specs.Answer.{Parks, TakesUp}
+use Rattle.promise.specs.Runs.{Made, fed, finished, resultOf, Met, writtenBy, warnedBy}
+
+-- ---- ours
+-- a parking: what was lent and what stood there afterwards, the number of park, and what taking these bytes up answered
+pub data Step : Type 0 where
+  call : Made → Step
+  parking : (out : List ℕ) → (number : ℕ) → (out′ : List ℕ) → TakenUp → Step
+
+abbrev pub StepMet : Session → Step → Type 0
+StepMet s (call x) = Met s x
+StepMet s (parking out k out′ t) = (sealedLength ≤ length out) × Parks s k out out′ × TakesUp (take sealedLength out′) t
+
+abbrev pub sessionAfter : Step → Session
+sessionAfter (call x) = resultOf x .session
+sessionAfter (parking out k out′ t) = t .session
+
+abbrev pub Stepped : Session → List Step → Type 0
+Stepped s [] = Unit {0}
+Stepped s (x ∷ xs) = StepMet s x × Stepped (sessionAfter x) xs
+
+-- the calls alone
+abbrev pub madeIn : List Step → List Made
+madeIn [] = []
+madeIn (call x ∷ xs) = x ∷ madeIn xs
+madeIn (parking out k out′ t ∷ xs) = madeIn xs
+
+-- every parking was answered 0, and so was every taking up
+abbrev pub AllKept : List Step → Type 0
+AllKept [] = Unit {0}
+AllKept (call x ∷ xs) = AllKept xs
+AllKept (parking out k out′ t ∷ xs) = (k ≡ 0) × (t .number ≡ 0) × AllKept xs
+
+-- the numbers of the calls in order, the last session, and what the calls wrote, joined
+abbrev pub outcomeOf : Session → List Step → Played Columns
+outcomeOf s [] = record { numbers = []; session = view s; output = []; warnings = [] }
+outcomeOf s (call x ∷ xs) =
+    record {
+      numbers = resultOf x .number ∷ outcomeOf (resultOf x .session) xs .numbers;
+      session = outcomeOf (resultOf x .session) xs .session;
+      output = writtenBy x ++ outcomeOf (resultOf x .session) xs .output;
+      warnings = warnedBy x ++ outcomeOf (resultOf x .session) xs .warnings;
+    }
+outcomeOf s (parking out k out′ t ∷ xs) = outcomeOf (t .session) xs
+
+-- ---- a house with another rule for a lost part: its calls differ from ours in the warnings alone
+-- the parts that a call says: none where it is refused
+abbrev pub partsBy : Gate → model.Session Columns → Call → List Part
+partsBy (refuse k) v x = []
+partsBy admit v (feed l piece) = partsIn (run (machineOf (v .config .kind)) (resume kit v) piece)
+partsBy admit v (finish l) = partsIn (finishRun (machineOf (v .config .kind)) (resume kit v))
+
+unfoldable pub partsOf : model.Session Columns → Call → List Part
+partsOf v x = partsBy (gateOf kit v x) v x
+
+abbrev pub warnsOf : Rule → Session → Call → List Warning
+warnsOf lost s x = warnsBy lost (s .config) (segmentsOf (lentOf x .map)) (partsOf (view s) x)
+
+-- the contract of feed and finish in a house with this rule
+pub record AnsweredBy (lost : Rule) (s : Session) (x : Call) (r : Fed) (out out′ places places′ : List ℕ) : Type 0 where
+  pub number : r .number ≡ answerOf s x .number
+  pub written : r .written ≡ length (outputOf (answerOf s x .emits))
+  pub warned : r .warned ≡ length (placesOf (warnsOf lost s x))
+  pub session : r .session ≡ nextOf s x
+  pub text : out′ ≡ put (outputOf (answerOf s x .emits)) out
+  pub warnings : places′ ≡ put (placesOf (warnsOf lost s x)) places
+
+abbrev pub MetBy : Rule → Session → Made → Type 0
+MetBy lost s (fed map piece out places r out′ places′) = AnsweredBy lost s (feedCall map piece (length out) (length places)) r out out′ places places′
+MetBy lost s (finished map out places r out′ places′) = AnsweredBy lost s (finishCall map (length out) (length places)) r out out′ places places′
+
+abbrev pub RanBy : Rule → Session → List Made → Type 0
+RanBy lost s [] = Unit {0}
+RanBy lost s (x ∷ xs) = MetBy lost s x × RanBy lost (resultOf x .session) xs
+
+-- the session after a list of calls
+abbrev pub lastOf : Session → List Made → Session
+lastOf s [] = s
+lastOf s (x ∷ xs) = lastOf (resultOf x .session) xs
+
+-- what they warned of
+abbrev pub warnedAll : List Made → List Warning
+warnedAll [] = []
+warnedAll (x ∷ xs) = warnedBy x ++ warnedAll xs
+
+abbrev pub writtenAll : List Made → List ℕ
+writtenAll [] = []
+writtenAll (x ∷ xs) = writtenBy x ++ writtenAll xs
+
+abbrev pub numbersAll : List Made → List ℕ
+numbersAll [] = []
+numbersAll (x ∷ xs) = resultOf x .number ∷ numbersAll xs

@@ -1,0 +1,2 @@
+-- The ops of `replay` about a text or a session.
+pub mod Op

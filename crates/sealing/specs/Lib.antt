@@ -1,0 +1,2 @@
+-- 18 blocks with a number and a sum.
+pub mod Sealed

@@ -1,0 +1,9 @@
+// 18 blocks with a number and a sum each: written, and read again. No exported function has a `requires`.
+mod reading;
+mod writing;
+mod zeros;
+
+pub use reading::unseal;
+pub use writing::seal;
+pub use writing::words_bytes;
+pub use zeros::all_zero;
