@@ -1,4 +1,4 @@
-/* The retimer's C functions: frame sheet check, trim list check, time conversions, and questions about a map.
+/* The retimer's C functions: frame sheet check, trim list check, time conversions, questions about a map, and maps as JSON.
  * They keep no state, write nothing but what is lent to them for that, and return on every input. Numbers: docs/NUMBERS.md. */
 #ifndef RETIMER_H
 #define RETIMER_H
@@ -72,6 +72,25 @@ uint32_t retimer_census(const uint64_t *map, size_t map_length, uint32_t timesca
  * 0; 15 for the timescale or the map; 29 for budget 0 or more than 4096 captions; 16 for kind, an odd captions_length or a time. With a number that is not 0, the four places hold zeros. */
 uint32_t retimer_best_delay(const uint64_t *map, size_t map_length, uint32_t timescale, uint32_t kind, const uint64_t *captions, size_t captions_length,
                             uint32_t budget, int64_t *delay, uint32_t *loss, uint32_t *tried, uint32_t *off);
+
+/* Segment maps as the Rust cutter stores them: the JSON text of to_json. */
+#define RETIMER_MOST_PATH 1024      /* bytes of the longest input path */
+#define RETIMER_MOST_NUMBERS 6144   /* numbers of the longest map, six to a segment */
+#define RETIMER_MOST_TEXT 255141    /* bytes of the longest text */
+
+/* The text of a map, with its line end: timescale, frame rate (a fraction), input path and frame count go with it.
+ * 0; 15 for a bad timescale or map; 16 for a path above 1024 bytes; 20 for one that is not UTF-8; 16 where the text is longer than the bytes lent for it.
+ * With 0 the text stands at the start of `text`, bytes behind it staying as they were, and `written` is its length; else nothing is written.
+ * `text` must not overlap the map or the path. */
+uint32_t retimer_map_write(const uint64_t *map, size_t length, uint32_t timescale, uint32_t rate_num, uint32_t rate_den, const uint8_t *path,
+                           size_t path_length, uint32_t frames, uint8_t *text, size_t places, uint64_t *written);
+
+/* A map from its text. 0; 23 for a text outside the rules of docs/GUIDE.md, or with a path above 1024 bytes; 15 for a timescale or map outside the limits; 16 where
+ * fewer than 6144 places are lent for numbers, or fewer than 1024 for path bytes.
+ * With 0 the map's numbers stand at the start of `map` and the path, decoded, at the start of `path`, what is behind them staying as it was, and the six places tell
+ * the timescale, the frame rate, the frame count and how many numbers and path bytes were written; else nothing is written. Nothing lent may overlap. */
+uint32_t retimer_map_read(const uint8_t *text, size_t length, uint64_t *map, size_t map_places, uint8_t *path, size_t path_places, uint32_t *timescale,
+                          uint32_t *rate_num, uint32_t *rate_den, uint32_t *frames, uint64_t *numbers, uint64_t *path_length);
 
 #ifdef __cplusplus
 }

@@ -10,7 +10,7 @@ root = os.path.dirname(os.path.dirname(os.path.abspath(__file__)))
 name = os.path.basename(sys.argv[0])
 
 # requests of document 02 that have landed, as the oracle's program takes them
-LANDED = ['2.7', '2.2', '2.4', '2.6', '2.9', '2.5']
+LANDED = ['2.7', '2.2', '2.4', '2.6', '2.9', '2.5', '2.1']
 
 
 # ---- arguments

@@ -4,11 +4,13 @@
 mod delays;
 mod rough;
 mod starts;
+mod stored;
 mod why;
 
 pub use delays::{best_delay, BestDelay};
 pub use rough::{rough, Judgement};
 pub use starts::{count_starts, Starts};
+pub use stored::{read_map, write_map, StoredMap, MOST_NUMBERS, MOST_PATH, MOST_TEXT};
 pub use why::{why, Cause, Fate};
 
 #[link(name = "cutter", kind = "static")]
@@ -101,6 +103,7 @@ pub fn ticks_to_units_ceil(ticks: u64, timescale: u32, kind: Kind) -> Result<u64
 pub mod raw {
     pub use crate::delays::flat_delay;
     pub use crate::starts::census;
+    pub use crate::stored::{raw_read as map_read, raw_write as map_write};
 
     /// The number of a sheet: as `check_sheet`, and 16 where fewer work bytes are lent than n / 8, rounded up. With 0 and 25
     /// those needed end zero, whatever stood there, and any others stay; with other numbers all stay.

@@ -198,3 +198,26 @@ pair-short l at a b h k =
 pub sets-put : (v l : List ℕ) → length v ≤ length l → sets l 0 v ≡ put v l
 unfolding put
 sets-put v l h = rw (sets-eq v l 0 (omega arith), zero-add)
+
+-- ---- six numbers at a place, two by two
+pub put-front : (l : List ℕ) (i : ℕ) → i ≤ length l → l ≡ put (take i l) l
+unfolding put
+put-front l i h = sym (ap (λ (k : ℕ). take i l ++ drop k l) (length-take-le i l h) ∙ take-append-drop i l)
+
+pub put-at-front : (v l : List ℕ) (i : ℕ) → i ≤ length l → putAt i v l ≡ put (take i l ++ v) l
+unfolding putAt
+put-at-front v l i h = ap (λ (k : ℕ). take i l ++ put v (drop k l)) (sym (length-take-le i l h)) ∙ put-append (take i l) v l
+
+pub numbers-stored : (l l₁ l₂ l₃ : List ℕ) (at a b q k o d : ℕ) → at + 6 ≤ length l
+    → l₁ ≡ placedAt at (a ∷ b ∷ []) l → l₂ ≡ placedAt (at + 2) (q ∷ k ∷ []) l₁ → l₃ ≡ placedAt (at + 4) (o ∷ d ∷ []) l₂
+    → l₃ ≡ putAt at (a ∷ b ∷ q ∷ k ∷ o ∷ d ∷ []) l
+numbers-stored l l₁ l₂ l₃ at a b q k o d h e₁ e₂ e₃ =
+    let n : length (take at l) ≡ at = length-take-le at l (omega arith) in
+    let n₁ : length (take at l ++ (a ∷ b ∷ [])) ≡ at + 2 = simp length-append (omega arith) in
+    let n₂ : length (take at l ++ (a ∷ b ∷ []) ++ (q ∷ k ∷ [])) ≡ at + 4 = simp length-append (omega arith) in
+    let n₃ : length (take at l ++ (a ∷ b ∷ []) ++ (q ∷ k ∷ []) ++ (o ∷ d ∷ [])) ≡ at + 6 = simp length-append (omega arith) in
+    let r₁ = then-placed at _ (take at l) (a ∷ b ∷ []) l l l₁ (put-front l at (omega arith)) (sym n) (omega arith) refl e₁ in
+    let r₂ = then-placed (at + 2) _ (take at l ++ (a ∷ b ∷ [])) (q ∷ k ∷ []) l l₁ l₂ (r₁ .0) (sym n₁) (omega arith) refl e₂ in
+    let r₃ = then-placed (at + 4) _ (take at l ++ (a ∷ b ∷ []) ++ (q ∷ k ∷ [])) (o ∷ d ∷ []) l l₂ l₃ (r₂ .0) (sym n₂) (omega arith) refl e₃ in
+    let g : take at l ++ (a ∷ b ∷ []) ++ (q ∷ k ∷ []) ++ (o ∷ d ∷ []) ≡ take at l ++ (a ∷ b ∷ q ∷ k ∷ o ∷ d ∷ []) = simp append-assoc in
+    r₃ .0 ∙ ap (λ (v : List ℕ). put v l) g ∙ sym (put-at-front (a ∷ b ∷ q ∷ k ∷ o ∷ d ∷ []) l at (omega arith))

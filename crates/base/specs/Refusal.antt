@@ -3,7 +3,8 @@
 --     a orElse b          the first of two
 --     firstOf f i k       the first of f i, f (i + 1), .., k of them
 use Prim.Native.Nat.{ℕ, zero, suc}
-use mathlib.Core.Bool.{Bool, true, false}
+use mathlib.Core.Bool.{Bool, true, false, cond}
+use lib.Dec.{eqb}
 
 infixr 20 _orElse_
 unfoldable pub _orElse_ : ℕ → ℕ → ℕ
@@ -17,3 +18,7 @@ faultUnless false k = k
 unfoldable pub firstOf : (ℕ → ℕ) → ℕ → ℕ → ℕ
 firstOf f i zero = 0
 firstOf f i (suc k) = f i orElse firstOf f (suc i) k
+
+-- what stands in a lent place after an answer: its value where the number is 0, else what stood there
+unfoldable pub leftIn : (number value before : ℕ) → ℕ
+leftIn k v n = cond (eqb k 0) v n

@@ -1,6 +1,7 @@
-// The larger and the smaller of two numbers, and one less another.
+// The larger and the smaller of two numbers, one less another, and what an answer leaves in a place.
 ghost use mathlib.Core.Path.{_≡_};
 ghost use Prim.Native.Nat.{_-_, min, max};
+ghost use Rattle.base.specs.Refusal.{leftIn};
 
 pub fn larger(a: u64, b: u64) -> u64
     ensures { λ r. ⌜ r ≡ max a b ⌝ }
@@ -22,4 +23,14 @@ pub fn minus(a: u64, b: u64) -> u64
         return a - b;
     }
     0
+}
+
+// The value of an answer where its number is 0, else what stood before.
+pub fn left_in(number: u32, value: u64, before: u64) -> u64
+    ensures { λ r. ⌜ r ≡ leftIn number value before ⌝ }
+{
+    if number == 0 {
+        return value;
+    }
+    before
 }

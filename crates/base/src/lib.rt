@@ -5,6 +5,7 @@ mod part;
 mod write;
 
 pub use amount::larger;
+pub use amount::left_in;
 pub use amount::minus;
 pub use amount::smaller;
 pub use limits::LEAST_OUTPUT;
@@ -35,7 +36,9 @@ pub use part::last_part;
 pub use part::less;
 pub use part::rest;
 pub use part::word;
+pub use part::words_front;
 pub use part::words_rest;
 pub use write::bytes;
 pub use write::bytes_at;
 pub use write::pair_at;
+pub use write::words;

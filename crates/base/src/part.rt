@@ -65,6 +65,16 @@ pub fn word(s: &[u64], k: usize) -> u64
     0
 }
 
+// The first `n` words, or all where there are fewer.
+pub fn words_front(s: &[u64], n: usize) -> &[u64]
+    ensures { λ r. ⌜ now r ≡ take n (now (s .entry)) ⌝ }
+{
+    if n <= s.len() {
+        return &s[..n];
+    }
+    s
+}
+
 // The words from `a` on, none where `a` is past the end.
 pub fn words_rest(s: &[u64], a: usize) -> &[u64]
     ensures { λ r. ⌜ now r ≡ drop a (now (s .entry)) ⌝ }

@@ -28,6 +28,21 @@ pub fn bytes_at(out: &mut [u8], at: usize, s: &[u8]) -> usize
     at + bytes(&mut out[at..], s)
 }
 
+// Writes the numbers `s` to the start of `out`, and answers how many; where they do not fit, nothing and 0.
+pub fn words(out: &mut [u64], s: &[u64]) -> usize
+    ensures { λ r. ⌜ (r ≡ placedLength (now (s .entry)) (now (out .entry))) × (now (out .exit) ≡ placed (now (s .entry)) (now (out .entry))) ⌝ }
+{
+    if out.len() < s.len() {
+        return 0;
+    }
+    let mut i = 0;
+    while i < s.len() {
+        out[i] = s[i];
+        i += 1;
+    }
+    i
+}
+
 // Writes two numbers from the place `at` on, and answers the place after them; where they do not fit, nothing and `at`.
 pub fn pair_at(out: &mut [u64], at: usize, a: u64, b: u64) -> usize
     ensures { λ r. ⌜ (r ≡ placeAfter at (a ∷ b ∷ []) (now (out .entry))) × (now (out .exit) ≡ placedAt at (a ∷ b ∷ []) (now (out .entry))) ⌝ }

@@ -2,7 +2,8 @@
 use mathlib.Core.Path.{_≡_, ap, _∙_}
 use Prim.Native.Nat.{ℕ}
 use Rattle.reason.specs.declared.telling.Why.{Why}
-use Rattle.reason.specs.Reason.{fateCode, leftIn}
+use Rattle.base.specs.Refusal.{leftIn}
+use Rattle.reason.specs.Reason.{fateCode}
 
 module _ (w x : Why) (e : w ≡ x) where
   pub number-left : w .number ≡ x .number

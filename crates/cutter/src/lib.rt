@@ -2,11 +2,14 @@
 mod delays;
 mod judging;
 mod starts;
+mod stored;
 mod telling;
 
 pub use delays::retimer_best_delay;
 pub use judging::retimer_rough;
 pub use starts::retimer_census;
+pub use stored::retimer_map_read;
+pub use stored::retimer_map_write;
 pub use telling::retimer_why;
 ghost use mathlib.Core.Path.{_≡_};
 ghost use lib.ListN.{length};

@@ -1,7 +1,8 @@
 // Why a caption is kept or dropped (request 2.8).
 ghost use mathlib.Core.Path.{_≡_};
 ghost use lib.ListN.{length};
-ghost use Rattle.reason.specs.Reason.{whyOf, causesLeft, fateCode, leftIn};
+ghost use Rattle.base.specs.Refusal.{leftIn};
+ghost use Rattle.reason.specs.Reason.{whyOf, causesLeft, fateCode};
 
 // 0, 15 or 16. With 0 the four places tell the fate (0 dropped, 1 shifted, 2 clipped), the place of the segment that is met, from 0, and the ticks cut off at each
 // end; of a dropped caption the causes stand at the start of `causes`. Else all stay as they were.
@@ -28,9 +29,9 @@ pub extern "C" fn retimer_why(
     let why = reason::reason(map, timescale, kind, start, stop, causes);
     let number = why.number;
     let told = why.fate;
-    *fate = reason::left_in(number, reason::fate_code(told), *fate);
-    *place = reason::left_in(number, why.place as u64, *place);
-    *start_cut = reason::left_in(number, why.start_cut, *start_cut);
-    *end_cut = reason::left_in(number, why.end_cut, *end_cut);
+    *fate = base::left_in(number, reason::fate_code(told), *fate);
+    *place = base::left_in(number, why.place as u64, *place);
+    *start_cut = base::left_in(number, why.start_cut, *start_cut);
+    *end_cut = base::left_in(number, why.end_cut, *end_cut);
     number
 }

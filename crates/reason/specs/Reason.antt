@@ -105,13 +105,10 @@ causesLeft m T kind S E l =
     (findHit (segmentsOf m) (ticksOf T (unitsOf kind) S) (ticksOf T (unitsOf kind) E)) l)
     l
 
--- ---- the answer as numbers: the fate of one that is not refused (0 dropped, 1 shifted, 2 clipped), and what a lent place holds afterwards
+-- ---- the answer as numbers: the fate of one that is not refused (0 dropped, 1 shifted, 2 clipped)
 abbrev pub fateCode : Counted → ℕ
 fateCode Nothing = 0
 fateCode Passed = 0
 fateCode Dropped = 0
 fateCode Shifted = 1
 fateCode Clipped = 2
-
-unfoldable pub leftIn : (number value before : ℕ) → ℕ
-leftIn k v n = cond (eqb k 0) v n

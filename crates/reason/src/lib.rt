@@ -4,6 +4,5 @@ mod places;
 mod telling;
 
 pub use places::fate_code;
-pub use places::left_in;
 pub use telling::Why;
 pub use telling::reason;

@@ -1,7 +1,7 @@
-// An answer as numbers, each in a lent place.
+// The fate as a number.
 use event::Counted;
 ghost use mathlib.Core.Path.{_≡_};
-ghost use Rattle.reason.specs.Reason.{fateCode, leftIn};
+ghost use Rattle.reason.specs.Reason.{fateCode};
 
 // 0 dropped, 1 shifted, 2 clipped.
 pub fn fate_code(fate: Counted) -> u64
@@ -14,14 +14,4 @@ pub fn fate_code(fate: Counted) -> u64
         Counted::Shifted => 1,
         Counted::Clipped => 2,
     }
-}
-
-// What a place holds afterwards, where `before` stood: the value, or the same where the answer is a refusal.
-pub fn left_in(number: u32, value: u64, before: u64) -> u64
-    ensures { λ r. ⌜ r ≡ leftIn number value before ⌝ }
-{
-    if number != 0 {
-        return before;
-    }
-    value
 }

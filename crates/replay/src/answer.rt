@@ -1,5 +1,6 @@
 // The answer to a case, by its op.
 use crate::mapping::asks;
+use crate::mapping::map_texts;
 use crate::mapping::print_made;
 use crate::mapping::texts;
 use crate::mapping::through_made;
@@ -120,6 +121,9 @@ pub fn answer(head: &[u8], x: &[u8], y: &[u8], z: &[u8], all: &mut [u8], notes: 
     }
     if op == 5 {
         texts(head, x, y, z, all, notes);
+        return;
+    }
+    if map_texts(head, x, y, all) {
         return;
     }
     if op < 13 {

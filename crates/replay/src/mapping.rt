@@ -1,18 +1,7 @@
 // The map of a case that has a text.
 ghost use mathlib.Core.Path.{_≡_};
 ghost use Prim.Native.Nat.{_≤_};
-ghost use lib.ListN.{take};
 ghost use Rattle.base.specs.Limits.{mostWork};
-
-// The first n numbers, or all where there are fewer.
-fn front_words(s: &[u64], n: usize) -> &[u64]
-    ensures { λ r. ⌜ now r ≡ take n (now (s .entry)) ⌝ }
-{
-    if n <= s.len() {
-        return &s[..n];
-    }
-    s
-}
 
 // The 64-bit number at place k.
 fn number_in(x: &[u8], k: usize) -> u64 {
@@ -46,7 +35,7 @@ pub fn texts(head: &[u8], x: &[u8], y: &[u8], z: &[u8], all: &mut [u8], notes: &
     let b = blocks::word(head, 2);
     let c = blocks::word(head, 3);
     let d = blocks::word(head, 4);
-    let given = front_words(&map, n);
+    let given = base::words_front(&map, n);
     retimings::answer(op, a, b, c, d, given, x, y, z, all, notes)
 }
 
@@ -91,10 +80,23 @@ pub fn asks(head: &[u8], x: &[u8], y: &[u8], z: &[u8]) -> bool {
         a,
         b,
         c,
-        front_words(&map, n),
-        front_words(&few, m),
-        front_words(&many, l),
+        base::words_front(&map, n),
+        base::words_front(&few, m),
+        base::words_front(&many, l),
     )
+}
+
+// Whether the op writes the map that x has as JSON, with the path y, or reads the JSON x; its answer is printed.
+pub fn map_texts(head: &[u8], x: &[u8], y: &[u8], room: &mut [u8]) -> bool {
+    let mut map = [0u64; 8750];
+    let n = x.len() / 8;
+    fill(x, n, &mut map);
+    let op = blocks::word(head, 0);
+    let a = blocks::word(head, 1);
+    let b = blocks::word(head, 2);
+    let c = blocks::word(head, 3);
+    let d = blocks::word(head, 4);
+    maptexts::answer(op, a, b, c, d, base::words_front(&map, n), x, y, room)
 }
 
 // A text through the map of a sheet and a list, with so many work bytes.

@@ -30,9 +30,9 @@ use Rattle.segmap.specs.declared.whole.Made.{Made}
 use Rattle.segment.specs.Segment.{segment, flatOf, endBad, segmentBad, anyBad, mapBad}
 use Rattle.segmap.specs.Build.{sourceStart, rangeTicks, keptTicks, rangeFault, rangesFault, keptNumber, segmentIn, segmentsIn}
 use Rattle.segmap.specs.Map.{rangesFor, keptCount, snappedOf, cutNumber, mapNumber, Map, mapAnswer, mapOf, madeOf}
-use Rattle.segment.proofs.SegmentLaws.{flat-back}
+use Rattle.segment.proofs.SegmentLaws.{flat-back, flat-length}
 use Rattle.frames.proofs.TicksLaws.{ticks-none, ticks-split, ticks-more, ticks-most, ticks-within}
-use Rattle.segmap.proofs.KeptLaws.{segments-count, flat-length}
+use Rattle.segmap.proofs.KeptLaws.{segments-count}
 use Rattle.segmap.proofs.BuildLaws.{fault-free, faults-cut}
 use Rattle.segmap.proofs.MapLaws.{kept-few, kept-length, snapped-length}
 

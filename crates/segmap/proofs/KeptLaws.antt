@@ -14,6 +14,7 @@ use Rattle.base.proofs.PutLaws.{take-put}
 use Rattle.base.proofs.RefusalLaws.{else-here, else-next, unless-held, unless-failed}
 use Rattle.plan.specs.Snap.{overlapsFault}
 use Rattle.segment.specs.declared.segment.Segment.{Segment}
+use Rattle.segment.proofs.SegmentLaws.{flat-length}
 use Rattle.segment.specs.Segment.{flatOf}
 use Rattle.segmap.specs.Build.{rangeTicks, keptTicks, rangesFault, keptNumber, segmentsIn}
 
@@ -45,11 +46,6 @@ unfolding segmentsIn
 segments-count s o k [] h = omega arith
 segments-count s o k (a ∷ []) h = absurd (omega arith)
 segments-count s o k (a ∷ e ∷ r) h = omega (arith, segments-count s (o + rangeTicks s a e) (k - 1) r (omega arith))
-
-pub flat-length : (xs : List Segment) → length (flatOf xs) ≡ 6 * length xs
-unfolding flatOf
-flat-length [] = refl
-flat-length (x ∷ xs) = omega (arith, flat-length xs)
 
 -- what was built in `held` is copied to the map
 pub kept-copied : (s ranges held₀ held m₀ m : List ℕ) (count : ℕ) → 2 * count ≤ length ranges → held ≡ put (flatOf (segmentsIn s 0 (take (2 * count) ranges))) held₀

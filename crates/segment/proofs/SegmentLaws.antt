@@ -139,3 +139,9 @@ any-good m e = go (eqb (length m % 6) 0) (ltb (6 * mostSegments) (length m)) e
     go true true q = absurd (true≢false q)
     go true false q = q
     go false s q = absurd (true≢false q)
+
+-- ---- six numbers a segment
+pub flat-length : (xs : List Segment) → length (flatOf xs) ≡ 6 * length xs
+unfolding flatOf
+flat-length [] = refl
+flat-length (x ∷ xs) = omega (arith, flat-length xs)

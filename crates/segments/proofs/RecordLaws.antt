@@ -10,10 +10,10 @@ use lib.ListN.{length, take, drop, getD, set, length-append, length-take, take-a
 use lib.Seq.{drop-cons, drop-length, take-suc, take-all, set-at, length-take-le}
 use Rattle.base.specs.Put.{put, putAt, placed, placedAt}
 use Rattle.base.specs.Refusal.{faultUnless}
-use Rattle.base.proofs.PutLaws.{put-append, then-put, then-placed, placed-yes, placed-no}
+use Rattle.base.proofs.PutLaws.{put-append, then-put, placed-yes, placed-no}
 use Rattle.segment.specs.declared.segment.Segment.{Segment}
 use Rattle.segment.specs.Segment.{numbersOf, flatOf, segmentsOf}
-use Rattle.segmap.proofs.KeptLaws.{flat-length}
+use Rattle.segment.proofs.SegmentLaws.{flat-length}
 use Rattle.event.specs.declared.meeting.Hit.the-variants.{Miss}
 use Rattle.event.specs.Hit.{meets, findFrom, hitOf}
 use Rattle.segments.specs.Records.{recorded, flatNumber, noSegment, narrowed, segmentAt, hitAt}
@@ -32,29 +32,6 @@ hit-next l i a b h t = rw (add-one i, drop-cons l i noSegment h, t)
 pub record-miss : (l : List Segment) (i a b : ℕ) → length l ≤ i → i ≤ length l → hitOf (findFrom i (drop i l) a b) ≡ Miss
 unfolding findFrom
 record-miss l i a b h k = let e : i ≡ length l = omega arith in rw (e, drop-length)
-
--- ---- six numbers at a place, two by two
-put-front : (l : List ℕ) (i : ℕ) → i ≤ length l → l ≡ put (take i l) l
-unfolding put
-put-front l i h = sym (ap (λ (k : ℕ). take i l ++ drop k l) (length-take-le i l h) ∙ take-append-drop i l)
-
-put-at-front : (v l : List ℕ) (i : ℕ) → i ≤ length l → putAt i v l ≡ put (take i l ++ v) l
-unfolding putAt
-put-at-front v l i h = ap (λ (k : ℕ). take i l ++ put v (drop k l)) (sym (length-take-le i l h)) ∙ put-append (take i l) v l
-
-pub numbers-stored : (l l₁ l₂ l₃ : List ℕ) (at a b q k o d : ℕ) → at + 6 ≤ length l
-    → l₁ ≡ placedAt at (a ∷ b ∷ []) l → l₂ ≡ placedAt (at + 2) (q ∷ k ∷ []) l₁ → l₃ ≡ placedAt (at + 4) (o ∷ d ∷ []) l₂
-    → l₃ ≡ putAt at (a ∷ b ∷ q ∷ k ∷ o ∷ d ∷ []) l
-numbers-stored l l₁ l₂ l₃ at a b q k o d h e₁ e₂ e₃ =
-    let n : length (take at l) ≡ at = length-take-le at l (omega arith) in
-    let n₁ : length (take at l ++ (a ∷ b ∷ [])) ≡ at + 2 = simp length-append (omega arith) in
-    let n₂ : length (take at l ++ (a ∷ b ∷ []) ++ (q ∷ k ∷ [])) ≡ at + 4 = simp length-append (omega arith) in
-    let n₃ : length (take at l ++ (a ∷ b ∷ []) ++ (q ∷ k ∷ []) ++ (o ∷ d ∷ [])) ≡ at + 6 = simp length-append (omega arith) in
-    let r₁ = then-placed at _ (take at l) (a ∷ b ∷ []) l l l₁ (put-front l at (omega arith)) (sym n) (omega arith) refl e₁ in
-    let r₂ = then-placed (at + 2) _ (take at l ++ (a ∷ b ∷ [])) (q ∷ k ∷ []) l l₁ l₂ (r₁ .0) (sym n₁) (omega arith) refl e₂ in
-    let r₃ = then-placed (at + 4) _ (take at l ++ (a ∷ b ∷ []) ++ (q ∷ k ∷ [])) (o ∷ d ∷ []) l l₂ l₃ (r₂ .0) (sym n₂) (omega arith) refl e₃ in
-    let g : take at l ++ (a ∷ b ∷ []) ++ (q ∷ k ∷ []) ++ (o ∷ d ∷ []) ≡ take at l ++ (a ∷ b ∷ q ∷ k ∷ o ∷ d ∷ []) = simp append-assoc in
-    r₃ .0 ∙ ap (λ (v : List ℕ). put v l) g ∙ sym (put-at-front (a ∷ b ∷ q ∷ k ∷ o ∷ d ∷ []) l at (omega arith))
 
 -- ---- a map of records as flat numbers
 flat-append : (l k : List Segment) → flatOf (l ++ k) ≡ flatOf l ++ flatOf k

@@ -13,9 +13,8 @@ use Rattle.base.proofs.RefusalLaws.{held}
 use Rattle.segment.specs.declared.segment.Segment.{Segment}
 use Rattle.segment.specs.Segment.{flatOf, segmentsOf}
 use Rattle.segmap.specs.Map.{mapOf}
-use Rattle.segment.proofs.SegmentLaws.{flat-back}
+use Rattle.segment.proofs.SegmentLaws.{flat-back, flat-length}
 use Rattle.segmap.proofs.Built.{map-count, map-front}
-use Rattle.segmap.proofs.KeptLaws.{flat-length}
 use Rattle.event.specs.Hit.{findHit, hitOf}
 use Rattle.segments.specs.Records.{recorded, flatNumber}
 

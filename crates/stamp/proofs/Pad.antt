@@ -9,6 +9,8 @@ use lib.Seq.{drop-cons, getD-set-same, drop-set-lt, append-snoc}
 use native.Mathlib.Nat.{pow-suc}
 use native.Mathlib.Omega.{arith}
 use borrow.Author.Tests.{le-leb, lt-leb, leb-true, leb-false}
+use Rattle.base.specs.Put.{put, placed}
+use Rattle.base.proofs.PutLaws.{placed-yes, placed-no}
 use Rattle.stamp.specs.Write.{pad, widthUnder, width}
 
 pub pad-length : (k n : ℕ) → length (pad k n) ≡ k
@@ -106,3 +108,10 @@ width-bound (suc k) n h =
     let small : n < 10 ^ suc k * 10 = rw pow-suc at h in
     by-le 10 n (λ l. omega (arith, width-small l))
     (λ l. omega (arith, width-big l, width-bound k (n / 10) (omega arith)))
+
+-- ---- digits that fit, and digits that do not
+pub pad-unfit : (k n : ℕ) (l : List ℕ) → length l < k → l ≡ placed (pad k n) l
+pad-unfit k n l h = sym (placed-no (pad k n) l (omega (arith, pad-length k n)))
+
+pub pad-fit : (k n : ℕ) (l m : List ℕ) → k ≤ length l → m ≡ put (pad k n) l → m ≡ placed (pad k n) l
+pad-fit k n l m h e = e ∙ sym (placed-yes (pad k n) l (omega (arith, pad-length k n)))

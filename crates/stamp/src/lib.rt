@@ -4,5 +4,7 @@ mod write;
 
 pub use read::Time;
 pub use read::read_time;
+pub use write::digits;
+pub use write::last_digits;
 pub use write::write_time;
 pub use write::write_time_at;

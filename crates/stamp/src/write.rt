@@ -8,7 +8,7 @@ ghost use mathlib.Core.List.{_∷_};
 ghost use Prim.Native.Nat.{_≤_, _<_};
 ghost use lib.ListN.{length};
 ghost use Rattle.base.specs.Put.{put, placed, placedLength, placedAt, placeAfter};
-ghost use Rattle.stamp.specs.Write.{pad, widest, textWith, timeText};
+ghost use Rattle.stamp.specs.Write.{pad, width, widest, textWith, timeText};
 
 // The last k decimal digits of n, written to the start of out.
 fn put_digits(out: &mut [u8], n: u64, k: usize)
@@ -24,6 +24,16 @@ fn put_digits(out: &mut [u8], n: u64, k: usize)
     }
 }
 
+// The last k decimal digits of n, written to the start of out; where they do not fit, nothing.
+pub fn last_digits(out: &mut [u8], n: u64, k: usize)
+    ensures { λ r. ⌜ now (out .exit) ≡ placed (pad k n) (now (out .entry)) ⌝ }
+{
+    if out.len() < k {
+        return;
+    }
+    put_digits(out, n, k);
+}
+
 // A mark, and then k digits of n.
 fn put_part(out: &mut [u8], mark: u8, n: u64, k: usize)
     requires { ⌜ k < length (now out) ⌝ }
@@ -33,10 +43,9 @@ fn put_part(out: &mut [u8], mark: u8, n: u64, k: usize)
     put_digits(&mut out[1..], n, k);
 }
 
-// How many decimal digits n has, at least `least`.
-fn digits_of(n: u64, least: usize) -> usize
-    requires { ⌜ least ≤ 2 ⌝ }
-    ensures { λ r. ⌜ r ≡ widest least n ⌝ }
+// How many decimal digits n has.
+pub fn digits(n: u64) -> usize
+    ensures { λ r. ⌜ r ≡ width n ⌝ }
 {
     let mut w: usize = 1;
     let mut rest = n;
@@ -44,6 +53,14 @@ fn digits_of(n: u64, least: usize) -> usize
         rest = rest / 10;
         w += 1;
     }
+    w
+}
+
+// The same, at least `least`.
+fn digits_of(n: u64, least: usize) -> usize
+    ensures { λ r. ⌜ r ≡ widest least n ⌝ }
+{
+    let w = digits(n);
     if w < least { least } else { w }
 }
 

@@ -15,7 +15,7 @@ use Rattle.segmap.specs.declared.whole.Made.{Made}
 use Rattle.segmap.specs.Map.{mapNumber, Map, mapOf, mapWork, made, madeOf}
 use Rattle.segmap.proofs.MapLaws.{short-made, short-work}
 use Rattle.segmap.proofs.Built.{map-count, told-number, told-count, map-refused}
-use Rattle.segmap.proofs.KeptLaws.{flat-length}
+use Rattle.segment.proofs.SegmentLaws.{flat-length}
 use Rattle.event.specs.declared.meeting.Hit.{Hit}
 use Rattle.event.specs.declared.meeting.Hit.the-variants.{Miss}
 use Rattle.event.specs.Hit.{findFrom, findHit, hitOf}

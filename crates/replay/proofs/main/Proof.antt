@@ -12,7 +12,7 @@ zeros : (n : ℕ) → n ≡ length (replicate {A = ℕ} n 0)
 zeros n = sym (length-replicate {A = ℕ} n 0)
 
 slice-aggregate-run-cases : tie.Need-slice-aggregate-run-cases
-slice-aggregate-run-cases c = zeros 70000
+slice-aggregate-run-cases c = zeros 300000
 
 slice-aggregate-run-cases-2 : tie.Need-slice-aggregate-run-cases-2
 slice-aggregate-run-cases-2 c = zeros 70000

@@ -5,7 +5,7 @@ use Rattle.cutter.proofs.telling.retimer_why.Tie as tie
 use Rattle.cutter.proofs.telling.retimer_why.Reads as reads
 use Rattle.cutter.proofs.telling.retimer_why.Lts as lts
 use Rattle.reason.proofs.fate_code.Reads as fate-code-reads
-use Rattle.reason.proofs.left_in.Reads as left-in-reads
+use Rattle.base.proofs.left_in.Reads as left-in-reads
 use Rattle.reason.proofs.reason.Reads as reason-reads
 
 reason-requires : tie.Need-reason-requires

@@ -1,4 +1,4 @@
-use Rattle.segments.proofs.RecordLaws.{numbers-stored}
+use Rattle.base.proofs.PutLaws.{numbers-stored}
 use borrow.Author.Needs.{needs}
 use Rattle.segments.proofs.flattening.numbers_at.Statement.{statement}
 use Rattle.segments.proofs.flattening.numbers_at.Tie as tie

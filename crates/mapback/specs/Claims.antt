@@ -1,0 +1,47 @@
+-- Document 02, 2.1: "Feeds may then use a map that came this way, and the promise about drops and drift holds for any map that open accepts."
+-- The second half is promise/specs/Promise: `PromiseOpened`. The first: what the reader handed back opens, and the promise is kept for it.
+use mathlib.Core.Path.{_≡_}
+use mathlib.Core.Bool.{false}
+use mathlib.Core.List.{List}
+use Prim.Native.Nat.{ℕ, _*_, _≤_, _<_}
+use lib.ListN.{length, take, getD}
+use Rattle.base.specs.Limits.{mostFrame, mostSegments}
+use Rattle.utf8.specs.Utf8.{utf8}
+use Rattle.time.specs.Kind.{kindBad}
+use Rattle.time.specs.Convert.{timescaleBad}
+use Rattle.segment.specs.Segment.{mapBad}
+use Rattle.session.specs.declared.calling.Opened.{Opened}
+use Rattle.session.specs.Answer.{OpenAnswered}
+use Rattle.promise.specs.Promise.{Kept}
+use Rattle.mapjson.specs.declared.writing.Wrote.{Wrote}
+use Rattle.mapread.specs.declared.reading.Taken.{Taken}
+use Rattle.mapjson.specs.Names.{mostPath}
+use Rattle.mapjson.specs.Answer.{Writes}
+use Rattle.mapread.specs.Answer.{Reads}
+
+pub record Opens (kind T : ℕ) (m : List ℕ) (o : Opened) : Type 0 where
+  pub number : o .number ≡ 0
+  pub kept : Kept kind T m o
+
+abbrev pub ReadOpens : Type 0
+ReadOpens =
+    (kind : ℕ) (text : List ℕ) (r : Taken) (map map′ path path′ : List ℕ) → kindBad kind ≡ false → Reads text r map map′ path path′ → r .number ≡ 0
+    → (o : Opened) → OpenAnswered kind (r .timescale) (take (r .places) map′) o → Opens kind (r .timescale) (take (r .places) map′) o
+
+-- a call of the writer answered 0, and a call of the reader with what it wrote: all that was written comes back
+pub record Returned (map : List ℕ) (T num den : ℕ) (path : List ℕ) (frames : ℕ) (r : Taken) (places bytes : List ℕ) : Type 0 where
+  pub number : r .number ≡ 0
+  pub timescale : r .timescale ≡ T
+  pub rate-num : r .«rate_num» ≡ num
+  pub rate-den : r .«rate_den» ≡ den
+  pub frame-count : r .frames ≡ frames
+  pub map-back : take (r .places) places ≡ map
+  pub path-back : take (r .«path_len») bytes ≡ path
+
+abbrev pub WrittenBack : Type 0
+WrittenBack =
+    (map : List ℕ) (T num den : ℕ) (path : List ℕ) (frames : ℕ) (w : Wrote) (text text′ : List ℕ)
+    → num ≤ mostFrame → den ≤ mostFrame → frames ≤ mostFrame → ((j : ℕ) → getD path j 0 < 256)
+    → Writes map T num den path frames w text text′ → w .number ≡ 0
+    → (r : Taken) (places places′ bytes bytes′ : List ℕ) → 6 * mostSegments ≤ length places → mostPath ≤ length bytes
+    → Reads (take (w .written) text′) r places places′ bytes bytes′ → Returned map T num den path frames r places′ bytes′

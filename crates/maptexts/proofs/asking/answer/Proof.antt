@@ -1,0 +1,31 @@
+use Rattle.base.proofs.Laws.{chain}
+use Rattle.maptexts.specs.Query.{isTextQuery}
+use borrow.Author.Needs.{needs}
+use Rattle.maptexts.proofs.asking.answer.Statement.{statement}
+use Rattle.maptexts.proofs.asking.answer.Tie as tie
+
+print-written-requires : tie.Need-print-written-requires
+print-written-requires c κs = search needs
+
+same-length : tie.Need-same-length
+same-length c = search needs
+
+returns : tie.Need-returns
+unfolding isTextQuery
+returns c = search chain depth 12
+
+print-read-requires : tie.Need-print-read-requires
+print-read-requires c κs = search needs
+
+returns-2 : tie.Need-returns-2
+unfolding isTextQuery
+returns-2 c = search chain depth 12
+
+returns-3 : tie.Need-returns-3
+unfolding isTextQuery
+returns-3 c = search chain depth 12
+
+pub answer-spec : {M : Type 1} → statement M
+answer-spec =
+    tie.close
+    (tie.spec print-written-requires same-length returns print-read-requires returns-2 returns-3)
