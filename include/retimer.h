@@ -1,4 +1,4 @@
-/* The retimer's C functions: frame sheet check, trim list check, time conversions, questions about a map, and maps as JSON.
+/* The retimer's C functions: frame sheet check, trim list check, the map of a sheet and a list, captions retimed through it, time conversions, questions about a map, and maps as JSON.
  * They keep no state, write nothing but what is lent to them for that, and return on every input. Numbers: docs/NUMBERS.md. */
 #ifndef RETIMER_H
 #define RETIMER_H
@@ -10,7 +10,54 @@
 extern "C" {
 #endif
 
-/* Bytes are given as a pointer that is not NULL and a length in bytes, which may be 0. */
+/* Bytes are given as a pointer that is not NULL and a length in bytes, which may be 0. What is lent to be written overlaps nothing else that is given. */
+
+/* The numbers that a function returns. */
+enum retimer_number {
+    RETIMER_DONE = 0,
+    RETIMER_SHAPE = 2,             /* a token of the list is not Trim(a,b) */
+    RETIMER_NOT_A_NUMBER = 3,      /* a or b is no decimal number below 2^32 */
+    RETIMER_BACKWARD = 4,          /* a > b */
+    RETIMER_LAST_FRAME = 5,        /* b = 4294967295 */
+    RETIMER_CROSSING = 6,          /* a range starts below the end of the one before */
+    RETIMER_LIST_TOO_LONG = 7,     /* more than 65536 bytes or 1024 trims */
+    RETIMER_OVERLAP = 8,           /* snapped ranges overlap */
+    RETIMER_TURNED_OVER = 9,       /* a snapped range starts above its end */
+    RETIMER_PAST_THE_END = 10,     /* a range takes samples past the last */
+    RETIMER_SHEET_LENGTH = 11,
+    RETIMER_SHEET_BLOCK = 12,
+    RETIMER_SHEET_HEAD = 13,
+    RETIMER_SHEET_RECORD = 14,
+    RETIMER_BAD_MAP = 15,          /* the timescale or the map */
+    RETIMER_BAD_ARGUMENT = 16,
+    RETIMER_FOREIGN_SESSION = 17,
+    RETIMER_ENDED = 18,
+    RETIMER_LONG_LINE = 19,
+    RETIMER_NOT_UTF8 = 20,
+    RETIMER_LONG_BLOCK = 21,
+    RETIMER_BAD_TIME = 22,
+    RETIMER_FIRST_LINE = 24,
+    RETIMER_NAMED_TWICE = 25,
+    RETIMER_TOO_MANY_TICKS = 26,
+    RETIMER_NO_PARKED_SESSION = 27,
+    RETIMER_OUT_OF_ORDER = 28,
+    RETIMER_NO_TRIES = 29          /* budget 0, or more than 4096 captions */
+};
+
+/* The warnings of a text, each with the line, counted from 1. */
+enum retimer_warning {
+    RETIMER_UNKNOWN_COLUMN = 1,    /* an ASS caption passes: Start or End is unknown */
+    RETIMER_FEW_FIELDS = 2,        /* an ASS caption passes: it has fewer fields than columns */
+    RETIMER_RELATIVE_TAG = 3,      /* the start was cut, and the caption has a tag that counts from its start */
+    RETIMER_LOST_PART = 4,         /* the end was cut, and a segment later in the list has a part of the caption */
+    RETIMER_TIMES_INSIDE = 5       /* a WebVTT caption has times inside its lines */
+};
+
+/* The kinds of captions. */
+enum retimer_kind { RETIMER_ASS = 0, RETIMER_SRT = 1, RETIMER_VTT = 2 };
+
+/* Which way cuts are moved to sync frames. */
+enum retimer_direction { RETIMER_OUTWARD = 0, RETIMER_INWARD = 1 };
 
 /* Work bytes that are enough for the check of every sheet. */
 #define RETIMER_MOST_WORK 131072
@@ -23,6 +70,43 @@ uint32_t retimer_sheet_check(const uint8_t *sheet, size_t length, uint8_t *work,
 
 /* 0 for a good trim list, or a blank one, which keeps the whole play; else 2 to 7, or 20 for bytes that are not UTF-8. */
 uint32_t retimer_list_check(const uint8_t *list, size_t length);
+
+/* Numbers that are enough for every map: 1024 segments, six to each. */
+#define RETIMER_MAP_NUMBERS 6144
+
+/* The map of a sheet and a trim list. It reads the sheet and the list; direction is outward or inward. The work bytes, as for the check, are for the sheet; at least
+ * RETIMER_MAP_NUMBERS numbers are lent for the map.
+ * 0; 16 where fewer numbers are lent or the direction is neither; then the sheet's numbers (11 to 14, 16, 25, 26); then the list's (2 to 7, 20); then those of its ranges (8 to 10, 26).
+ * With 0 the map is written, six numbers to a segment, and `timescale` and `count` tell the sheet's ticks a second and how many segments there are: the map to
+ * hand on is the first 6 * count numbers. Numbers behind them stay as they were. With any other number the map and both places stay as they were.
+ * Where fewer numbers are lent or the direction is neither, the work bytes stay too; else they are as the check leaves them. */
+uint32_t retimer_map(const uint8_t *sheet, size_t sheet_length, const uint8_t *list, size_t list_length, uint32_t direction, uint8_t *work, size_t work_length,
+                     uint64_t *map, size_t map_numbers, uint32_t *timescale, uint64_t *count);
+
+/* Captions retimed. A session is kept by the caller, between two calls, as RETIMER_SESSION_BYTES bytes, which may be stored and taken up another day; they have no alignment.
+ * A map is 64-bit numbers, six to a segment (below). A piece has at most RETIMER_MOST_PIECE bytes, cut anywhere; for every call at least RETIMER_LEAST_OUTPUT bytes of
+ * output and RETIMER_LEAST_PLACES places for warnings are lent. */
+#define RETIMER_SESSION_BYTES 9216
+#define RETIMER_MOST_PIECE 1024
+#define RETIMER_LEAST_OUTPUT 32768
+#define RETIMER_LEAST_PLACES 4096
+
+/* Opens a session of a kind, with the ticks a second, through the map. 0; 15 for the timescale or the map; 16 for the kind, then where fewer than RETIMER_SESSION_BYTES bytes are
+ * lent. With 0 the session is the first RETIMER_SESSION_BYTES bytes, and those behind stay; else all stay as they were. */
+uint32_t retimer_open(uint32_t kind, uint32_t timescale, const uint64_t *map, size_t map_length, uint8_t *session, size_t session_length);
+
+/* Takes a piece of the text. Refused, nothing is written and all that is lent stays as it was, the two told lengths too: 27 where the session is not
+ * the RETIMER_SESSION_BYTES bytes that a call left, 17 where they name a session that no call leads to, 18 where it has ended, 15 for the map, 16 for a length, or
+ * where more than 2^30 bytes would be taken together.
+ * Else 0, and the retimed text that is complete stands at the start of `out`, the warnings, two numbers to each (which, and the line), at the start of `warnings`;
+ * `written` and `warned` tell how many bytes and how many numbers; bytes and numbers behind them stay. The session is the one to hand to the next call.
+ * 19 to 22 and 24 end the session: what stands before the fault is written and told likewise. */
+uint32_t retimer_feed(uint8_t *session, size_t session_length, const uint64_t *map, size_t map_length, const uint8_t *piece, size_t piece_length, uint8_t *out,
+                      size_t out_length, uint64_t *warnings, size_t places, uint64_t *written, uint64_t *warned);
+
+/* The end of the text: what is held is its last line. The same numbers and the same places as for a piece; with 0 too the session has ended (18 from then on). */
+uint32_t retimer_finish(uint8_t *session, size_t session_length, const uint64_t *map, size_t map_length, uint8_t *out, size_t out_length, uint64_t *warnings,
+                        size_t places, uint64_t *written, uint64_t *warned);
 
 /* Conversions. kind: 0 ASS (hundredths), 1 SRT and 2 WebVTT (thousandths); timescale: ticks a second, 1 to 1000000000.
  * A value of units is at most 2^36, one of ticks at most 2^53. Refused, they return 0; the number says so. */

@@ -14,6 +14,9 @@ from lib import as_bytes, case, place, seal
 # how many of the trim lists are blank (02, 2.4)
 BLANK = 0.05
 
+# how many of the sheets have a thousand frames or more
+LARGE = 0.03
+
 WHITE = [' ', '\t', '\u3000', '\u00a0', '\u2003', '\u0085', '\u1680', '\u205f', '\r', '\u2029']
 
 
@@ -21,6 +24,8 @@ WHITE = [' ', '\t', '\u3000', '\u00a0', '\u2003', '\u0085', '\u1680', '\u205f', 
 def sheet_words(r, n=None):
     if n is None:
         n = r.choice([1, 2, 3, 10, 10, 12, 62, 63, 64, 126, 127, r.randint(1, 40), r.randint(1, 200)])
+        if r.random() < LARGE:  # past the places where sums are kept, at every 1,024th sample
+            n = r.choice([1023, 1024, 1025, 2047, 2048, 2049, 3072, r.randint(1000, 5400), r.randint(1000, 5400)])
     long = r.random() < 0.33
     blocks = 1 + -(-n // (42 if long else 63))
     w = [0] * (128 * blocks)
@@ -30,7 +35,7 @@ def sheet_words(r, n=None):
         w[1] = r.choice([1000000000, 999999999, 1000001, r.randint(1, 1000000000)])
     w[2], w[3], w[4] = n, r.choice([24000, 30000, r.getrandbits(32)]), r.choice([1001, r.getrandbits(32)])
     decode = list(range(n))
-    style = 3 if r.random() < 0.05 else r.choice([0, 1, 2, 4, 5])
+    style = 3 if r.random() < 0.05 else r.choice([0, 1, 2, 4, 5, 6, 7])
     if style == 1:  # frames of a group out of order
         for i in range(0, n - 3, 4):
             decode[i + 1:i + 4] = r.sample(decode[i + 1:i + 4], 3)
@@ -38,12 +43,19 @@ def sheet_words(r, n=None):
         r.shuffle(decode)
     elif style == 3:  # any index below n, so that most are repeated (25)
         decode = [r.randrange(n) for _ in range(n)]
+    elif style == 6:  # turned round
+        decode.reverse()
+    elif style == 7:  # every other stretch changes places with the one as far from the end
+        size = r.choice([1, 2, 7, 64])
+        for i in range(size, n // 2 - size, 2 * size):
+            decode[i:i + size], decode[n - i - size:n - i] = decode[n - i - size:n - i], decode[i:i + size]
     gap = r.choice([1, 2, 3, 3, 5, 8, 15])
-    kind = r.randrange(5)
+    kind = r.randrange(6)
+    only = r.choice([n, 0, n - 1, r.randrange(n)])  # kind 5: one sync frame, or none
     lasting = durations(r, n, w[1]) if long else [1001 if style < 2 else r.choice([0, 1, 1001, 1001, 3003, r.randint(0, 5000), r.getrandbits(32)]) for _ in range(n)]
     for i in range(n):
         at = place(i, long)
-        sync = (i % gap == 0) if kind < 3 else r.random() < (0.3 if kind == 3 else 0.03)
+        sync = (i % gap == 0) if kind < 3 else i == only if kind == 5 else r.random() < (0.3 if kind == 3 else 0.03)
         w[at] = decode[i] | (1 << 31 if sync else 0)
         w[at + 1] = lasting[i] & 0xFFFFFFFF
         if long:
@@ -157,6 +169,8 @@ def trim_list(r, n=None, damaged=0.4):
     if r.random() < BLANK:
         return blank_list(r)
     k = r.choice([1, 1, 2, 2, 3, 4, 6, r.randint(1, 12)])
+    if n is not None and n > 1000:
+        k = r.choice([k, r.randint(1, 60)])
     top = n if n is not None else r.choice([20, 1000, 4294967295])
     # mostly ascending ranges inside the sheet, so that maps are built too
     cuts = sorted(r.sample(range(top + 2), min(2 * k, top + 2)))

@@ -2,12 +2,14 @@
 //! returns on every input, and writes nothing but what is lent to it for that.
 
 mod delays;
+mod retiming;
 mod rough;
 mod starts;
 mod stored;
 mod why;
 
 pub use delays::{best_delay, BestDelay};
+pub use retiming::{retime, Direction, Map, Session, Stopped, Warning, Written, LEAST_OUTPUT, LEAST_PLACES, MAP_NUMBERS, MOST_PIECE, SESSION_BYTES};
 pub use rough::{rough, Judgement};
 pub use starts::{count_starts, Starts};
 pub use stored::{read_map, write_map, StoredMap, MOST_NUMBERS, MOST_PATH, MOST_TEXT};
@@ -102,6 +104,7 @@ pub fn ticks_to_units_ceil(ticks: u64, timescale: u32, kind: Kind) -> Result<u64
 /// The C functions as they are, for callers that pass any number as a kind.
 pub mod raw {
     pub use crate::delays::flat_delay;
+    pub use crate::retiming::{feed, finish, map_of, open};
     pub use crate::starts::census;
     pub use crate::stored::{raw_read as map_read, raw_write as map_write};
 

@@ -69,10 +69,10 @@ pub fn word(s: &[u64], k: usize) -> u64
 pub fn words_front(s: &[u64], n: usize) -> &[u64]
     ensures { λ r. ⌜ now r ≡ take n (now (s .entry)) ⌝ }
 {
-    if n <= s.len() {
-        return &s[..n];
+    if s.len() < n {
+        return s;
     }
-    s
+    &s[..n]
 }
 
 // The words from `a` on, none where `a` is past the end.

@@ -1,4 +1,6 @@
 -- Laws of the C functions.
 pub mod Judgement
+pub mod Call
+pub mod Mapped
 pub mod Reason
 pub mod MapTexts

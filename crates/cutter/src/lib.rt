@@ -1,12 +1,18 @@
 // The C functions for the Rust cutter: thin wrappers with the contracts of what they call. include/retimer.h declares them.
 mod delays;
 mod judging;
+mod keeping;
+mod mapping;
 mod starts;
 mod stored;
 mod telling;
 
 pub use delays::retimer_best_delay;
 pub use judging::retimer_rough;
+pub use keeping::retimer_feed;
+pub use keeping::retimer_finish;
+pub use keeping::retimer_open;
+pub use mapping::retimer_map;
 pub use starts::retimer_census;
 pub use stored::retimer_map_read;
 pub use stored::retimer_map_write;

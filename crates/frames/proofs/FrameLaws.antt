@@ -37,13 +37,16 @@ pub word-short : (i : ℕ) (t : Bool) → t ≡ false → 129 + 2 * (i / 63 + i)
 unfolding recordWord
 word-short i t e = rw e (omega arith)
 
-pub duration-short : (s : List ℕ) (i w x : ℕ) (t : Bool) → t ≡ longOf s → t ≡ false → w ≡ recordWord false i → x ≡ wordAt s (w + 1) → x ≡ durationOf s i
-unfolding durationOf
-duration-short s i w x t et f ew ex = rw (ex, ew, ← et, f)
+-- a duration, in one word or in two: t the layout
+pub duration-short : (s : List ℕ) (i w x : ℕ) (t : Bool) → t ≡ false → w ≡ recordWord false i → x ≡ wordAt s (w + 1) → x ≡ durationIn t s (recordWord t i)
+duration-short s i w x t f ew ex = rw (ex, ew, f)
 
 pub duration-two : (s : List ℕ) (i w x y : ℕ) → w ≡ recordWord true i → x ≡ wordAt s (w + 1) → y ≡ wordAt s (w + 2) → x + 4294967296 * y ≡ durationIn true s (recordWord true i)
 duration-two s i w x y ew ex ey = rw (ex, ey, ew)
 
-pub duration-long : (s : List ℕ) (i d : ℕ) (t : Bool) → t ≡ longOf s → t ≡ true → d ≡ durationIn true s (recordWord true i) → d ≡ durationOf s i
+pub duration-long : (s : List ℕ) (i d : ℕ) (t : Bool) → t ≡ true → d ≡ durationIn true s (recordWord true i) → d ≡ durationIn t s (recordWord t i)
+duration-long s i d t f ed = ed ∙ rw f
+
+pub duration-is : (s : List ℕ) (i d : ℕ) (t : Bool) → t ≡ longOf s → d ≡ durationIn t s (recordWord t i) → d ≡ durationOf s i
 unfolding durationOf
-duration-long s i d t et f ed = ed ∙ rw (← et, f)
+duration-is s i d t et ed = ed ∙ rw et

@@ -91,13 +91,20 @@ fn long_duration(s: &[u8], i: u32) -> u64
     low + 4294967296 * (blocks::word(s, w + 2) as u64)
 }
 
-// The duration in ticks of a sample, by its decode index.
-pub fn duration_at(s: &[u8], i: DecodeIdx) -> u64
-    ensures { λ r. ⌜ r ≡ durationOf (now (s .entry)) (i .0) ⌝ }
+// The duration of a sample, by a layout that is told: for a pass over many samples.
+pub fn duration_by(s: &[u8], long: bool, i: DecodeIdx) -> u64
+    ensures { λ r. ⌜ r ≡ durationIn long (now (s .entry)) (recordWord long (i .0)) ⌝ }
 {
-    if long(s) {
+    if long {
         return long_duration(s, i.0);
     }
     let w = record_word(false, i.0);
     blocks::word(s, w + 1) as u64
+}
+
+// The duration in ticks of a sample, by its decode index.
+pub fn duration_at(s: &[u8], i: DecodeIdx) -> u64
+    ensures { λ r. ⌜ r ≡ durationOf (now (s .entry)) (i .0) ⌝ }
+{
+    duration_by(s, long(s), i)
 }

@@ -5,6 +5,7 @@ pub use access::decode_at;
 pub use access::decode_by;
 pub use access::decode_in;
 pub use access::duration_at;
+pub use access::duration_by;
 pub use access::frames;
 pub use access::long;
 pub use access::rate_den;

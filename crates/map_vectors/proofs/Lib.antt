@@ -1,3 +1,3 @@
-pub mod Stretches
+pub mod Segments
 pub mod BlankList
 pub mod StillMaps

@@ -28,6 +28,14 @@ pub record Parks (s : Session) (number : ℕ) (out out′ : List ℕ) : Type 0 w
   pub answer : number ≡ parkNumber s (length out)
   pub bytes : out′ ≡ put (whenDone number (parkedOf 2 s)) out
 
+-- the same of any session, where 17 is not asked: 16, or the 18 blocks. A foreign one is told by 17 (or 27) when it is taken up
+abbrev pub keepNumber : (lent : ℕ) → ℕ
+keepNumber lent = faultUnless (leb sealedLength lent) 16
+
+pub record Stores (s : Session) (number : ℕ) (out out′ : List ℕ) : Type 0 where
+  pub answer : number ≡ keepNumber (length out)
+  pub bytes : out′ ≡ put (whenDone number (parkedOf 2 s)) out
+
 -- take up: 27, then 17; refused, what a refused open returns
 unfoldable pub takeNumber : List ℕ → ℕ
 takeNumber b = faultUnless (isParked b) 27 orElse faultUnless (not (foreignOf (sessionIn b))) 17

@@ -3,6 +3,7 @@ mod reading;
 mod storing;
 mod taking;
 
+pub use storing::keep;
 pub use storing::park;
 pub use taking::TakenUp;
 pub use taking::take_up;

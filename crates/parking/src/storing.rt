@@ -5,10 +5,9 @@ ghost use mathlib.Core.Bool.{true, false, cond};
 ghost use Prim.Native.Nat.{_%_, _^_, _≤_};
 ghost use lib.ListN.{length};
 ghost use Rattle.base.specs.Put.{put};
-ghost use Rattle.foreign.specs.View.{foreignOf};
 ghost use Rattle.parking.specs.Parked.{flag, headWords, parkedOf};
 ghost use Rattle.sealing.specs.Sealed.{sealedLength, wordsBytes};
-ghost use Rattle.parking.specs.Answer.{parkNumber, Parks};
+ghost use Rattle.parking.specs.Answer.{parkNumber, Parks, Stores};
 
 // The mark of a house that warns of lost parts by request 2.7's rule.
 const MARK: u32 = 2;
@@ -32,8 +31,8 @@ fn low_word(n: usize) -> u32
 
 // Words 1 to 16 of a session that is going on.
 fn live_words(session: Session) -> [u32; 16]
-    requires { ⌜ (foreignOf session ≡ false) × (session .ended ≡ false) ⌝ }
-    ensures { λ r. ⌜ r ≡ headWords 2 session ⌝ }
+    requires { ⌜ session .ended ≡ false ⌝ }
+    ensures { λ r. ⌜ wordsBytes r ≡ wordsBytes (headWords 2 session) ⌝ }
 {
     let config = session.config;
     let counts = session.counts;
@@ -90,10 +89,9 @@ fn ended_words(session: Session) -> [u32; 16]
     ]
 }
 
-// Words 1 to 16.
+// Words 1 to 16, as their bytes tell them: of a number above 32 bits, which only a foreign session has, the low ones.
 fn head_words(session: Session) -> [u32; 16]
-    requires { ⌜ foreignOf session ≡ false ⌝ }
-    ensures { λ r. ⌜ r ≡ headWords 2 session ⌝ }
+    ensures { λ r. ⌜ wordsBytes r ≡ wordsBytes (headWords 2 session) ⌝ }
 {
     if session.ended {
         return ended_words(session);
@@ -126,7 +124,6 @@ fn kept_length(session: Session) -> usize
 
 // The bytes of words 1 to 16.
 fn head_bytes(session: Session) -> [u8; 64]
-    requires { ⌜ foreignOf session ≡ false ⌝ }
     ensures { λ r. ⌜ r ≡ wordsBytes (headWords 2 session) ⌝ }
 {
     sealing::words_bytes(head_words(session))
@@ -134,13 +131,24 @@ fn head_bytes(session: Session) -> [u8; 64]
 
 // The 18 blocks, at the start.
 fn store(session: Session, out: &mut [u8])
-    requires { ⌜ (foreignOf session ≡ false) × (sealedLength ≤ length (now out)) ⌝ }
+    requires { ⌜ sealedLength ≤ length (now out) ⌝ }
     ensures { λ _. ⌜ now (out .exit) ≡ put (parkedOf 2 session) (now (out .entry)) ⌝ }
 {
     let head = head_bytes(session);
     let n = kept_length(session);
     let held = session.held;
     sealing::seal(out, &head, base::front(&held, n));
+}
+
+// Stores any session so, a foreign one too: 16 where fewer than 9,216 bytes are lent, else 0.
+pub fn keep(session: Session, out: &mut [u8]) -> u32
+    ensures { λ r. ⌜ Stores session r (now (out .entry)) (now (out .exit)) ⌝ }
+{
+    if out.len() < 9216 {
+        return 16;
+    }
+    store(session, out);
+    0
 }
 
 // Stores the session as 18 blocks at the start of `out`, with mark 2.

@@ -2,3 +2,4 @@ pub mod SyncLaws
 pub mod PairLaws
 pub mod SnapLaws
 pub mod SnapMeaning
+pub mod KnownLaws

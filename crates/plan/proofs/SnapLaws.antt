@@ -13,27 +13,34 @@ use Rattle.plan.specs.Snap.{floorSync, ceilSync, snapStart, snapEnd, sna
 use Rattle.plan.proofs.PairLaws.{leftOf, pairs-start, left-cut, left-short, pairs-done, left-stored, left-same}
 
 -- ---- the two directions: r is what the search found
-pub start-out : (s : List ℕ) (n d a r : ℕ) → r ≡ floorSync s n a → d ≡ 0 → r ≡ snapStart s n d a
+start-out : (s : List ℕ) (n d a r : ℕ) → r ≡ floorSync s n a → d ≡ 0 → r ≡ snapStart s n d a
 unfolding snapStart
 start-out s n d a r q e = rw e q
 
-pub start-in : (s : List ℕ) (n d a r : ℕ) → r ≡ ceilSync s n a → (d ≡ 0 → ⊥) → r ≡ snapStart s n d a
+start-in : (s : List ℕ) (n d a r : ℕ) → r ≡ ceilSync s n a → (d ≡ 0 → ⊥) → r ≡ snapStart s n d a
 unfolding snapStart
 start-in s n zero a r q h = absurd (h refl)
 start-in s n (suc d) a r q h = q
 
-pub end-out : (s : List ℕ) (n d a r : ℕ) → r ≡ ceilSync s n a → d ≡ 0 → r ≡ snapEnd s n d a
+end-out : (s : List ℕ) (n d a r : ℕ) → r ≡ ceilSync s n a → d ≡ 0 → r ≡ snapEnd s n d a
 unfolding snapEnd
 end-out s n d a r q e = rw e q
 
-pub end-in : (s : List ℕ) (n d a r : ℕ) → r ≡ floorSync s n a → (d ≡ 0 → ⊥) → r ≡ snapEnd s n d a
+end-in : (s : List ℕ) (n d a r : ℕ) → r ≡ floorSync s n a → (d ≡ 0 → ⊥) → r ≡ snapEnd s n d a
 unfolding snapEnd
 end-in s n zero a r q h = absurd (h refl)
 end-in s n (suc d) a r q h = q
 
--- both ends of a range stored
-pub stored-both : (l : List ℕ) (at a b x y : ℕ) → a ≡ x → b ≡ y → set (set l at a) (at + 1) b ≡ set (set l at x) (at + 1) y
-stored-both l at a b x y p q = rw (p, q)
+-- both ends of a range stored: a is what was found for its start x, b for its end y
+module _ (l : List ℕ) (at : ℕ) (s : List ℕ) (n d x y a b : ℕ) where
+  stored-both : a ≡ snapStart s n d x → b ≡ snapEnd s n d y → set (set l at a) (at + 1) b ≡ set (set l at (snapStart s n d x)) (at + 1) (snapEnd s n d y)
+  stored-both p q = rw (p, q)
+
+  pub stored-out : a ≡ floorSync s n x → b ≡ ceilSync s n y → d ≡ 0 → set (set l at a) (at + 1) b ≡ set (set l at (snapStart s n d x)) (at + 1) (snapEnd s n d y)
+  stored-out p q e = stored-both (start-out s n d x a p e) (end-out s n d y b q e)
+
+  pub stored-in : a ≡ ceilSync s n x → b ≡ floorSync s n y → (d ≡ 0 → ⊥) → set (set l at a) (at + 1) b ≡ set (set l at (snapStart s n d x)) (at + 1) (snapEnd s n d y)
+  stored-in p q h = stored-both (start-in s n d x a p h) (end-in s n d y b q h)
 
 -- ---- a list of ranges
 module _ (s : List ℕ) (n d : ℕ) where

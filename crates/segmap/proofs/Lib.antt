@@ -1,4 +1,5 @@
 pub mod TicksLaws
+pub mod MarkLaws
 pub mod BuildLaws
 pub mod KeptLaws
 pub mod MapLaws

@@ -1,16 +1,15 @@
 -- Laws of the sums that are carried from range to range.
 use mathlib.Core.Path.{_≡_, sym, ap, _∙_}
+use mathlib.Core.Bool.{Bool}
 use mathlib.Core.List.{List}
 use Prim.Native.Nat.{ℕ, _+_, _-_, _^_, _≤_, _<_}
 use native.Mathlib.Omega.{arith}
 use Rattle.base.specs.Limits.{mostTicks}
-use Rattle.frames.specs.Frames.{decodeOf, durationOf, ticksFrom}
-use Rattle.frames.proofs.TicksLaws.{ticks-none, ticks-next, ticks-split, ticks-more}
+use Rattle.frames.specs.Frames.{longOf, recordWord, decodeOf, durationIn, ticksFrom}
+use Rattle.frames.proofs.FrameLaws.{duration-is}
+use Rattle.frames.proofs.TicksLaws.{ticks-next, ticks-split, ticks-more}
 
--- the sum of no sample; the same place told in two ways; the last sample added
-pub ticks-start : (s : List ℕ) (i t : ℕ) → i ≡ 0 → t ≡ 0 → t ≡ ticksFrom s 0 i
-ticks-start s i t e f = f ∙ sym (ticks-none s 0 i e)
-
+-- the same place told in two ways; the last sample added
 pub ticks-moved : (s : List ℕ) (i j t : ℕ) → i ≡ j → t ≡ ticksFrom s 0 j → t ≡ ticksFrom s 0 i
 ticks-moved s i j t e f = f ∙ sym (ap (ticksFrom s 0) e)
 
@@ -23,9 +22,13 @@ pub ticks-order : (s : List ℕ) (x k p q : ℕ) → p ≡ ticksFrom s 0 x → q
 ticks-order s x k p q e f = omega (arith, ticks-split s x k)
 
 -- ---- sums within the tick limit
--- one sample more does not overflow
-pub ticks-fit : (s : List ℕ) (i e t d : ℕ) → i < e → ticksFrom s 0 e ≤ mostTicks → t ≡ ticksFrom s 0 i → d ≡ durationOf s i → t + d < 2 ^ 64
-ticks-fit s i e t d h m p q = omega (arith, ticks-next s i t d p q, ticks-more s (i + 1) e (omega arith))
+-- one sample more, of duration d in the layout u, does not overflow, and is the next sum
+module _ (s : List ℕ) (i t d : ℕ) (u : Bool) (eu : u ≡ longOf s) (p : t ≡ ticksFrom s 0 i) (q : d ≡ durationIn u s (recordWord u i)) where
+  pub sample-next : t + d ≡ ticksFrom s 0 (i + 1)
+  sample-next = ticks-next s i t d p (duration-is s i d u eu q)
+
+  pub sample-fits : (e : ℕ) → i < e → ticksFrom s 0 e ≤ mostTicks → t + d < 2 ^ 64
+  sample-fits e h m = omega (arith, sample-next, ticks-more s (i + 1) e (omega arith))
 
 -- those before a place are, where those up to a later one are
 pub ticks-before : (s : List ℕ) (i k : ℕ) → ticksFrom s 0 (i + k) ≤ mostTicks → ticksFrom s 0 i ≤ mostTicks
@@ -37,10 +40,5 @@ sum-before s a e x h ex = omega (arith, ticks-before s (decodeOf s a) (e - a) h,
 
 pub sum-upto : (s : List ℕ) (a e k x : ℕ) → ticksFrom s 0 (decodeOf s a + (e - a)) ≤ mostTicks → k ≡ e - a → x ≡ decodeOf s a → ticksFrom s 0 (x + k) ≤ mostTicks
 sum-upto s a e k x h ek ex =
-    let j : x + k ≡ decodeOf s a + (e - a) = omega arith in
-    omega (arith, ap (ticksFrom s 0) j)
-
-pub ticks-between : (s : List ℕ) (a e k x p q : ℕ) → ticksFrom s 0 (decodeOf s a + (e - a)) ≤ mostTicks → k ≡ e - a → x ≡ decodeOf s a → q ≡ ticksFrom s 0 (x + k) → q - p ≤ mostTicks
-ticks-between s a e k x p q h ek ex eq =
     let j : x + k ≡ decodeOf s a + (e - a) = omega arith in
     omega (arith, ap (ticksFrom s 0) j)

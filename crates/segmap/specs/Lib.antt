@@ -1,3 +1,4 @@
 -- The segment map.
 pub mod Build
 pub mod Map
+pub mod Marks

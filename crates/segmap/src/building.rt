@@ -13,6 +13,7 @@ ghost use Rattle.base.specs.Limits.{mostFrames, mostTicks, mostSegments};
 ghost use Rattle.base.specs.Put.{put};
 ghost use Rattle.frames.specs.Frames.{decodeOf, ticksFrom};
 ghost use Rattle.segment.specs.Segment.{numbersOf, flatOf};
+ghost use Rattle.segmap.specs.Marks.{Carried};
 ghost use Rattle.segmap.specs.Build.{keptTicks, rangesFault, segmentIn, segmentsIn};
 
 // A segment, and how far the sum has come with it.
@@ -22,17 +23,24 @@ struct Step {
 }
 
 // The segment of the range `start` to `end`, whose output starts at `output`.
-fn segment_of(s: &[u8], from: Reached, start: DisplayIdx, end: DisplayIdx, output: u64) -> Step
-    requires { ⌜ from .ticks ≡ ticksFrom (now s) 0 (from .decode .0) ⌝ }
+fn segment_of(
+    s: &[u8],
+    from: Reached,
+    start: DisplayIdx,
+    end: DisplayIdx,
+    output: u64,
+    marks: &mut [u64],
+) -> Step
+    requires { ⌜ Carried (now s) (from .decode .0) (from .ticks) (now marks) ⌝ }
     requires { ⌜ (start .0 ≤ end .0) × (decodeOf (now s) (start .0) + (end .0 - start .0) ≤ mostFrames) ⌝ }
     requires { ⌜ ticksFrom (now s) 0 (decodeOf (now s) (start .0) + (end .0 - start .0)) ≤ mostTicks ⌝ }
     ensures { λ r. ⌜ (r .segment ≡ segmentIn (now (s .entry)) output (start .0) (end .0)) × (r .segment .duration ≤ mostTicks) ⌝ }
-    ensures { λ r. ⌜ r .reached .ticks ≡ ticksFrom (now (s .entry)) 0 (r .reached .decode .0) ⌝ }
+    ensures { λ r. ⌜ Carried (now (s .entry)) (r .reached .decode .0) (r .reached .ticks) (now (marks .exit)) ⌝ }
 {
     let count = order::frame_count(start, end);
     let decode = frames::decode_at(s, start);
-    let first = reach(s, from, decode);
-    let last = reach(s, first, DecodeIdx(decode.0 + count));
+    let first = reach(s, from, decode, marks);
+    let last = reach(s, first.far, DecodeIdx(decode.0 + count), marks);
     let segment = Segment {
         source_start_frame: start.0,
         source_end_frame: end.0,
@@ -41,10 +49,8 @@ fn segment_of(s: &[u8], from: Reached, start: DisplayIdx, end: DisplayIdx, outpu
         output_start: output,
         duration: last.ticks - first.ticks,
     };
-    Step {
-        segment,
-        reached: last,
-    }
+    let reached = last.far;
+    Step { segment, reached }
 }
 
 // Writes the six numbers of a segment from the place `at` on.
@@ -60,27 +66,61 @@ fn store(map: &mut [u64], at: usize, t: Segment)
     map[at + 5] = t.duration;
 }
 
-// Writes the segments of the first `count` ranges, which have no fault, and answers their durations together.
-pub fn build(s: &[u8], n: u32, ranges: &[u32], count: usize, map: &mut [u64]) -> u64
+// Makes the segment of a range and writes it from the place `at` on.
+fn place(
+    s: &[u8],
+    from: Reached,
+    start: DisplayIdx,
+    end: DisplayIdx,
+    output: u64,
+    marks: &mut [u64],
+    map: &mut [u64],
+    at: usize,
+) -> Step
+    requires { ⌜ Carried (now s) (from .decode .0) (from .ticks) (now marks) × (at + 6 ≤ length (now map)) ⌝ }
+    requires { ⌜ (start .0 ≤ end .0) × (decodeOf (now s) (start .0) + (end .0 - start .0) ≤ mostFrames) ⌝ }
+    requires { ⌜ ticksFrom (now s) 0 (decodeOf (now s) (start .0) + (end .0 - start .0)) ≤ mostTicks ⌝ }
+    ensures { λ r. ⌜ (r .segment ≡ segmentIn (now (s .entry)) output (start .0) (end .0)) × (r .segment .duration ≤ mostTicks) ⌝ }
+    ensures { λ r. ⌜ Carried (now (s .entry)) (r .reached .decode .0) (r .reached .ticks) (now (marks .exit)) ⌝ }
+    ensures { λ r. ⌜ now (map .exit) ≡ sets (now (map .entry)) at (numbersOf (r .segment)) ⌝ }
+{
+    let step = segment_of(s, from, start, end, output, marks);
+    let segment = step.segment;
+    store(map, at, segment);
+    step
+}
+
+// Writes the segments of the first `count` ranges, which have no fault, and answers their durations together. The marks are for the sums.
+pub fn build(
+    s: &[u8],
+    n: u32,
+    ranges: &[u32],
+    count: usize,
+    marks: &mut [u64],
+    map: &mut [u64],
+) -> u64
+    requires { ⌜ length (now marks) ≡ 1025 ⌝ }
     requires { ⌜ (n ≤ mostFrames) × (ticksFrom (now s) 0 n ≤ mostTicks) × (count ≤ mostSegments) × (2 * count ≤ length (now ranges)) × (6 * count ≤ length (now map)) ⌝ }
     requires { ⌜ rangesFault (now s) n (take (2 * count) (now ranges)) ≡ 0 ⌝ }
     ensures { λ r. ⌜ r ≡ keptTicks (now (s .entry)) (take (2 * count) (now (ranges .entry))) ⌝ }
     ensures { λ _. ⌜ now (map .exit) ≡ put (flatOf (segmentsIn (now (s .entry)) 0 (take (2 * count) (now (ranges .entry))))) (now (map .entry)) ⌝ }
 {
-    let mut from = at_first();
+    let mut from = at_first(s, marks);
     let mut output: u64 = 0;
     let mut i: usize = 0;
     while i < count {
         let at = 2 * i;
-        let step = segment_of(
+        let step = place(
             s,
             from,
             DisplayIdx(ranges[at]),
             DisplayIdx(ranges[at + 1]),
             output,
+            marks,
+            map,
+            6 * i,
         );
         let segment = step.segment;
-        store(map, 6 * i, segment);
         output += segment.duration;
         let reached = step.reached;
         from = reached;

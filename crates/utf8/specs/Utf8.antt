@@ -1,5 +1,4 @@
 -- UTF-8 as RFC 3629 defines it (section 4), on lists of bytes. A byte past the end of a list is read as 0, which is no continuation byte.
---
 use Prim.Native.Nat.{ℕ, zero, suc, _+_, _*_, _%_}
 use mathlib.Core.Bool.{Bool, true, false}
 use mathlib.Core.List.{List, [], _∷_}

@@ -10,7 +10,7 @@ returns : tie.Need-returns
 returns c = search park-refused
 
 store-requires : tie.Need-store-requires
-store-requires c κs = park-passed _ (c .before .before .before .before .args .out .now) _ (c .before .before .park-refusal .ensures) (c .before .if1 .left)
+store-requires c κs = park-passed _ (c .before .before .before .before .args .out .now) _ (c .before .before .park-refusal .ensures) (c .before .if1 .left) .1
 
 same-length : tie.Need-same-length
 same-length c = search needs

@@ -3,18 +3,26 @@ use Prim.Native.Nat.{_-_, _*_, _≤_}
 use mathlib.Core.Path.{_≡_, refl}
 use lib.ListN.{length}
 use Rattle.plan.proofs.SnapLaws.{Snapping, snapping-start, snapping-short, snapping-done, snapping-next}
+use Rattle.plan.specs.Snap.{floorSync, ceilSync}
+use Rattle.plan.proofs.KnownLaws.{floor-of-first, ceil-of-end}
 use borrow.Author.Needs.{needs}
 use Rattle.plan.proofs.moves.snap.Statement.{statement}
 use Rattle.plan.proofs.moves.snap.Tie as tie
 
 abbrev Inv-loop : tie.InvT-loop
-Inv-loop s n direction ranges₀ count i₀ ranges i = (i ≤ count) × (2 * i ≤ length ranges) × (length ranges ≡ length ranges₀) × Snapping s n direction ranges₀ ranges count i
+Inv-loop s n direction ranges₀ count found₀ i₀ ranges found i = (found .low .sync .0 ≡ floorSync s n (found .low .at .0)) × (found .high .sync .0 ≡ ceilSync s n (found .high .at .0)) × (i ≤ count) × (2 * i ≤ length ranges) × (length ranges ≡ length ranges₀) × Snapping s n direction ranges₀ ranges count i
 
 abbrev μ-loop : tie.MeasureT-loop
-μ-loop s n direction ranges₀ count i₀ ranges i = count - i
+μ-loop s n direction ranges₀ count found₀ i₀ ranges found i = count - i
+
+floor-first-requires : tie.Need-floor-first-requires Inv-loop μ-loop
+floor-first-requires c κs = search needs
+
+ceil-first-requires : tie.Need-ceil-first-requires Inv-loop μ-loop
+ceil-first-requires c κs = search needs
 
 loop-holds : tie.Need-loop-holds Inv-loop μ-loop
-loop-holds c = (search needs, search needs, refl, snapping-start _ _ _ _ _)
+loop-holds c = (search floor-of-first, search ceil-of-end, search needs, search needs, refl, snapping-start _ _ _ _ _)
 
 mul-at : tie.Need-mul-at Inv-loop μ-loop
 mul-at c = search needs
@@ -38,7 +46,7 @@ loop-less : tie.Need-loop-less Inv-loop μ-loop
 loop-less c = search needs
 
 loop-again : tie.Need-loop-again Inv-loop μ-loop
-loop-again c = (search needs, omega arith, search needs, search snapping-next)
+loop-again c = (search needs, search needs, search needs, omega arith, search needs, search snapping-next)
 
 same-length-2 : tie.Need-same-length-2 Inv-loop μ-loop
 same-length-2 c = search needs
@@ -52,6 +60,8 @@ snap-spec =
     (tie.spec
     Inv-loop
     μ-loop
+    floor-first-requires
+    ceil-first-requires
     loop-holds
     mul-at
     sub-if1

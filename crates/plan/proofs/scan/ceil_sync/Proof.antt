@@ -1,48 +1,16 @@
+use Rattle.plan.proofs.KnownLaws.{ceil-kept}
 use borrow.Author.Needs.{needs}
-use Prim.Native.Nat.{_-_}
-use mathlib.Core.Path.{_≡_, refl}
-use Rattle.plan.specs.Snap.{ceilSync}
-use Rattle.plan.proofs.SyncLaws.{ceil-found, ceil-again, ceil-last}
 use Rattle.plan.proofs.scan.ceil_sync.Statement.{statement}
 use Rattle.plan.proofs.scan.ceil_sync.Tie as tie
 
-abbrev Inv-loop : tie.InvT-loop
-Inv-loop s n i₀ i = ceilSync s n (i .0) ≡ ceilSync s n (i₀ .0)
+returns : tie.Need-returns
+returns c = (search needs, search ceil-kept)
 
-abbrev μ-loop : tie.MeasureT-loop
-μ-loop s n i₀ i = n - i .0
+ceil-from-requires : tie.Need-ceil-from-requires
+ceil-from-requires c κs = search needs
 
-loop-holds : tie.Need-loop-holds Inv-loop μ-loop
-loop-holds c = refl
-
-sync-at-requires : tie.Need-sync-at-requires Inv-loop μ-loop
-sync-at-requires c κs = search needs
-
-returns : tie.Need-returns Inv-loop μ-loop
-returns c = search ceil-found
-
-add-t7 : tie.Need-add-t7 Inv-loop μ-loop
-add-t7 c = search needs
-
-loop-less : tie.Need-loop-less Inv-loop μ-loop
-loop-less c = search needs
-
-loop-again : tie.Need-loop-again Inv-loop μ-loop
-loop-again c = search ceil-again
-
-returns-2 : tie.Need-returns-2 Inv-loop μ-loop
-returns-2 c = search ceil-last
+returns-2 : tie.Need-returns-2
+returns-2 c = search needs
 
 pub ceil-sync-spec : {M : Type 1} → statement M
-ceil-sync-spec =
-    tie.close
-    (tie.spec
-    Inv-loop
-    μ-loop
-    loop-holds
-    sync-at-requires
-    returns
-    add-t7
-    loop-less
-    loop-again
-    returns-2)
+ceil-sync-spec = tie.close (tie.spec returns ceil-from-requires returns-2)

@@ -1,56 +1,51 @@
-use Rattle.segmap.proofs.BuildLaws.{testing-zero}
 use native.Mathlib.Omega.{arith}
 use mathlib.Core.Path.{_≡_, refl}
 use Prim.Native.Nat.{_-_, _*_, _≤_}
 use lib.ListN.{length}
-use Rattle.base.specs.Limits.{mostTicks}
+use Rattle.base.specs.Limits.{mostTicks, mostSegments}
 use Rattle.plan.proofs.PairLaws.{leftOf}
-use Rattle.frames.specs.Frames.{ticksFrom}
 use Rattle.segmap.specs.Build.{rangesFault}
-use Rattle.segmap.proofs.TicksLaws.{ticks-start}
-use Rattle.segmap.proofs.BuildLaws.{Building, building-start, building-next, building-done, Adding, adding-start, adding-next, adding-done, free-next, free-ordered, free-within, free-summed}
+use Rattle.segmap.specs.Marks.{Carried}
+use Rattle.segmap.proofs.BuildLaws.{testing-zero, Building, building-start, building-next, building-done, Adding, adding-start, adding-next, adding-done, free-next, free-ordered, free-within, free-summed}
 use borrow.Author.Needs.{needs}
 use Rattle.segmap.proofs.building.build.Statement.{statement}
 use Rattle.segmap.proofs.building.build.Tie as tie
 
 abbrev Inv-loop : tie.InvT-loop
-Inv-loop s n ranges count map₀ from₀ output₀ i₀ map from output i = (i ≤ count) × (length map ≡ length map₀) × (from .ticks ≡ ticksFrom s 0 (from .decode .0)) × (output ≤ mostTicks * i) × Adding s ranges count i output × (rangesFault s n (leftOf ranges count i) ≡ 0) × Building s ranges count map₀ map i output
+Inv-loop s n ranges count marks₀ map₀ from₀ output₀ i₀ marks map from output i = (i ≤ count) × (length map ≡ length map₀) × (count ≤ mostSegments) × (2 * count ≤ length ranges) × (6 * count ≤ length map₀) × Carried s (from .decode .0) (from .ticks) marks × (output ≤ mostTicks * i) × Adding s ranges count i output × (rangesFault s n (leftOf ranges count i) ≡ 0) × Building s ranges count map₀ map i output
 
 abbrev μ-loop : tie.MeasureT-loop
-μ-loop s n ranges count map₀ from₀ output₀ i₀ map from output i = count - i
+μ-loop s n ranges count marks₀ map₀ from₀ output₀ i₀ marks map from output i = count - i
 
 at-first-requires : tie.Need-at-first-requires Inv-loop μ-loop
 at-first-requires c κs = search needs
 
 loop-holds : tie.Need-loop-holds Inv-loop μ-loop
-loop-holds c = (search needs, refl, search ticks-start, search needs, adding-start _ _ _, search testing-zero, building-start _ _ _ _)
+loop-holds c = (search needs, refl, search needs, search needs, search needs, search needs, search needs, adding-start _ _ _, search testing-zero, building-start _ _ _ _)
 
 mul-at : tie.Need-mul-at Inv-loop μ-loop
 mul-at c = search needs
 
-mul-t14 : tie.Need-mul-t14 Inv-loop μ-loop
-mul-t14 c = search needs
+mul-t17 : tie.Need-mul-t17 Inv-loop μ-loop
+mul-t17 c = search needs
 
-shared-slice-read-t16 : tie.Need-shared-slice-read-t16 Inv-loop μ-loop
-shared-slice-read-t16 c = search needs
+shared-slice-read-t19 : tie.Need-shared-slice-read-t19 Inv-loop μ-loop
+shared-slice-read-t19 c = search needs
 
-add-t18 : tie.Need-add-t18 Inv-loop μ-loop
-add-t18 c = search needs
+add-t21 : tie.Need-add-t21 Inv-loop μ-loop
+add-t21 c = search needs
 
-mul-t19 : tie.Need-mul-t19 Inv-loop μ-loop
-mul-t19 c = search needs
+mul-t22 : tie.Need-mul-t22 Inv-loop μ-loop
+mul-t22 c = search needs
 
-shared-slice-read-t21 : tie.Need-shared-slice-read-t21 Inv-loop μ-loop
-shared-slice-read-t21 c = search needs
+shared-slice-read-t24 : tie.Need-shared-slice-read-t24 Inv-loop μ-loop
+shared-slice-read-t24 c = search needs
 
-segment-of-requires : tie.Need-segment-of-requires Inv-loop μ-loop
-segment-of-requires c κs = (search needs, ((search free-ordered, search free-within), search free-summed))
+mul-place : tie.Need-mul-place Inv-loop μ-loop
+mul-place c = search needs
 
-mul-store : tie.Need-mul-store Inv-loop μ-loop
-mul-store c = search needs
-
-store-requires : tie.Need-store-requires Inv-loop μ-loop
-store-requires c κs = search needs
+place-requires : tie.Need-place-requires Inv-loop μ-loop
+place-requires c κs = ((search needs, omega arith), ((search free-ordered, search free-within), search free-summed))
 
 add-output : tie.Need-add-output Inv-loop μ-loop
 add-output c = search needs
@@ -62,10 +57,13 @@ loop-less : tie.Need-loop-less Inv-loop μ-loop
 loop-less c = search needs
 
 loop-again : tie.Need-loop-again Inv-loop μ-loop
-loop-again c = (omega arith, search needs, search needs, omega arith, search adding-next, search free-next, search building-next)
+loop-again c = (omega arith, search needs, search needs, search needs, search needs, search needs, omega arith, search adding-next, search free-next, search building-next)
 
 same-length : tie.Need-same-length Inv-loop μ-loop
 same-length c = search needs
+
+same-length-2 : tie.Need-same-length-2 Inv-loop μ-loop
+same-length-2 c = search needs
 
 returns : tie.Need-returns Inv-loop μ-loop
 returns c = (search adding-done, search building-done)
@@ -79,17 +77,17 @@ build-spec =
     at-first-requires
     loop-holds
     mul-at
-    mul-t14
-    shared-slice-read-t16
-    add-t18
-    mul-t19
-    shared-slice-read-t21
-    segment-of-requires
-    mul-store
-    store-requires
+    mul-t17
+    shared-slice-read-t19
+    add-t21
+    mul-t22
+    shared-slice-read-t24
+    mul-place
+    place-requires
     add-output
     add-i
     loop-less
     loop-again
     same-length
+    same-length-2
     returns)

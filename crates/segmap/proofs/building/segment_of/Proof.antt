@@ -1,5 +1,5 @@
 use native.Mathlib.Omega.{arith}
-use Rattle.segmap.proofs.TicksLaws.{ticks-moved, ticks-order, ticks-between, sum-before, sum-upto}
+use Rattle.segmap.proofs.TicksLaws.{ticks-order, sum-before, sum-upto}
 use Rattle.segmap.proofs.BuildLaws.{segment-is}
 use borrow.Author.Needs.{needs}
 use Rattle.segmap.proofs.building.segment_of.Statement.{statement}
@@ -12,19 +12,22 @@ decode-at-requires : tie.Need-decode-at-requires
 decode-at-requires c κs = search needs
 
 reach-requires : tie.Need-reach-requires
-reach-requires c κs = (search needs, search sum-before)
+reach-requires c κs = (search needs, (omega arith, search sum-before))
 
-add-t11 : tie.Need-add-t11
-add-t11 c = search needs
+add-t15 : tie.Need-add-t15
+add-t15 c = search needs
 
 reach-requires-2 : tie.Need-reach-requires-2
-reach-requires-2 c κs = (search ticks-moved, search sum-upto)
+reach-requires-2 c κs = (search needs, (omega arith, search sum-upto))
 
-sub-t13 : tie.Need-sub-t13
-sub-t13 c = search ticks-order
+sub-t19 : tie.Need-sub-t19
+sub-t19 c = search ticks-order
+
+same-length : tie.Need-same-length
+same-length c = search needs
 
 returns : tie.Need-returns
-returns c = ((search segment-is, search ticks-between), search ticks-moved)
+returns c = ((search segment-is, omega arith), search needs)
 
 pub segment-of-spec : {M : Type 1} → statement M
 segment-of-spec =
@@ -33,7 +36,8 @@ segment-of-spec =
     frame-count-requires
     decode-at-requires
     reach-requires
-    add-t11
+    add-t15
     reach-requires-2
-    sub-t13
+    sub-t19
+    same-length
     returns)

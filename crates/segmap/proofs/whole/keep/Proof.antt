@@ -20,6 +20,9 @@ returns-2 c = (search kept-range, (λ z. absurd (c .if2 .taken z), λ z. refl))
 slice-aggregate-build : tie.Need-slice-aggregate-build
 slice-aggregate-build c = search needs
 
+slice-aggregate-build-2 : tie.Need-slice-aggregate-build-2
+slice-aggregate-build-2 c = search needs
+
 build-requires : tie.Need-build-requires
 build-requires c κs = search needs
 
@@ -50,6 +53,7 @@ keep-spec =
     ranges-fault-requires
     returns-2
     slice-aggregate-build
+    slice-aggregate-build-2
     build-requires
     returns-3
     slice-aggregate-copy

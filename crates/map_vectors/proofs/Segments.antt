@@ -34,9 +34,9 @@ unfolding snapAll snapStart snapEnd floorSync ceilSync lastBelow firstFrom small
 past-inward = refl
 
 -- start equal to end: no frame and no duration
-empty-stretch : flatOf (segmentsIn smallSheet 0 (0 ∷ 3 ∷ 6 ∷ 6 ∷ [])) ≡ 0 ∷ 3 ∷ 0 ∷ 3 ∷ 0 ∷ 3003 ∷ 6 ∷ 6 ∷ 6006 ∷ 0 ∷ 3003 ∷ 0 ∷ []
+empty-segment : flatOf (segmentsIn smallSheet 0 (0 ∷ 3 ∷ 6 ∷ 6 ∷ [])) ≡ 0 ∷ 3 ∷ 0 ∷ 3 ∷ 0 ∷ 3003 ∷ 6 ∷ 6 ∷ 6006 ∷ 0 ∷ 3003 ∷ 0 ∷ []
 unfolding flatOf segmentsIn segmentIn sourceStart rangeTicks ticksFrom smallSheet decodeOf durationOf recordWord wordAt longOf
-empty-stretch = refl
+empty-segment = refl
 
 -- 8: frames 0 to 3 and 4 to 5 grow into one another outward; ranges that touch do not
 crossing : overlapsFault 0 (snapAll smallSheet 10 0 (0 ∷ 4 ∷ 4 ∷ 6 ∷ [])) ≡ 8

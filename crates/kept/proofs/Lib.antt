@@ -1,0 +1,3 @@
+-- Laws of the calls over bytes.
+pub mod NumberLaws
+pub mod CallLaws

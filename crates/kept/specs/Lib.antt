@@ -1,0 +1,2 @@
+-- A session kept as its 18 blocks between two calls.
+pub mod Answer

@@ -1,0 +1,102 @@
+-- One call over the bytes of a session that open and the calls lead to: it is the call on the session itself, and leaves the bytes of the next one.
+use mathlib.Core.Path.{_≡_, refl, sym, ap, ap₂, subst, _∙_}
+use mathlib.Core.Logic.{inl, inr}
+use mathlib.Core.Bool.{Bool, true, false, cond}
+use mathlib.Core.List.{List, [], _++_, append-nil}
+use Prim.Native.Nat.{ℕ, _≤_}
+use lib.ListN.{length, drop}
+use lib.Seq.{drop-length}
+use native.Mathlib.Omega.{arith}
+use Rattle.base.specs.Put.{put}
+use Rattle.base.proofs.RefusalLaws.{else-none}
+use Rattle.base.proofs.PutLaws.{put-nil}
+use Rattle.event.specs.Emit.{Emit, outputOf, warningsOf, placesOf}
+use Rattle.machine.specs.Session.{Call, feed, finish, Gate, refuse, admit, Answer, accepted, respond}
+use Rattle.columns.specs.declared.layout.Columns.{Columns}
+use Rattle.machine.proofs.Numbers.{OfText, OfCall, accepted-number, call-number, refused-same}
+use Rattle.kinds.specs.Kit.{kit}
+use Rattle.foreign.specs.declared.holding.Session.{Session}
+use Rattle.foreign.specs.View.{view, foreignOf}
+use Rattle.session.specs.Answer.{answerOf, nextOf, sessionGate, nextBy}
+use Rattle.session.proofs.CallLaws.{answer-by}
+use Rattle.parking.specs.Parked.{parkedOf, sessionIn}
+use Rattle.parking.specs.Answer.{takeNumber}
+use Rattle.parking.proofs.Kept.{parked-again, parked-length}
+use Rattle.kept.specs.Answer.{refuses, callNumber, bytesAfter, textOut, placesIn}
+use Rattle.kept.proofs.NumberLaws.{refuses-between}
+use Rattle.parkruns.proofs.Tidy.{Tidy}
+
+-- ---- a refused call returns the session as it came
+not-text : {A : Type 0} (k : ℕ) → OfText k → 15 ≤ k → k ≤ 18 → A
+not-text k (inl e) l h = absurd (omega arith)
+not-text k (inr (inl g)) l h = absurd (omega (arith, g .0))
+not-text k (inr (inr e)) l h = absurd (omega arith)
+
+module _ (s : Session) (x : Call) (t : refuses (answerOf s x .number) ≡ true) where
+  between : (15 ≤ answerOf s x .number) × (answerOf s x .number ≤ 18)
+  unfolding answerOf
+  between = refuses-between (answerOf s x .number) (call-number kit (view s) x) t
+
+  pub none-emitted : answerOf s x .emits ≡ []
+  unfolding answerOf
+  none-emitted = refused-same kit (view s) x (between .0) (between .1) .1
+
+  by-gate : (g : Gate) → sessionGate s x ≡ g → nextBy g s x (answerOf s x .session) ≡ s
+  by-gate (refuse k) e = refl
+  by-gate admit e =
+      let n : answerOf s x .number ≡ accepted kit (view s) x .number = ap (λ (a : Answer Columns). a .number) (answer-by s x ∙ ap (λ (g : Gate). respond kit g (view s) x) e) in
+      not-text (accepted kit (view s) x .number) (accepted-number kit (view s) x) (omega (arith, n, between .0)) (omega (arith, n, between .1))
+
+  pub stays : nextOf s x ≡ s
+  unfolding nextOf
+  stays = by-gate (sessionGate s x) refl
+
+-- ---- bytes that fill their place
+put-whole : (v l : List ℕ) → length v ≡ length l → put v l ≡ v
+unfolding put
+put-whole v l e = ap (λ (n : ℕ). v ++ drop n l) e ∙ ap (λ (r : List ℕ). v ++ r) (drop-length l) ∙ append-nil v
+
+-- ---- the bytes of a session that is not foreign and comes back equal
+module _ (s : Session) (native : foreignOf s ≡ false) (tidy : Tidy s) where
+  took : takeNumber (parkedOf 2 s) ≡ 0
+  took = parked-again 2 s (inr refl) native .answer
+
+  pub names : sessionIn (parkedOf 2 s) ≡ s
+  names = parked-again 2 s (inr refl) native .same ∙ tidy
+
+  module _ (x : Call) where
+    pub number-is : callNumber (parkedOf 2 s) x ≡ answerOf s x .number
+    unfolding callNumber
+    number-is = else-none (answerOf (sessionIn (parkedOf 2 s)) x .number) took ∙ ap (λ (y : Session). answerOf y x .number) names
+
+    by-number : {A : Type 0} (f : Session → A) (e : A) → (refuses (answerOf s x .number) ≡ true → f s ≡ e) → cond (refuses (callNumber (parkedOf 2 s) x)) e (f (sessionIn (parkedOf 2 s))) ≡ f s
+    by-number f e h = ap₂ (λ (n : ℕ) (y : Session). cond (refuses n) e (f y)) number-is names ∙ go (refuses (answerOf s x .number)) refl
+      where
+        go : (t : Bool) → refuses (answerOf s x .number) ≡ t → cond t e (f s) ≡ f s
+        go true q = sym (h q)
+        go false q = refl
+
+    nothing-out : outputOf [] ≡ []
+    unfolding outputOf
+    nothing-out = refl
+
+    nothing-told : placesOf (warningsOf []) ≡ []
+    unfolding warningsOf placesOf
+    nothing-told = refl
+
+    pub text-is : textOut (parkedOf 2 s) x ≡ outputOf (answerOf s x .emits)
+    unfolding textOut
+    text-is = by-number (λ (y : Session). outputOf (answerOf y x .emits)) [] (λ t. ap outputOf (none-emitted s x t) ∙ nothing-out)
+
+    pub places-are : placesIn (parkedOf 2 s) x ≡ placesOf (warningsOf (answerOf s x .emits))
+    unfolding placesIn
+    places-are = by-number (λ (y : Session). placesOf (warningsOf (answerOf y x .emits))) [] (λ t. ap (λ (l : List Emit). placesOf (warningsOf l)) (none-emitted s x t) ∙ nothing-told)
+
+    pub bytes-are : foreignOf (nextOf s x) ≡ false → bytesAfter (parkedOf 2 s) x ≡ parkedOf 2 (nextOf s x)
+    unfolding bytesAfter
+    bytes-are after =
+        ap₂ (λ (n : ℕ) (y : Session). put (cond (refuses n) [] (parkedOf 2 (nextOf y x))) (parkedOf 2 s)) number-is names ∙ go (refuses (answerOf s x .number)) refl
+      where
+        go : (t : Bool) → refuses (answerOf s x .number) ≡ t → put (cond t [] (parkedOf 2 (nextOf s x))) (parkedOf 2 s) ≡ parkedOf 2 (nextOf s x)
+        go true q = put-nil (parkedOf 2 s) ∙ ap (parkedOf 2) (sym (stays s x q))
+        go false q = put-whole (parkedOf 2 (nextOf s x)) (parkedOf 2 s) (parked-length (nextOf s x) after 2 (inr refl) ∙ sym (parked-length s native 2 (inr refl)))

@@ -1,0 +1,1 @@
+// Theorems on sessions that are kept as bytes: no code.
