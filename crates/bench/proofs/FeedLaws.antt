@@ -92,15 +92,14 @@ module _ (kind T : ℕ) (m text : List ℕ) (o : opening.Opened) (a : OpenAnswer
         let e : faultUnless (leb (length text) mostTaken) 16 ≡ 16 = unless-failed 16 (lt-leb (length text) mostTaken h) in
         sym (else-none _ (sym (a .number) ∙ z) ∙ ap (λ (k : ℕ). k orElse plainRead kind true text .fault) e ∙ else-found 16 _ (λ q. omega arith))
 
-    pub fed-fresh : (mostTaken < length text → ⊥) → Fresh (o .session) m (length text)
+    pub fed-fresh : length text ≤ mostTaken → Fresh (o .session) m (length text)
     fed-fresh h =
         let e : openOf kind T m .number ≡ 0 = sym (a .number) ∙ z in
         let g = config-of kind T m o a z in
-        record { opens = ap (λ (x : Config). openOf (x .kind) (x .timescale) m .number) g ∙ e; session = a .session ∙ sym (ap (λ (x : Config). stored (openOf (x .kind) (x .timescale) m .session)) g); short = omega arith }
+        record { opens = ap (λ (x : Config). openOf (x .kind) (x .timescale) m .number) g ∙ e; session = a .session ∙ sym (ap (λ (x : Config). stored (openOf (x .kind) (x .timescale) m .session)) g); short = h }
 
-    pub fed-done : (mostTaken < length text → ⊥) → (k : ℕ) → k ≡ plainRead (o .session .config .kind) true text .fault → k ≡ fedNumber kind T m text
+    pub fed-done : length text ≤ mostTaken → (k : ℕ) → k ≡ plainRead (o .session .config .kind) true text .fault → k ≡ fedNumber kind T m text
     unfolding fedNumber
     fed-done h k e =
-        let l : length text ≤ mostTaken = omega arith in
         e ∙ ap (λ (x : Config). plainRead (x .kind) true text .fault) (config-of kind T m o a z)
-        ∙ sym (else-none _ (sym (a .number) ∙ z) ∙ else-none _ (unless-held 16 (le-leb (length text) mostTaken l)))
+        ∙ sym (else-none _ (sym (a .number) ∙ z) ∙ else-none _ (unless-held 16 (le-leb (length text) mostTaken h)))
