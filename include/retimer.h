@@ -1,4 +1,5 @@
-/* The retimer's C functions: frame sheet check, trim list check, the map of a sheet and a list, captions retimed through it, time conversions, questions about a map, and maps as JSON.
+/* The retimer's C functions: frame sheet check, trim list check, the map of a sheet and a list, captions retimed through it, in pieces or in one call, time conversions,
+ * questions about a map, and maps as JSON.
  * They keep no state, write nothing but what is lent to them for that, and return on every input. Numbers: docs/NUMBERS.md. */
 #ifndef RETIMER_H
 #define RETIMER_H
@@ -24,23 +25,24 @@ enum retimer_number {
     RETIMER_OVERLAP = 8,           /* snapped ranges overlap */
     RETIMER_TURNED_OVER = 9,       /* a snapped range starts above its end */
     RETIMER_PAST_THE_END = 10,     /* a range takes samples past the last */
-    RETIMER_SHEET_LENGTH = 11,
-    RETIMER_SHEET_BLOCK = 12,
-    RETIMER_SHEET_HEAD = 13,
-    RETIMER_SHEET_RECORD = 14,
+    RETIMER_SHEET_LENGTH = 11,     /* the sheet's length is wrong */
+    RETIMER_SHEET_BLOCK = 12,      /* a block's number or sum is wrong */
+    RETIMER_SHEET_HEAD = 13,       /* timescale, frame count or a spare word is out of range */
+    RETIMER_SHEET_RECORD = 14,     /* a frame's record is wrong */
     RETIMER_BAD_MAP = 15,          /* the timescale or the map */
-    RETIMER_BAD_ARGUMENT = 16,
-    RETIMER_FOREIGN_SESSION = 17,
-    RETIMER_ENDED = 18,
-    RETIMER_LONG_LINE = 19,
+    RETIMER_BAD_ARGUMENT = 16,     /* a kind, a value, or a length that is lent */
+    RETIMER_FOREIGN_SESSION = 17,  /* a session that no call leads to */
+    RETIMER_ENDED = 18,            /* the session has ended */
+    RETIMER_LONG_LINE = 19,        /* a line of more than 4096 bytes */
     RETIMER_NOT_UTF8 = 20,
-    RETIMER_LONG_BLOCK = 21,
-    RETIMER_BAD_TIME = 22,
-    RETIMER_FIRST_LINE = 24,
-    RETIMER_NAMED_TWICE = 25,
-    RETIMER_TOO_MANY_TICKS = 26,
-    RETIMER_NO_PARKED_SESSION = 27,
-    RETIMER_OUT_OF_ORDER = 28,
+    RETIMER_LONG_BLOCK = 21,       /* an SRT or WebVTT block of more than 4096 bytes */
+    RETIMER_BAD_TIME = 22,         /* a caption's time can't be read */
+    RETIMER_NO_MAP_TEXT = 23,      /* a text that is no segment map as the cutter stores it */
+    RETIMER_FIRST_LINE = 24,       /* a WebVTT text does not begin with WEBVTT */
+    RETIMER_NAMED_TWICE = 25,      /* two frames of a sheet name the same sample */
+    RETIMER_TOO_MANY_TICKS = 26,   /* a sheet or a map lasts more than 2^53 ticks */
+    RETIMER_NO_PARKED_SESSION = 27, /* bytes that are no session */
+    RETIMER_OUT_OF_ORDER = 28,     /* a map whose segments do not ascend */
     RETIMER_NO_TRIES = 29          /* budget 0, or more than 4096 captions */
 };
 
@@ -108,6 +110,26 @@ uint32_t retimer_feed(uint8_t *session, size_t session_length, const uint64_t *m
 uint32_t retimer_finish(uint8_t *session, size_t session_length, const uint64_t *map, size_t map_length, uint8_t *out, size_t out_length, uint64_t *warnings,
                         size_t places, uint64_t *written, uint64_t *warned);
 
+/* A whole text in one call: opened, fed and finished inside. For a text of `length` bytes at least RETIMER_OUTPUT_FOR(length) bytes of output, RETIMER_PLACES_FOR(length)
+ * places for warnings and RETIMER_TOLD_NUMBERS told numbers are lent.
+ * Refused, nothing is written: 15 for the timescale or the map, 16 for the kind, a text of more than 2^30 bytes, or too little lent.
+ * Else 0, or 19 to 22 or 24 for the text: the retimed text, of a faulty one what stands before the fault, is at the start of `out`, the warnings, two numbers to each, at the start
+ * of `warnings`, and the told numbers are those below; bytes and numbers behind them stay. They are what feeds of the text, cut anywhere, and a finish write, warn of and count. */
+#define RETIMER_OUTPUT_FOR(length) (3 * (size_t)(length) + 32768)
+#define RETIMER_PLACES_FOR(length) ((size_t)(length) / 3 + 4096)
+#define RETIMER_TOLD_NUMBERS 7
+enum retimer_told {
+    RETIMER_TOLD_WRITTEN = 0, /* bytes of output */
+    RETIMER_TOLD_WARNED = 1,  /* numbers for warnings, two to each */
+    RETIMER_TOLD_SHIFTED = 2, /* captions moved whole */
+    RETIMER_TOLD_CLIPPED = 3, /* captions that were shortened */
+    RETIMER_TOLD_DROPPED = 4, /* captions of which nothing is kept */
+    RETIMER_TOLD_PASSED = 5,  /* captions that stay as they are, with warning 1 or 2 */
+    RETIMER_TOLD_TAKEN = 6    /* bytes of the text */
+};
+uint32_t retimer_text(uint32_t kind, uint32_t timescale, const uint64_t *map, size_t map_length, const uint8_t *text, size_t length, uint8_t *out, size_t out_length,
+                      uint64_t *warnings, size_t places, uint64_t *told, size_t told_places);
+
 /* Conversions. kind: 0 ASS (hundredths), 1 SRT and 2 WebVTT (thousandths); timescale: ticks a second, 1 to 1000000000.
  * A value of units is at most 2^36, one of ticks at most 2^53. Refused, they return 0; the number says so. */
 uint64_t retimer_units_to_ticks(uint64_t value, uint32_t timescale, uint32_t kind);
@@ -159,7 +181,7 @@ uint32_t retimer_best_delay(const uint64_t *map, size_t map_length, uint32_t tim
 
 /* Segment maps as the Rust cutter stores them: the JSON text of to_json. */
 #define RETIMER_MOST_PATH 1024      /* bytes of the longest input path */
-#define RETIMER_MOST_NUMBERS 6144   /* numbers of the longest map, six to a segment */
+#define RETIMER_MOST_NUMBERS RETIMER_MAP_NUMBERS /* numbers of the longest map, six to a segment */
 #define RETIMER_MOST_TEXT 255141    /* bytes of the longest text */
 
 /* The text of a map, with its line end: timescale, frame rate (a fraction), input path and frame count go with it.
