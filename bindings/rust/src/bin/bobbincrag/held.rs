@@ -1,0 +1,19 @@
+//! The captions of a text as they are shown, held against the retimer: their fates, counted, are its counts.
+use crate::failure::Failure;
+use crate::input::Input;
+use retimer::captions::{tally, Caption};
+use retimer::{retime, Fate, Kind, Map};
+
+/// The captions with their fates; a text that the retimer refuses is refused.
+pub fn captions<'t>(map: &Map, kind: Kind, text: &'t Input) -> Result<Vec<(Caption<'t>, Option<Fate>)>, Failure> {
+    let retimed = retime(kind, map, &text.bytes).map_err(|stopped| match stopped.place {
+        Some(place) => Failure::refused(format!("{} ({}, {place})", stopped.refused, text.name)),
+        None => Failure::refused(format!("{} ({})", stopped.refused, text.name)),
+    })?;
+    let (read, counts) = tally(kind, map, &text.bytes).map_err(Failure::refused)?;
+    if counts != retimed.counts {
+        let what = format!("internal error: of the captions of {} {counts} were read, and the retimer counts {}", text.name, retimed.counts);
+        return Err(Failure::refused(what));
+    }
+    Ok(read)
+}

@@ -1,0 +1,275 @@
+//! A caption text retimed: in pieces, by a session that can be parked, or as a whole.
+use crate::captions::{place_of, Columns, Place, Start};
+use crate::sheet::{word, BLOCK};
+use crate::{ffi, Kind, Map, Refused, Warning};
+
+/// Bytes of a parked session.
+pub const SESSION_BYTES: usize = 9_216;
+/// Bytes of a piece that a C call takes, at most.
+pub const MOST_PIECE: usize = 1_024;
+/// Bytes of output that a C call is lent, at least.
+pub const LEAST_OUTPUT: usize = 32_768;
+/// Places for warnings that a C call is lent, at least.
+pub const LEAST_PLACES: usize = 4_096;
+
+/// What was written.
+#[derive(Clone, Debug, Default, PartialEq, Eq)]
+pub struct Written {
+    /// The bytes of the retimed text.
+    pub text: Vec<u8>,
+    /// The warnings, in the text's order.
+    pub warnings: Vec<Warning>,
+}
+
+/// How many captions had which fate.
+#[derive(Clone, Copy, Debug, Default, PartialEq, Eq)]
+pub struct Counts {
+    /// Moved.
+    pub shifted: u64,
+    /// Moved, with an end cut off.
+    pub clipped: u64,
+    /// Dropped.
+    pub dropped: u64,
+    /// ASS captions that passed unchanged (warnings 1 and 2).
+    pub passed: u64,
+}
+
+impl std::fmt::Display for Counts {
+    fn fmt(&self, f: &mut std::fmt::Formatter<'_>) -> std::fmt::Result {
+        write!(f, "{} shifted, {} clipped, {} dropped, {} passed", self.shifted, self.clipped, self.dropped, self.passed)
+    }
+}
+
+/// A call that was refused (15 to 18), or a fault of the text (19 to 22, 24), with what stands before it.
+#[derive(Clone, Debug, PartialEq, Eq)]
+pub struct Stopped {
+    /// The number and its sentence.
+    pub refused: Refused,
+    /// Where the text is at fault.
+    pub place: Option<Place>,
+    /// What was written before the fault's line or block; nothing by a call that was refused.
+    pub before: Written,
+}
+
+impl std::fmt::Display for Stopped {
+    fn fmt(&self, f: &mut std::fmt::Formatter<'_>) -> std::fmt::Result {
+        match &self.place {
+            Some(place) => write!(f, "{} ({place})", self.refused),
+            None => self.refused.fmt(f),
+        }
+    }
+}
+
+impl std::error::Error for Stopped {}
+
+impl From<Refused> for Stopped {
+    fn from(refused: Refused) -> Stopped {
+        Stopped { refused, place: None, before: Written::default() }
+    }
+}
+
+/// A session: takes a text in pieces and writes what is complete.
+///
+/// Between two calls it can be parked, which is its 9,216 bytes, and resumed from them, on another day and by another program.
+///
+/// ```
+/// use retimer::{Kind, Map, Session};
+/// let map = Map { timescale: 30_000, numbers: vec![0, 3, 0, 3, 0, 3_003, 6, 10, 6_006, 4, 3_003, 4_004] };
+/// let mut session = Session::open(Kind::Vtt, &map)?;
+/// let first = session.feed(b"WEBVTT\n\n00:00.210 --> 00:0")?;
+/// assert_eq!(first.text, b"WEBVTT\n\n");
+/// let parked = session.park();
+/// let mut session = Session::resume(&map, &parked)?;
+/// session.feed(b"0.250\nA line\n")?;
+/// let last = session.finish()?;
+/// assert_eq!(last.text, b"00:00:00.109 --> 00:00:00.150\nA line\n");
+/// assert_eq!(session.counts().shifted, 1);
+/// # Ok::<(), retimer::Stopped>(())
+/// ```
+#[derive(Clone)]
+pub struct Session<'m> {
+    map: &'m Map,
+    bytes: Box<[u8; SESSION_BYTES]>,
+    out: Vec<u8>,
+    places: Vec<u64>,
+}
+
+impl<'m> Session<'m> {
+    /// A session for a text of the kind, through the map; 15 for a map outside the limits.
+    pub fn open(kind: Kind, map: &'m Map) -> Result<Session<'m>, Refused> {
+        let mut session = Session::lent(map, [0; SESSION_BYTES]);
+        Refused::unless_done(ffi::open(kind.number(), map.timescale, &map.numbers, &mut session.bytes[..]))?;
+        Ok(session)
+    }
+
+    /// A session from its parked bytes, with the map that it was opened with: 27 for bytes that are no parked session, 17 for one that no call leads to. An ended
+    /// session comes back too.
+    pub fn resume(map: &'m Map, parked: &[u8]) -> Result<Session<'m>, Refused> {
+        let session = Session::lent(map, parked.try_into().map_err(|_| Refused(27))?);
+        // an empty piece, on a copy and with an empty map, tells whether the bytes are a session
+        match session.clone().call(|s, out, places, written, warned| ffi::feed(s, &[], &[], out, places, written, warned)).0 {
+            0 | 18 => Ok(session),
+            n => Err(Refused(n)),
+        }
+    }
+
+    fn lent(map: &'m Map, bytes: [u8; SESSION_BYTES]) -> Session<'m> {
+        Session { map, bytes: Box::new(bytes), out: vec![0; LEAST_OUTPUT], places: vec![0; LEAST_PLACES] }
+    }
+
+    /// The bytes to store.
+    pub fn park(&self) -> [u8; SESSION_BYTES] {
+        *self.bytes
+    }
+
+    /// How many captions had which fate so far.
+    pub fn counts(&self) -> Counts {
+        let [shifted, clipped, dropped, passed] = [8, 9, 10, 11].map(|k| self.word(k));
+        Counts { shifted, clipped, dropped, passed }
+    }
+
+    /// How many bytes were taken.
+    pub fn taken(&self) -> u64 {
+        self.word(6)
+    }
+
+    /// Whether it has ended: by a finish, or by a fault of the text.
+    pub fn has_ended(&self) -> bool {
+        self.word(4) == 1
+    }
+
+    /// Word k of block 0 of the parked bytes: mark, kind, ticks a second, ended, outcome, taken, lines ended, four counts, `Events`, columns, places of Start
+    /// and End, held bytes, from 1 on (request 2.10).
+    fn word(&self, k: usize) -> u64 {
+        word(&self.bytes[..], k).into()
+    }
+
+    /// A piece of the text, of any length and cut anywhere; an empty one changes nothing.
+    pub fn feed(&mut self, piece: &[u8]) -> Result<Written, Stopped> {
+        let mut all = Written::default();
+        let mut rest = piece;
+        loop {
+            let (part, behind) = rest.split_at(rest.len().min(MOST_PIECE));
+            self.part(part, &mut all)?;
+            if behind.is_empty() {
+                return Ok(all);
+            }
+            rest = behind;
+        }
+    }
+
+    /// At most 1,024 bytes; `all` is what was written before them, and what they write is added.
+    fn part(&mut self, part: &[u8], all: &mut Written) -> Result<(), Stopped> {
+        let before = self.bytes.clone();
+        let numbers = &self.map.numbers;
+        let told = self.call(|s, out, places, written, warned| ffi::feed(s, numbers, part, out, places, written, warned));
+        self.take(told, all);
+        unless_faulty(told.0, &before[..], part, all)
+    }
+
+    /// The end of the text.
+    pub fn finish(&mut self) -> Result<Written, Stopped> {
+        let before = self.bytes.clone();
+        let numbers = &self.map.numbers;
+        let mut all = Written::default();
+        let told = self.call(|s, out, places, written, warned| ffi::finish(s, numbers, out, places, written, warned));
+        self.take(told, &mut all);
+        unless_faulty(told.0, &before[..], &[], &mut all)?;
+        Ok(all)
+    }
+
+    /// Lends bytes, output and places to a call; its number, and how much it wrote and warned.
+    fn call(&mut self, call: impl FnOnce(&mut [u8], &mut [u8], &mut [u64], &mut u64, &mut u64) -> u32) -> (u32, usize, usize) {
+        let (mut written, mut warned) = (0, 0);
+        let number = call(&mut self.bytes[..], &mut self.out, &mut self.places, &mut written, &mut warned);
+        (number, written as usize, warned as usize)
+    }
+
+    fn take(&self, (_, written, warned): (u32, usize, usize), all: &mut Written) {
+        all.text.extend_from_slice(&self.out[..written]);
+        all.warnings.extend(warnings_in(&self.places[..warned]));
+    }
+}
+
+/// Nothing for 0, else the number with what was written before it, and its place: the bytes of the session before the call hold an open block and an unfinished
+/// line, the number of lines before these, and the columns.
+fn unless_faulty(number: u32, session: &[u8], part: &[u8], all: &mut Written) -> Result<(), Stopped> {
+    if number == 0 {
+        return Ok(());
+    }
+    let word = |k| word(session, k) as usize;
+    let mut text: Vec<u8> = session[BLOCK..].chunks_exact(BLOCK).flat_map(|block| &block[4..508]).copied().take(word(16)).collect();
+    let ended = text.iter().filter(|b| **b == b'\n').count();
+    let columns = Columns { events: word(12) == 1, count: word(13), start: word(14), stop: word(15) };
+    let start = Start { line: (word(7) + 1).saturating_sub(ended) as u64, columns };
+    text.extend_from_slice(part);
+    let kind = Kind::ALL.into_iter().find(|k| k.number() as usize == word(2)).unwrap_or(Kind::Ass);
+    Err(Stopped { refused: Refused(number), place: place_of(number, kind, &text, start), before: std::mem::take(all) })
+}
+
+/// Warnings as the C functions tell them: two numbers each.
+fn warnings_in(numbers: &[u64]) -> impl Iterator<Item = Warning> + '_ {
+    numbers.chunks_exact(2).map(|w| Warning { number: w[0] as u32, line: w[1] })
+}
+
+/// A whole text, retimed.
+#[derive(Clone, Debug, Default, PartialEq, Eq)]
+pub struct Retimed {
+    /// The bytes of the retimed text.
+    pub text: Vec<u8>,
+    /// The warnings, in the text's order.
+    pub warnings: Vec<Warning>,
+    /// How many captions had which fate.
+    pub counts: Counts,
+}
+
+/// Retimes a whole text through a map.
+///
+/// ```
+/// use retimer::{retime, Kind, Map, Refused};
+/// let map = Map { timescale: 30_000, numbers: vec![0, 3, 0, 3, 0, 3_003, 6, 10, 6_006, 4, 3_003, 4_004] };
+/// let retimed = retime(Kind::Srt, &map, b"1\n00:00:00,050 --> 00:00:00,250\nA line\n")?;
+/// assert_eq!(retimed.text, b"1\n00:00:00,050 --> 00:00:00,101\nA line\n");
+/// assert_eq!((retimed.counts.clipped, retimed.warnings[0].number), (1, 4));
+/// // a fault of the text is told with its line and the words there
+/// let stopped = retime(Kind::Srt, &map, b"1\n00:00:00,050 --> soon\nA line\n").unwrap_err();
+/// assert_eq!(stopped.refused, Refused(22));
+/// assert_eq!(stopped.to_string(), "refused 22: a caption's time can't be read (line 2: \"00:00:00,050 --> soon A line\")");
+/// # Ok::<(), retimer::Stopped>(())
+/// ```
+pub fn retime(kind: Kind, map: &Map, text: &[u8]) -> Result<Retimed, Stopped> {
+    let (number, retimed) = whole(kind, map, text);
+    if number == 0 {
+        return Ok(retimed);
+    }
+    let before = Written { text: retimed.text, warnings: retimed.warnings };
+    Err(Stopped { refused: Refused(number), place: place_of(number, kind, text, Start::default()), before })
+}
+
+/// The number, and what a session gives that is fed all of the text and finished; nothing of a text that is refused (15, 16).
+fn whole(kind: Kind, map: &Map, text: &[u8]) -> (u32, Retimed) {
+    let mut all = Written::default();
+    let mut session = match Session::open(kind, map) {
+        Ok(session) => session,
+        Err(refused) => return (refused.0, Retimed::default()),
+    };
+    let mut number = 0;
+    let mut pieces = text.chunks(MOST_PIECE);
+    while number == 0 {
+        let piece = pieces.next();
+        let numbers = &map.numbers;
+        let told = session.call(|s, out, places, written, warned| match piece {
+            Some(piece) => ffi::feed(s, numbers, piece, out, places, written, warned),
+            None => ffi::finish(s, numbers, out, places, written, warned),
+        });
+        session.take(told, &mut all);
+        number = told.0;
+        if piece.is_none() {
+            break;
+        }
+    }
+    if matches!(number, 15..=18) {
+        return (number, Retimed::default());
+    }
+    (number, Retimed { counts: session.counts(), text: all.text, warnings: all.warnings })
+}
