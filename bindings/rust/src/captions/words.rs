@@ -27,16 +27,18 @@ pub(crate) fn plain(kind: Kind, said: &[u8]) -> String {
     }
 }
 
-/// Without what stands between two brackets; an opening one that is not closed stays.
+/// Without what stands between two brackets; an opening one that is not closed before the next stays.
 fn untagged(text: &str, open: char, close: char) -> String {
     let (mut out, mut rest) = (String::new(), text);
     while let Some(at) = rest.find(open) {
-        out.push_str(&rest[..at]);
-        match rest[at..].find(close) {
-            Some(length) => rest = &rest[at + length + close.len_utf8()..],
-            None => {
-                out.push_str(&rest[at..]);
-                return out;
+        let (before, tag) = rest.split_at(at);
+        out.push_str(before);
+        let inside = &tag[open.len_utf8()..];
+        match inside.find([open, close]) {
+            Some(end) if inside[end..].starts_with(close) => rest = &inside[end + close.len_utf8()..],
+            _ => {
+                out.push(open);
+                rest = inside;
             }
         }
     }

@@ -141,22 +141,21 @@ impl Check<'_> {
 
     /// A block: 19 and 20 can be found in each of its lines, then 21 or 22 once.
     fn block(&mut self, block: Block<'_>, last: bool) {
-        let (body, behind) = (block.body, block.blanks);
-        let number = self.taken(&[body, behind].concat(), last);
-        if number == 0 {
+        let whole = [block.body, block.blanks].concat();
+        if self.taken(&whole, last) == 0 {
             return;
         }
-        let mut whole = Vec::new();
-        for line in lines(body, block.first) {
+        let mut mended = Vec::new();
+        for line in lines(block.body, block.first) {
             let number = self.alone(line);
             if number != 0 {
                 self.tell(number, line.bytes, line.number);
             }
             // a short word in the place of a line that is told
-            whole.extend_from_slice(if number == 0 { line.bytes } else { b"-\n" });
+            mended.extend_from_slice(if number == 0 { line.bytes } else { b"-\n" });
         }
-        whole.extend_from_slice(behind);
-        match self.taken(&whole, last) {
+        mended.extend_from_slice(block.blanks);
+        match self.taken(&mended, last) {
             0 => {}
             number => {
                 self.tell(number, &whole, block.first);
