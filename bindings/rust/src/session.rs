@@ -2,6 +2,7 @@
 use crate::captions::{place_of, Columns, Place, Start};
 use crate::sheet::{word, BLOCK};
 use crate::{ffi, Kind, Map, Refused, Warning};
+use std::borrow::Borrow;
 
 /// Bytes of a parked session.
 pub const SESSION_BYTES: usize = 9_216;
@@ -86,35 +87,34 @@ impl From<Refused> for Stopped {
 /// assert_eq!(session.counts().shifted, 1);
 /// # Ok::<(), retimer::Stopped>(())
 /// ```
+///
+/// A session keeps its map: lent (`&map`, as here), owned, or shared by `Rc` or `Arc`.
 #[derive(Clone)]
-pub struct Session<'m> {
-    map: &'m Map,
+pub struct Session<M = Map> {
+    map: M,
     bytes: Box<[u8; SESSION_BYTES]>,
-    out: Vec<u8>,
-    places: Vec<u64>,
+    lent: Lent,
 }
 
-impl<'m> Session<'m> {
+impl<M: Borrow<Map>> Session<M> {
     /// A session for a text of the kind, through the map; 15 for a map outside the limits.
-    pub fn open(kind: Kind, map: &'m Map) -> Result<Session<'m>, Refused> {
-        let mut session = Session::lent(map, [0; SESSION_BYTES]);
-        Refused::unless_done(ffi::open(kind.number(), map.timescale, &map.numbers, &mut session.bytes[..]))?;
-        Ok(session)
+    pub fn open(kind: Kind, map: M) -> Result<Session<M>, Refused> {
+        let mut bytes = Box::new([0; SESSION_BYTES]);
+        Refused::unless_done(ffi::open(kind.number(), map.borrow().timescale, &map.borrow().numbers, &mut bytes[..]))?;
+        Ok(Session { map, bytes, lent: Lent::new() })
     }
 
     /// A session from its parked bytes, with the map that it was opened with: 27 for bytes that are no parked session, 17 for one that no call leads to. An ended
     /// session comes back too.
-    pub fn resume(map: &'m Map, parked: &[u8]) -> Result<Session<'m>, Refused> {
-        let session = Session::lent(map, parked.try_into().map_err(|_| Refused(27))?);
-        // an empty piece, on a copy and with an empty map, tells whether the bytes are a session
-        match session.clone().call(|s, out, places, written, warned| ffi::feed(s, &[], &[], out, places, written, warned)).0 {
-            0 | 18 => Ok(session),
+    pub fn resume(map: M, parked: &[u8]) -> Result<Session<M>, Refused> {
+        let bytes: Box<[u8; SESSION_BYTES]> = Box::new(parked.try_into().map_err(|_| Refused(27))?);
+        let mut lent = Lent::new();
+        // an empty piece, fed to a copy with an empty map, tells whether the bytes are a session
+        let told = lent.call(&mut bytes.clone()[..], |s, out, places, written, warned| ffi::feed(s, &[], &[], out, places, written, warned));
+        match told.number {
+            0 | 18 => Ok(Session { map, bytes, lent }),
             n => Err(Refused(n)),
         }
-    }
-
-    fn lent(map: &'m Map, bytes: [u8; SESSION_BYTES]) -> Session<'m> {
-        Session { map, bytes: Box::new(bytes), out: vec![0; LEAST_OUTPUT], places: vec![0; LEAST_PLACES] }
     }
 
     /// The bytes to store.
@@ -124,24 +124,17 @@ impl<'m> Session<'m> {
 
     /// How many captions had which fate so far.
     pub fn counts(&self) -> Counts {
-        let [shifted, clipped, dropped, passed] = [8, 9, 10, 11].map(|k| self.word(k));
-        Counts { shifted, clipped, dropped, passed }
+        counts_in(&self.bytes[..])
     }
 
     /// How many bytes were taken.
     pub fn taken(&self) -> u64 {
-        self.word(6)
+        word(&self.bytes[..], 6).into()
     }
 
     /// Whether it has ended: by a finish, or by a fault of the text.
     pub fn has_ended(&self) -> bool {
-        self.word(4) == 1
-    }
-
-    /// Word k of block 0 of the parked bytes: mark, kind, ticks a second, ended, outcome, taken, lines ended, four counts, `Events`, columns, places of Start
-    /// and End, held bytes, from 1 on (request 2.10).
-    fn word(&self, k: usize) -> u64 {
-        word(&self.bytes[..], k).into()
+        word(&self.bytes[..], 4) == 1
     }
 
     /// A piece of the text, of any length and cut anywhere; an empty one changes nothing.
@@ -150,7 +143,11 @@ impl<'m> Session<'m> {
         let mut rest = piece;
         loop {
             let (part, behind) = rest.split_at(rest.len().min(MOST_PIECE));
-            self.part(part, &mut all)?;
+            let before = self.bytes.clone();
+            let numbers = &self.map.borrow().numbers;
+            let told = self.lent.call(&mut self.bytes[..], |s, out, places, written, warned| ffi::feed(s, numbers, part, out, places, written, warned));
+            self.lent.take(told, &mut all);
+            unless_faulty(told.number, &before[..], part, &mut all)?;
             if behind.is_empty() {
                 return Ok(all);
             }
@@ -158,37 +155,56 @@ impl<'m> Session<'m> {
         }
     }
 
-    /// At most 1,024 bytes; `all` is what was written before them, and what they write is added.
-    fn part(&mut self, part: &[u8], all: &mut Written) -> Result<(), Stopped> {
-        let before = self.bytes.clone();
-        let numbers = &self.map.numbers;
-        let told = self.call(|s, out, places, written, warned| ffi::feed(s, numbers, part, out, places, written, warned));
-        self.take(told, all);
-        unless_faulty(told.0, &before[..], part, all)
-    }
-
     /// The end of the text.
     pub fn finish(&mut self) -> Result<Written, Stopped> {
-        let before = self.bytes.clone();
-        let numbers = &self.map.numbers;
         let mut all = Written::default();
-        let told = self.call(|s, out, places, written, warned| ffi::finish(s, numbers, out, places, written, warned));
-        self.take(told, &mut all);
-        unless_faulty(told.0, &before[..], &[], &mut all)?;
+        let before = self.bytes.clone();
+        let numbers = &self.map.borrow().numbers;
+        let told = self.lent.call(&mut self.bytes[..], |s, out, places, written, warned| ffi::finish(s, numbers, out, places, written, warned));
+        self.lent.take(told, &mut all);
+        unless_faulty(told.number, &before[..], &[], &mut all)?;
         Ok(all)
     }
+}
 
-    /// Lends bytes, output and places to a call; its number, and how much it wrote and warned.
-    fn call(&mut self, call: impl FnOnce(&mut [u8], &mut [u8], &mut [u64], &mut u64, &mut u64) -> u32) -> (u32, usize, usize) {
+/// Output and places, as many as a call needs.
+#[derive(Clone)]
+struct Lent {
+    out: Vec<u8>,
+    places: Vec<u64>,
+}
+
+/// What a call told: its number, how many bytes it wrote, and how many numbers for warnings.
+#[derive(Clone, Copy)]
+struct Told {
+    number: u32,
+    written: usize,
+    warned: usize,
+}
+
+impl Lent {
+    fn new() -> Lent {
+        Lent { out: vec![0; LEAST_OUTPUT], places: vec![0; LEAST_PLACES] }
+    }
+
+    fn call(&mut self, session: &mut [u8], call: impl FnOnce(&mut [u8], &mut [u8], &mut [u64], &mut u64, &mut u64) -> u32) -> Told {
         let (mut written, mut warned) = (0, 0);
-        let number = call(&mut self.bytes[..], &mut self.out, &mut self.places, &mut written, &mut warned);
-        (number, written as usize, warned as usize)
+        let number = call(session, &mut self.out, &mut self.places, &mut written, &mut warned);
+        Told { number, written: written as usize, warned: warned as usize }
     }
 
-    fn take(&self, (_, written, warned): (u32, usize, usize), all: &mut Written) {
-        all.text.extend_from_slice(&self.out[..written]);
-        all.warnings.extend(warnings_in(&self.places[..warned]));
+    /// Adds what was written.
+    fn take(&self, told: Told, all: &mut Written) {
+        all.text.extend_from_slice(&self.out[..told.written]);
+        all.warnings.extend(warnings_in(&self.places[..told.warned]));
     }
+}
+
+/// The counts of parked bytes. Block 0 has, from word 1 on: mark, kind, ticks a second, ended, outcome, taken, lines ended, four counts, `Events`, columns, places
+/// of Start and End, held bytes (request 2.10).
+fn counts_in(session: &[u8]) -> Counts {
+    let [shifted, clipped, dropped, passed] = [8, 9, 10, 11].map(|k| word(session, k).into());
+    Counts { shifted, clipped, dropped, passed }
 }
 
 /// Nothing for 0, else the number with what was written before it, and its place: the bytes of the session before the call hold an open block and an unfinished
@@ -248,28 +264,20 @@ pub fn retime(kind: Kind, map: &Map, text: &[u8]) -> Result<Retimed, Stopped> {
 
 /// The number, and what a session gives that is fed all of the text and finished; nothing of a text that is refused (15, 16).
 fn whole(kind: Kind, map: &Map, text: &[u8]) -> (u32, Retimed) {
-    let mut all = Written::default();
-    let mut session = match Session::open(kind, map) {
-        Ok(session) => session,
-        Err(refused) => return (refused.0, Retimed::default()),
-    };
-    let mut number = 0;
-    let mut pieces = text.chunks(MOST_PIECE);
-    while number == 0 {
-        let piece = pieces.next();
-        let numbers = &map.numbers;
-        let told = session.call(|s, out, places, written, warned| match piece {
-            Some(piece) => ffi::feed(s, numbers, piece, out, places, written, warned),
-            None => ffi::finish(s, numbers, out, places, written, warned),
+    let mut session = [0; SESSION_BYTES];
+    let mut number = ffi::open(kind.number(), map.timescale, &map.numbers, &mut session);
+    let (mut all, mut lent) = (Written::default(), Lent::new());
+    let mut pieces = text.chunks(MOST_PIECE).map(Some).chain([None]);
+    while let (0, Some(piece)) = (number, pieces.next()) {
+        let told = lent.call(&mut session, |s, out, places, written, warned| match piece {
+            Some(piece) => ffi::feed(s, &map.numbers, piece, out, places, written, warned),
+            None => ffi::finish(s, &map.numbers, out, places, written, warned),
         });
-        session.take(told, &mut all);
-        number = told.0;
-        if piece.is_none() {
-            break;
-        }
+        lent.take(told, &mut all);
+        number = told.number;
     }
-    if matches!(number, 15..=18) {
-        return (number, Retimed::default());
+    match number {
+        15..=18 => (number, Retimed::default()),
+        _ => (number, Retimed { text: all.text, warnings: all.warnings, counts: counts_in(&session) }),
     }
-    (number, Retimed { counts: session.counts(), text: all.text, warnings: all.warnings })
 }
