@@ -3,7 +3,7 @@
 mod common;
 
 use common::Random;
-use retimer::captions::{read, tally, Times};
+use retimer::captions::{read, tally, Tally, Times};
 use retimer::{faults, retime, Kind, Map};
 
 const SPACES: [&str; 8] = ["", "", "", " ", "\t", "\u{3000}", "\u{a0}", " \u{85}"];
@@ -119,7 +119,7 @@ fn held(seed: u64, count: usize, bad: u64) {
         let found = faults::in_captions(kind, &text, &mut |_| {});
         match retime(kind, &map, &text) {
             Ok(retimed) => {
-                let (captions, counts) = tally(kind, &map, &text).unwrap_or_else(|e| panic!("{e}: {}", shown()));
+                let Tally { captions, counts } = tally(kind, &map, &text).unwrap_or_else(|e| panic!("{e}: {}", shown()));
                 assert_eq!(counts, retimed.counts, "{}", shown());
                 assert!(found.is_empty(), "{found:?} {}", shown());
                 // every warning is about a caption that was read

@@ -34,8 +34,8 @@ fn in_the_middle() {
     std::fs::create_dir(&a).unwrap();
     std::fs::write(format!("{a}/subs.ass"), "old").unwrap();
     let limited = |more: &[&str]| {
-        let line = format!("trap '' XFSZ; ulimit -f 1; exec \"$0\" \"$@\"");
-        ran(Command::new("bash").args(["-c", &line, COMMAND, "retime"]).args(cut()).args(more).output().unwrap())
+        let line = "trap '' XFSZ; ulimit -f 1; exec \"$0\" \"$@\"";
+        ran(Command::new("bash").args(["-c", line, COMMAND, "retime"]).args(cut()).args(more).output().unwrap())
     };
     limited(&["--subs", &subs(), "-o", &out]).fails(1, &[&format!("cannot write {out}: File too large")]);
     assert_eq!((folder.read("out.srt"), folder.names()), (b"old".to_vec(), vec!["a".to_string(), "out.srt".to_string()]));

@@ -97,10 +97,19 @@ pub fn read(kind: Kind, text: &[u8]) -> Vec<Caption<'_>> {
     }
 }
 
-/// The captions of a text, each with what becomes of it, and their counts.
-pub fn tally<'t>(kind: Kind, map: &Map, text: &'t [u8]) -> Result<(Vec<(Caption<'t>, Option<Fate>)>, Counts), Refused> {
-    let mut counts = Counts::default();
-    let mut all = Vec::new();
+/// The captions of a text, each with what becomes of it, and how many have which fate.
+#[derive(Clone, Debug, PartialEq, Eq)]
+pub struct Tally<'t> {
+    /// The captions; one that passes unchanged has no fate.
+    pub captions: Vec<(Caption<'t>, Option<Fate>)>,
+    /// Their counts.
+    pub counts: Counts,
+}
+
+/// Reads the captions of a text and asks [`why`] for each; 22 where a time can't be read.
+pub fn tally<'t>(kind: Kind, map: &Map, text: &'t [u8]) -> Result<Tally<'t>, Refused> {
+    let mut tally = Tally { captions: Vec::new(), counts: Counts::default() };
+    let counts = &mut tally.counts;
     for caption in read(kind, text) {
         let fate = caption.fate(map)?;
         match &fate {
@@ -110,7 +119,7 @@ pub fn tally<'t>(kind: Kind, map: &Map, text: &'t [u8]) -> Result<(Vec<(Caption<
             Some(f) if f.is_shifted() => counts.shifted += 1,
             Some(_) => counts.clipped += 1,
         }
-        all.push((caption, fate));
+        tally.captions.push((caption, fate));
     }
-    Ok((all, counts))
+    Ok(tally)
 }

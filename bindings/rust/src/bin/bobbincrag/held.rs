@@ -10,10 +10,10 @@ pub fn captions<'t>(map: &Map, kind: Kind, text: &'t Input) -> Result<Vec<(Capti
         Some(place) => Failure::refused(format!("{} ({}, {place})", stopped.refused, text.name)),
         None => Failure::refused(format!("{} ({})", stopped.refused, text.name)),
     })?;
-    let (read, counts) = tally(kind, map, &text.bytes).map_err(Failure::refused)?;
-    if counts != retimed.counts {
-        let what = format!("internal error: of the captions of {} {counts} were read, and the retimer counts {}", text.name, retimed.counts);
+    let tally = tally(kind, map, &text.bytes).map_err(Failure::refused)?;
+    if tally.counts != retimed.counts {
+        let what = format!("internal error: the captions of {} were read as {}, and the retimer counts {}", text.name, tally.counts, retimed.counts);
         return Err(Failure::refused(what));
     }
-    Ok(read)
+    Ok(tally.captions)
 }

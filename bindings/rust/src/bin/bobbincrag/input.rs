@@ -7,9 +7,9 @@ use std::fs::File;
 use std::io::Read;
 use std::path::Path;
 
-/// Bytes that are read of a sheet, a list, and a text: a block or a byte more than any that is accepted.
-pub const MOST_SHEET: u64 = 512 * 25_000;
-pub const MOST_LIST: u64 = 1 << 20;
+/// Bytes that are read of a sheet, a list, and a text: more than of any that is accepted.
+pub const MOST_SHEET: u64 = 1 << 26;
+pub const MOST_LIST: u64 = 1 << 24;
 pub const MOST_TEXT: u64 = (1 << 30) + 1;
 
 pub struct Input {
