@@ -3,6 +3,7 @@
 //! A file is first written under another name beside its place, and then takes its place in one step, so that one that stood there stays until then. All
 //! are written before the first takes its place. What is no plain file, such as a pipe or a device, is written as it is.
 use crate::failure::{reason, Failure};
+use std::ffi::OsStr;
 use std::fs::{self, File, OpenOptions};
 use std::io::Write;
 use std::path::{Path, PathBuf};
@@ -31,6 +32,7 @@ impl Drop for Pending {
 #[derive(Default)]
 pub struct Files {
     pending: Vec<Pending>,
+    /// What is no plain file, as it was named, and its bytes.
     direct: Vec<(PathBuf, Vec<u8>)>,
     made: Option<Folder>,
 }
@@ -62,7 +64,7 @@ impl Files {
         match fs::metadata(&place) {
             Ok(there) if there.is_dir() => Err(Failure::writing(path, "it is a folder")),
             Ok(there) if !there.is_file() => {
-                self.direct.push((place, bytes.to_vec()));
+                self.direct.push((path.to_path_buf(), bytes.to_vec()));
                 Ok(())
             }
             Ok(there) => {
@@ -87,9 +89,9 @@ impl Files {
 
     /// Lets every file take its place.
     pub fn done(mut self) -> Result<(), Failure> {
-        for (place, bytes) in &self.direct {
-            let written = OpenOptions::new().write(true).open(place).and_then(|mut f| f.write_all(bytes));
-            written.map_err(|e| Failure::writing(place, reason(&e)))?;
+        for (path, bytes) in &self.direct {
+            let written = OpenOptions::new().write(true).open(path).and_then(|mut f| f.write_all(bytes));
+            written.map_err(|e| Failure::writing(path, reason(&e)))?;
         }
         for file in self.pending.drain(..) {
             fs::rename(&file.written, &file.place).map_err(|e| Failure::writing(&file.shown, reason(&e)))?;
@@ -112,9 +114,9 @@ fn created(folder: &Path) -> std::io::Result<(PathBuf, File)> {
     }
 }
 
-/// Bytes to a file, or to standard output where none is named.
-pub fn write(out: Option<&std::ffi::OsStr>, bytes: &[u8]) -> Result<(), Failure> {
-    let Some(out) = out else { return print(bytes) };
+/// Bytes to a file, or to standard output where none is named, or `-`.
+pub fn write(out: Option<&OsStr>, bytes: &[u8]) -> Result<(), Failure> {
+    let Some(out) = out.filter(|o| *o != "-") else { return print(bytes) };
     let mut files = Files::default();
     files.add(Path::new(out), bytes)?;
     files.done()

@@ -54,7 +54,10 @@ fn all(map: &Map, texts: &[Input], kinds: &[Kind]) -> Result<Vec<Retimed>, Failu
 }
 
 fn out_of(args: &Args, subs: &[&OsStr]) -> Result<Out, Failure> {
-    match (args.one("-o"), subs.len()) {
+    if args.one("--warnings").is_some_and(|w| w == "-") {
+        return Err(args.usage("--warnings needs a file: standard output is for captions alone"));
+    }
+    match (args.one("-o").filter(|o| *o != "-"), subs.len()) {
         (_, 0) => Err(args.usage("name the captions with --subs")),
         (None, 1) => Ok(Out::Standard),
         (None, _) => Err(args.usage("several caption files need a folder to be written to: name it with -o")),
