@@ -4,7 +4,7 @@ mod common;
 
 use common::Random;
 use retimer::captions::{read, tally, Tally, Times};
-use retimer::{faults, retime, Kind, Map};
+use retimer::{faults, retime, Kind, Map, Session};
 
 const SPACES: [&str; 8] = ["", "", "", " ", "\t", "\u{3000}", "\u{a0}", " \u{85}"];
 const ENDS: [&str; 4] = ["\n", "\n", "\r\n", "\r\r\n"];
@@ -129,8 +129,8 @@ fn held(seed: u64, count: usize, bad: u64) {
             }
             Err(stopped) => {
                 let place = stopped.place.clone().unwrap_or_else(|| panic!("{stopped} {}", shown()));
-                let before = first(&text, place.line - 1);
-                assert!(place.line == 1 || retime(kind, &map, before).is_ok(), "{stopped} {}", shown());
+                let mut session = Session::open(kind, &map).unwrap();
+                assert!(session.feed(first(&text, place.line - 1)).is_ok(), "{stopped} {}", shown());
                 let upto = retime(kind, &map, first(&text, place.line)).map_err(|s| s.refused);
                 assert_eq!(upto.err(), Some(stopped.refused), "{stopped} {}", shown());
                 assert_eq!((found[0].refused, &found[0].place), (stopped.refused, &place.to_string()), "{}", shown());

@@ -1,7 +1,7 @@
 //! `bobbincrag check`, and what all commands share: help, version, completions, the manual page.
 mod common;
 
-use common::{cut, file, play, read, run, run_play, run_with, seal, words, Folder};
+use common::{file, play, read, run, run_play, run_with, seal, words, Folder};
 use std::process::Command;
 
 const COMMANDS: [&str; 7] = ["retime", "map", "check", "why", "census", "delay", "completions"];
@@ -23,7 +23,7 @@ fn faults() {
     let folder = Folder::new();
     let mut damaged = words(200, 10, false);
     damaged[129] = 500;
-    damaged[128 * 2 + 5] += 1;
+    damaged[128 * 2 + 6] += 1;
     seal(&mut damaged, 1);
     let sum = damaged[256..256 + 127].iter().fold(0u32, |a, x| a.wrapping_add(*x));
     let told = damaged[256 + 127];
@@ -32,8 +32,8 @@ fn faults() {
     let subs = folder.write("subs.srt", b"1\n00:00:01,000 --> x\nA\n\n2\n00:00:02,000 --> 00:00:03,000\nB\xff\n");
     let ran = run(&["check", "--sheet", &sheet, "--list", &list, "--subs", &subs]);
     let page = [
-        format!("refused 12: a block of the sheet is damaged ({sheet}, block 2: its sum is {told}, and its words add up to {sum})"),
         format!("refused 14: a frame's entry in the sheet is wrong ({sheet}, frame 0 (block 1, word 1): its decode index is 500, and it should be below 200)"),
+        format!("refused 12: a block of the sheet is damaged ({sheet}, block 2: its sum is {told}, and its words add up to {sum})"),
         format!("refused 2: an entry of the list is not Trim(a,b) ({list}, line 1: the list begins with a byte order mark: save it without)"),
         format!("refused 4: a is greater than b ({list}, entry 2, line 2: Trim(5,3))"),
         format!("refused 6: a trim begins before the one before it has ended ({list}, entry 3, line 2: Trim(8,9), behind entry 1: Trim(0,9))"),
@@ -45,7 +45,7 @@ fn faults() {
     assert_eq!(folder.names(), ["sheet.bin", "subs.srt", "trim.txt"]);
 }
 
-/// A frame's record that is changed in a block that follows shows as a damaged sum alone where the index is free: here it is not.
+/// Trims that do not fit the recording are told where both are given.
 #[test]
 fn of_the_cut() {
     let folder = Folder::new();
@@ -54,7 +54,12 @@ fn of_the_cut() {
     let line = format!("refused 8: two trims overlap once they are widened to cutting places ({list}, entry 2, line 1: Trim(15,20), which becomes frames 10 to 29; entry 1, Trim(0,12), becomes frames 0 to 19)");
     assert_eq!((ran.status, ran.text()), (1, &*format!("{sheet}: sound\n{line}\n2 files checked, 1 fault in 1\n")));
     assert_eq!(run(&["check", "--list", &list]).status, 0);
-    assert_eq!(run(&["check", "--sheet", &sheet, "--list", &list, "--inward"]).status, 1);
+    // inward they are 0 to 9 and nothing
+    assert_eq!(run(&["check", "--sheet", &sheet, "--list", &list, "--inward"]).status, 0);
+    let list = folder.write("trim.txt", "Trim(0,12) ++ Trim(15,18)");
+    let ran = run(&["check", "--sheet", &sheet, "--list", &list, "--inward"]);
+    let line = format!("refused 9: a trim begins after it ends once it is narrowed (only when cutting inward) ({list}, entry 2, line 1: Trim(15,18))");
+    assert_eq!((ran.status, ran.text()), (1, &*format!("{sheet}: sound\n{line}\n2 files checked, 1 fault in 1\n")));
 }
 
 /// At most 50 of one number are printed.
@@ -163,5 +168,4 @@ fn completions() {
     }
     run(&["completions", "fish"]).fails(2, &["bobbincrag completions: there are completions for bash, none for fish"]);
     run(&["completions"]).fails(2, &["bobbincrag completions: it takes the name of a shell, which is bash"]);
-    let _ = cut();
 }

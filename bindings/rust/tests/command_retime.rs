@@ -193,13 +193,14 @@ fn refused_texts() {
 fn refused_cuts() {
     let folder = Folder::new();
     let whole = read(&play("srt", "sheet.bin"));
+    let frames = u32::from_le_bytes(whole[8..12].try_into().unwrap());
     let list = play("srt", "trim.txt");
     let out = folder.write("out.srt", "old");
     for blocks in 0..whole.len() / 512 {
         let sheet = folder.write("sheet.bin", &whole[..512 * blocks]);
         let place = match blocks {
             0 => "it is empty".to_string(),
-            b => format!("{} bytes, and for 2448 frames it should be {}: block {b} and what follows are missing or cut off", 512 * b, whole.len()),
+            b => format!("{} bytes, and for {frames} frames it should be {}: block {b} and what follows are missing or cut off", 512 * b, whole.len()),
         };
         let line = format!("refused 11: the sheet has a wrong length ({sheet}, {place})");
         run(&["retime", "--sheet", &sheet, "--list", &list, "--subs", &subs("srt"), "-o", &out]).fails(1, &[&line]);

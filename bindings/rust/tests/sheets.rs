@@ -127,9 +127,9 @@ fn places() {
         [
             "13: word 1 of block 0, ticks a second: 0, and it should be 1 to 1000000".to_string(),
             "13: word 6 of block 0, spare: 5, and it should be 0".to_string(),
+            "14: frame 0 (block 1, word 1): its decode index is 250, and it should be below 100".to_string(),
             "12: block 2: its number is 7".to_string(),
             format!("12: block 2: its sum is 1, and its words add up to {sum}"),
-            "14: frame 0 (block 1, word 1): its decode index is 250, and it should be below 100".to_string(),
         ]
     );
     let cut = sheet(100, 3);
@@ -145,5 +145,5 @@ fn places() {
     seal(&mut twice, 1);
     let told = told(&bytes(&twice));
     assert_eq!(told[..2], ["25: frames 0 and 1 both have decode index 0", "25: frames 0 and 2 both have decode index 0"]);
-    assert_eq!(told[2], "26: all durations together are 4611686018427487904 ticks, and the most is 9007199254740992; the longest is 4611686018427388905, of decode index 2");
+    assert_eq!(told[2], "26: all durations together are 4611686018427488004 ticks, and the most is 9007199254740992; the longest is 4611686018427388905, of decode index 2");
 }

@@ -90,11 +90,12 @@ fn limits(list: &[u8]) -> Vec<Fault> {
 /// The number of an entry by itself, or else behind a sound one. A list that is blank is good; an entry that is blank is not, so it is asked for as two.
 fn number_of(entry: Entry<'_>, behind: Option<Entry<'_>>) -> u32 {
     let number = |list: &[u8]| check_list(list).err().map_or(0, |r| r.0);
-    if trimmed(entry.text).is_empty() {
+    let text = trimmed(entry.text);
+    if text.is_empty() {
         return number(b"++");
     }
-    match (number(entry.text), behind) {
-        (0, Some(before)) => number(&[before.text, b"++", entry.text].concat()),
+    match (number(text), behind) {
+        (0, Some(before)) => number(&[trimmed(before.text), b"++", text].concat()),
         (alone, _) => alone,
     }
 }

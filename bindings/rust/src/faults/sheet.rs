@@ -78,6 +78,16 @@ impl Copy {
         self.set(128 * block + 127, sum);
     }
 
+    /// Changes a word; a sum that was right stays right, one that was wrong is still to be told.
+    fn mend(&mut self, k: usize, value: u32) {
+        let last = k / 128 * 128 + 127;
+        let right = word(&self.bytes, last) == self.sum(k / 128);
+        self.set(k, value);
+        if right {
+            self.set(last, self.sum(k / 128));
+        }
+    }
+
     /// The layout and the frame count, where the head's are within their limits.
     fn shape(&self) -> Option<(Layout, usize)> {
         let head = Head::of(&self.bytes)?;
@@ -98,6 +108,7 @@ impl Copy {
             std::cmp::Ordering::Less => format!("block {} and what follows are missing or cut off", length / BLOCK),
             _ => format!("what stands behind block {} is too much", due / BLOCK - 1),
         };
+        self.bytes.truncate(length / BLOCK * BLOCK);
         self.bytes.resize(due, 0);
         self.fill(layout, n, length / BLOCK);
         vec![Fault::new(11, format!("{length} bytes, and for {n} frames it should be {due}: {blocks}"))]
@@ -170,14 +181,14 @@ impl Copy {
                 found.push(Fault::new(14, format!("frame {i} ({place}): its decode index is {}, and it should be below {n}", frame.decode)));
             } else if i >= n && (frame.decode, frame.sync, duration) != (0, false, 0) {
                 found.push(Fault::new(14, format!("the record at {place}, past the last frame: it should be zero")));
-                (at..at + layout.words()).for_each(|k| self.set(k, 0));
+                (at..at + layout.words()).for_each(|k| self.mend(k, 0));
             }
         }
         self.rename(layout, n, false);
         found
     }
 
-    /// Gives every frame whose decode index is out of range, or, where asked for, stands twice, one that no frame names, and seals all blocks.
+    /// Gives every frame whose decode index is out of range, or, where asked for, stands twice, one that no frame names.
     fn rename(&mut self, layout: Layout, n: usize, twice: bool) {
         let decodes: Vec<usize> = (0..n).map(|i| record(&self.bytes, layout, i).0.decode as usize).collect();
         let mut named = vec![false; n];
@@ -185,9 +196,8 @@ impl Copy {
         let mut free = (0..n).filter(|k| !named[*k]);
         for i in (0..n).filter(|i| !good[*i]) {
             let sync = word(&self.bytes, layout.place(i)) & 1 << 31;
-            self.set(layout.place(i), sync | free.next().unwrap_or(0) as u32);
+            self.mend(layout.place(i), sync | free.next().unwrap_or(0) as u32);
         }
-        (0..self.bytes.len() / BLOCK).for_each(|b| self.seal(b));
     }
 
     fn twice(&mut self) -> Vec<Fault> {
