@@ -262,8 +262,31 @@ pub fn retime(kind: Kind, map: &Map, text: &[u8]) -> Result<Retimed, Stopped> {
     Err(Stopped { refused: Refused(number), place: place_of(number, kind, text, Start::default()), before })
 }
 
+/// Bytes of a text that is retimed by one call; the output that is lent to it is three times as long, so longer texts go through a session.
+const MOST_AT_ONCE: usize = 1 << 25;
+
 /// The number, and what a session gives that is fed all of the text and finished; nothing of a text that is refused (15, 16).
 fn whole(kind: Kind, map: &Map, text: &[u8]) -> (u32, Retimed) {
+    if text.len() <= MOST_AT_ONCE {
+        at_once(kind, map, text)
+    } else {
+        in_pieces(kind, map, text)
+    }
+}
+
+/// By one call.
+fn at_once(kind: Kind, map: &Map, text: &[u8]) -> (u32, Retimed) {
+    let (mut out, mut places, mut told) = (vec![0; 3 * text.len() + LEAST_OUTPUT], vec![0; text.len() / 3 + LEAST_PLACES], [0; 7]);
+    let number = ffi::text(kind.number(), map.timescale, &map.numbers, text, &mut out, &mut places, &mut told);
+    let [written, warned, shifted, clipped, dropped, passed, _] = told;
+    out.truncate(written as usize);
+    out.shrink_to_fit();
+    let warnings = warnings_in(&places[..warned as usize]).collect();
+    (number, Retimed { text: out, warnings, counts: Counts { shifted, clipped, dropped, passed } })
+}
+
+/// By a session.
+fn in_pieces(kind: Kind, map: &Map, text: &[u8]) -> (u32, Retimed) {
     let mut session = [0; SESSION_BYTES];
     let mut number = ffi::open(kind.number(), map.timescale, &map.numbers, &mut session);
     let (mut all, mut lent) = (Written::default(), Lent::new());
@@ -279,5 +302,51 @@ fn whole(kind: Kind, map: &Map, text: &[u8]) -> (u32, Retimed) {
     match number {
         15..=18 => (number, Retimed::default()),
         _ => (number, Retimed { text: all.text, warnings: all.warnings, counts: counts_in(&session) }),
+    }
+}
+
+#[cfg(test)]
+mod tests {
+    use super::*;
+
+    fn map() -> Map {
+        Map { timescale: 1_000, numbers: vec![0, 1, 0, 1, 0, 20_000, 1, 2, 30_000, 1, 20_000, 60_000] }
+    }
+
+    /// Captions of a kind, one every second and twelve long, and a line at the end.
+    fn text(kind: Kind, count: u64, last: &str) -> String {
+        let caption = |k: u64| {
+            let (a, b) = (kind.time(kind.units() * k), kind.time(kind.units() * (k + 12)));
+            match kind {
+                Kind::Ass => format!("Dialogue: {a},{b},{{\\k5}}word\n"),
+                Kind::Srt | Kind::Vtt => format!("{a} --> {b}\n<{k}>word\n\n"),
+            }
+        };
+        let head = match kind {
+            Kind::Ass => "[Events]\nFormat: Start, End, Text\n",
+            Kind::Srt => "",
+            Kind::Vtt => "WEBVTT\n\n",
+        };
+        head.to_string() + &(0..count).map(caption).collect::<String>() + last
+    }
+
+    /// Both ways are the same, of faulty and of refused texts too.
+    #[test]
+    fn both_ways() {
+        let long = "x".repeat(4_097);
+        for kind in Kind::ALL {
+            for last in ["", "1 --> 2", "Dialogue: 1,2,3\n", &long, "\u{FEFF}", "Dialogue: 1"] {
+                for count in [0, 1, 90, 1_000] {
+                    let text = text(kind, count, last);
+                    let told = at_once(kind, &map(), text.as_bytes());
+                    assert_eq!(told, in_pieces(kind, &map(), text.as_bytes()), "{kind:?} {count} {last}");
+                    let Counts { shifted, clipped, dropped, .. } = told.1.counts;
+                    assert!(count < 1_000 || shifted > 50 && clipped > 10 && dropped > 900 && !told.1.warnings.is_empty(), "{kind:?} {:?}", told.1.counts);
+                }
+            }
+            let bad = Map { timescale: 0, ..map() };
+            assert_eq!(at_once(kind, &bad, b"x"), (15, Retimed::default()));
+            assert_eq!(in_pieces(kind, &bad, b"x"), (15, Retimed::default()));
+        }
     }
 }
