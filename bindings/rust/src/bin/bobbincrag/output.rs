@@ -17,6 +17,7 @@ pub fn print(bytes: &[u8]) -> Result<(), Failure> {
 
 /// A file that is written but stands under another name yet. Dropped, it is removed.
 struct Pending {
+    file: File,
     written: PathBuf,
     place: PathBuf,
     shown: PathBuf,
@@ -78,23 +79,27 @@ impl Files {
 
     fn beside(&mut self, path: &Path, place: PathBuf, bytes: &[u8], rights: Option<fs::Permissions>) -> std::io::Result<()> {
         let folder = place.parent().filter(|p| !p.as_os_str().is_empty()).unwrap_or(Path::new("."));
-        let (written, mut file) = created(folder)?;
-        self.pending.push(Pending { written, place, shown: path.to_path_buf() });
-        file.write_all(bytes)?;
+        let (written, file) = created(folder)?;
+        let mut pending = Pending { file, written, place, shown: path.to_path_buf() };
+        pending.file.write_all(bytes)?;
         if let Some(rights) = rights {
-            file.set_permissions(rights)?;
+            pending.file.set_permissions(rights)?;
         }
-        file.sync_all()
+        self.pending.push(pending);
+        Ok(())
     }
 
-    /// Lets every file take its place.
+    /// Lets every file take its place, once all are on the disk.
     pub fn done(mut self) -> Result<(), Failure> {
+        for pending in &self.pending {
+            pending.file.sync_all().map_err(|e| Failure::writing(&pending.shown, reason(&e)))?;
+        }
         for (path, bytes) in &self.direct {
             let written = OpenOptions::new().write(true).open(path).and_then(|mut f| f.write_all(bytes));
             written.map_err(|e| Failure::writing(path, reason(&e)))?;
         }
-        for file in self.pending.drain(..) {
-            fs::rename(&file.written, &file.place).map_err(|e| Failure::writing(&file.shown, reason(&e)))?;
+        for pending in self.pending.drain(..) {
+            fs::rename(&pending.written, &pending.place).map_err(|e| Failure::writing(&pending.shown, reason(&e)))?;
             std::mem::forget(self.made.take());
         }
         Ok(())
