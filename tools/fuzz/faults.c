@@ -28,12 +28,12 @@ static uint32_t before_session(uint32_t kind, uint32_t t, const uint64_t *m, siz
 
 static uint32_t never_given(const uint8_t *list, size_t n) {
     uint32_t number = retimer_list_check(list, n);
-    return number == 3 ? 1 : number;
+    return number ? 1 : 0;
 }
 
 static uint32_t exchanged(uint64_t v, uint32_t t, uint32_t kind) {
     uint32_t number = retimer_units_number(v, t, kind);
-    return number == 15 && kind > 2 ? 16 : number;
+    return number == 16 ? 15 : number;
 }
 
 static uint32_t reads_past(const uint8_t *list, size_t n) {

@@ -97,10 +97,10 @@ static void show(uint64_t done) {
         uint64_t sum = 0;
         for (k = 0; k < 32; k++)
             sum += seen[f][k];
-        printf("%-28s %10llu calls:", table[f].name, (unsigned long long)sum);
+        printf("%-28s %10llu calls;", table[f].name, (unsigned long long)sum);
         for (k = 0; k < 32; k++)
             if (seen[f][k])
-                printf(" %u x %llu%s", k, (unsigned long long)seen[f][k], "");
+                printf("  %u: %llu", k, (unsigned long long)seen[f][k]);
         printf("\n");
     }
     printf("%llu cases of seed %llu, no violation\n", (unsigned long long)done, (unsigned long long)seed);

@@ -184,7 +184,7 @@ void case_delay(void) {
     uint32_t budget = one_in(10) ? 0 : one_in(10) ? (uint32_t)near(12001, 2) : one_in(20) ? (uint32_t)any() : 1 + (uint32_t)below(60);
     size_t numbers = draw_map(timescale, 0), count = one_in(80) ? near(8192, 3) : one_in(10) ? below(100) : 2 * below(11), k;
     for (k = 0; k < count; k++)
-        captions[k] = one_in(4) ? below(8000) : draw_units(kind, timescale, numbers) % (MOST_UNITS + one_in(100));
+        captions[k] = one_in(4) ? below(8000) : one_in(300) ? draw_value(MOST_UNITS) : draw_units(kind, timescale, numbers) % (MOST_UNITS + 1);
     as = timescale_bad(timescale) || map_bad(map_numbers, numbers) ? 15 : !budget || count / 2 > 4096 ? 29 : kind > 2 || count % 2 || late(count) ? 16 : 0;
     number = answered(BEST_DELAY, retimer_best_delay(given(&in_map, map_numbers, 8 * numbers), numbers, timescale, kind, given(&in_captions, captions, 8 * count), count, budget,
                                                      (int64_t *)(void *)place(0), place32(1), place32(2), place32(3)));

@@ -165,6 +165,7 @@ static int start(struct run *r, uint32_t kind, uint32_t timescale, const uint64_
 /* The text in pieces of a way of cutting, with refused calls between where asked for, and its end. */
 static void feed_all(struct run *r, const uint64_t *map, size_t numbers, size_t length, unsigned cutting, int disturbed) {
     size_t at = 0, n;
+    cutting = cutting == 2 && length > 4000 ? 3 : cutting;
     while (!r->number && at < length) {
         n = cutting == 0 ? 1024 : cutting == 1 ? below(1025) : cutting == 2 ? below(9) : 1 + below(300);
         n = n < length - at ? n : length - at;

@@ -18,12 +18,12 @@ static void worked(enum function f, const uint8_t *work, size_t lent, size_t zer
 }
 
 void case_sheet(void) {
-    size_t length = one_in(40) ? below(3000) : draw_sheet(one_in(2)), lent, zeroed, k;
+    size_t length = draw_sheet(one_in(2)), lent, zeroed, k;
     uint32_t number, as;
     const uint8_t *sheet;
     uint8_t *work;
-    if (one_in(100))
-        for (k = 0; k < length; k++)
+    if (one_in(40))
+        for (length = one_in(2) ? below(3000) : 512 * below(6), k = 0; k < length; k++)
             sheet_bytes[k] = (uint8_t)any();
     lent = draw_work(length >= 12 ? ((size_t)word_at(sheet_bytes, 2) + 7) / 8 : 1);
     sheet = given(&in_sheet, sheet_bytes, length);

@@ -13,13 +13,12 @@ static struct said want, got;
 static uint8_t json[RETIMER_MOST_TEXT + 4096];
 
 /* Bytes of the text, or 0 where it is refused; the number must be `as`. */
-static size_t written(const struct said *s, size_t numbers, const uint64_t *map, size_t path_length, size_t lent, uint32_t as, int length_asked) {
+static size_t written(const struct said *s, size_t numbers, const uint64_t *map, size_t path_length, size_t lent, uint32_t as) {
     uint8_t *text = lend(&lent_json, lent);
     uint64_t length;
     uint32_t number = answered(MAP_WRITE, call.map_write(given(&in_map, map, 8 * numbers), numbers, s->timescale, s->rate_num, s->rate_den,
                                                          given(&in_path, text_bytes, path_length), path_length, s->frames, text, lent, place(0)));
-    if (!length_asked || number != 16)
-        expect_number(MAP_WRITE, number, as);
+    expect_number(MAP_WRITE, number, as);
     if (number) {
         kept(MAP_WRITE, &lent_json, text, lent, 0, "the text of a refused call");
         place_kept(MAP_WRITE, 0);
@@ -108,10 +107,10 @@ static void draw_said(void) {
 void case_stored(void) {
     size_t length, lent;
     draw_said();
-    length = written(&want, want.numbers, want.map, want.path_length, RETIMER_MOST_TEXT, 0, 0);
+    length = written(&want, want.numbers, want.map, want.path_length, RETIMER_MOST_TEXT, 0);
     read_back(length);
     lent = one_in(2) ? length : one_in(2) ? length - 1 : below(length);
-    expect((written(&want, want.numbers, want.map, want.path_length, lent, lent < length ? 16 : 0, 0) != 0) == (lent >= length), MAP_WRITE, "room for the text");
+    expect((written(&want, want.numbers, want.map, want.path_length, lent, lent < length ? 16 : 0) != 0) == (lent >= length), MAP_WRITE, "room for the text");
     if (one_in(3)) { /* unsound */
         size_t numbers = draw_map(want.timescale, 0), path = one_in(3) ? near(RETIMER_MOST_PATH, 2) : want.path_length;
         uint32_t t = want.timescale, as;
@@ -121,7 +120,7 @@ void case_stored(void) {
         if (path && one_in(4))
             text_bytes[path - 1] = 0xE3;
         as = timescale_bad(want.timescale) || map_bad(map_numbers, numbers) ? 15 : path > RETIMER_MOST_PATH ? 16 : path && text_bytes[path - 1] == 0xE3 ? 20 : 0;
-        written(&want, numbers, map_numbers, path, RETIMER_MOST_TEXT, as, 0);
+        written(&want, numbers, map_numbers, path, RETIMER_MOST_TEXT, as);
         want.timescale = t;
     }
 }
@@ -131,7 +130,7 @@ void case_json(void) {
     size_t length, k;
     uint32_t number, again;
     draw_said();
-    length = written(&want, want.numbers, want.map, want.path_length, RETIMER_MOST_TEXT, 0, 0);
+    length = written(&want, want.numbers, want.map, want.path_length, RETIMER_MOST_TEXT, 0);
     if (one_in(20))
         for (length = below(200), k = 0; k < length; k++)
             json[k] = (uint8_t)(one_in(2) ? any() : (uint64_t)"{}[]\",:0123456789\\unrtfalse \n"[below(30)]);
@@ -145,5 +144,5 @@ void case_json(void) {
         return;
     memcpy(&want, &got, sizeof want);
     memcpy(text_bytes, want.path, want.path_length);
-    read_back(written(&want, want.numbers, want.map, want.path_length, RETIMER_MOST_TEXT, 0, 0));
+    read_back(written(&want, want.numbers, want.map, want.path_length, RETIMER_MOST_TEXT, 0));
 }
