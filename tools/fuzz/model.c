@@ -17,11 +17,13 @@ void word_to(uint8_t *b, size_t k, uint32_t v) {
     b[4 * k + 3] = (uint8_t)(v >> 24);
 }
 
+/* Words are stored least byte first, as on the machines that this runs on. */
 static uint32_t sum_of(const uint8_t *block) {
-    uint32_t sum = 0;
+    uint32_t words[127], sum = 0;
     size_t k;
+    memcpy(words, block, sizeof words);
     for (k = 0; k < 127; k++)
-        sum += word_at(block, k);
+        sum += words[k];
     return sum;
 }
 
@@ -225,17 +227,15 @@ uint32_t map_of(const uint8_t *s, const struct range *list, size_t count, uint32
 
 /* ---- a session's bytes */
 static int zeros(const uint8_t *b, size_t from, size_t to) {
-    for (; from < to; from++)
-        if (b[from])
-            return 0;
-    return 1;
+    static const uint8_t none[512];
+    return from >= to || !memcmp(b + from, none, to - from);
 }
 
 /* Whether the room behind the first `held` bytes is zero; it passes over each block's first and last word. */
 static int room_zero(const uint8_t *s, uint32_t held) {
-    size_t k;
-    for (k = held; k < 17 * 504; k++)
-        if (s[512 * (1 + k / 504) + 4 + k % 504])
+    size_t b;
+    for (b = 0; b < 17; b++)
+        if (!zeros(s + 512 * (b + 1) + 4, held <= 504 * b ? 0 : held - 504 * b, 504))
             return 0;
     return 1;
 }
