@@ -5,7 +5,7 @@ struct calls call = {retimer_sheet_check, retimer_list_check, retimer_open, reti
 
 const char *const faults[] = {
     "a byte behind a text that was written", "a byte past the lent work bytes", "a byte before a session", "output written by a refused call", "a number that the function never gives", "a wrong number of those it gives",
-    "a byte read past the list", "a byte written into the list", "a told length that is too large", "a damaged session accepted", "output that depends on the cutting", "a count too many", "a session left unsealed", NULL};
+    "a byte read past the list", "a byte written into the list", "a told length that is too large", "a damaged session accepted", "output that depends on the cutting", "a count too many", "a session left unsealed", "a length told by a refused call", NULL};
 
 static uint32_t behind_text(const uint64_t *m, size_t n, uint32_t t, uint32_t a, uint32_t b, const uint8_t *p, size_t pn, uint32_t f, uint8_t *text, size_t lent, uint64_t *written) {
     uint32_t number = retimer_map_write(m, n, t, a, b, p, pn, f, text, lent, written);
@@ -69,6 +69,8 @@ static uint32_t bad_feed(uint8_t *s, size_t sn, const uint64_t *m, size_t mn, co
         out[0] ^= 1;
     if (which == 12 && !refused)
         s[511] ^= 1;
+    if (which == 13 && refused)
+        *warned += 1;
     return number;
 }
 

@@ -123,6 +123,7 @@ static int noticed(int fault, int quiet) {
         uint64_t k;
         if (quiet && nowhere >= 0)
             dup2(nowhere, 2);
+        make_slots(); /* its own: a slot is shared with the process that made it */
         if (fault >= 0)
             put_fault((unsigned)fault);
         for (k = 0; k < 3000; k++)
@@ -149,13 +150,13 @@ int main(int count, char **words) {
     __sanitizer_set_death_callback(where);
     seed = count > 2 ? strtoull(words[2], NULL, 10) : 1;
     seed_with(seed, UINT64_MAX);
-    make_slots();
     if (count == 2 && !strcmp(words[1], "--self-test"))
         return self_test();
     if (count < 3 || count > 5) {
         fprintf(stderr, "usage: fuzz SECONDS SEED [FIRST [COUNT]]\n");
         return 2;
     }
+    make_slots();
     first = count > 3 ? strtoull(words[3], NULL, 10) : 0;
     many = count > 4 ? strtoull(words[4], NULL, 10) : UINT64_MAX;
     end = seconds() + strtod(words[1], NULL);
