@@ -109,6 +109,26 @@ uint32_t retimer_feed(uint8_t *session, size_t session_lent, const uint64_t *map
 uint32_t retimer_finish(uint8_t *session, size_t session_lent, const uint64_t *map, size_t map_length, uint8_t *out, size_t out_lent, uint64_t *warnings,
                         size_t warnings_lent, uint64_t *written, uint64_t *warned);
 
+/* A whole text in one call: opened, fed and finished inside. For a text of `length` bytes at least RETIMER_OUTPUT_FOR(length) bytes of output, RETIMER_PLACES_FOR(length)
+ * places for warnings and RETIMER_TOLD_NUMBERS told numbers are lent.
+ * Refused, nothing is written: 15 for the timescale or the map, 16 for the kind, a text of more than 2^30 bytes, or too little lent.
+ * Else 0, or 19 to 22 or 24 for the text: the retimed text, of a faulty one what stands before the fault, is at the start of `out`, the warnings, two numbers to each, at the start
+ * of `warnings`, and the told numbers are those below; bytes and numbers behind them stay. They are what feeds of the text, cut anywhere, and a finish write, warn of and count. */
+#define RETIMER_OUTPUT_FOR(length) (3 * (size_t)(length) + 32768)
+#define RETIMER_PLACES_FOR(length) ((size_t)(length) / 3 + 4096)
+#define RETIMER_TOLD_NUMBERS 7
+enum retimer_told {
+    RETIMER_TOLD_WRITTEN = 0, /* bytes of output */
+    RETIMER_TOLD_WARNED = 1,  /* numbers for warnings, two to each */
+    RETIMER_TOLD_SHIFTED = 2, /* captions moved whole */
+    RETIMER_TOLD_CLIPPED = 3, /* captions that were shortened */
+    RETIMER_TOLD_DROPPED = 4, /* captions of which nothing is kept */
+    RETIMER_TOLD_PASSED = 5,  /* captions that stay as they are, with warning 1 or 2 */
+    RETIMER_TOLD_TAKEN = 6    /* bytes of the text */
+};
+uint32_t retimer_text(uint32_t kind, uint32_t timescale, const uint64_t *map, size_t map_length, const uint8_t *text, size_t length, uint8_t *out, size_t out_length,
+                      uint64_t *warnings, size_t places, uint64_t *told, size_t told_places);
+
 /* Conversions. kind: 0 ASS (hundredths), 1 SRT and 2 WebVTT (thousandths); timescale: ticks a second, 1 to 1000000000.
  * A value of units is at most 2^36, one of ticks at most 2^53. Refused, they return 0; the number says so. */
 uint64_t retimer_units_to_ticks(uint64_t value, uint32_t timescale, uint32_t kind);
