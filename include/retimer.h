@@ -109,7 +109,7 @@ uint32_t retimer_feed(uint8_t *session, size_t session_lent, const uint64_t *map
 uint32_t retimer_finish(uint8_t *session, size_t session_lent, const uint64_t *map, size_t map_length, uint8_t *out, size_t out_lent, uint64_t *warnings,
                         size_t warnings_lent, uint64_t *written, uint64_t *warned);
 
-/* A whole text in one call: opened, fed and finished inside. For a text of `length` bytes at least RETIMER_OUTPUT_FOR(length) bytes of output, RETIMER_PLACES_FOR(length)
+/* A whole text in one call: opened, fed and finished inside. For a text of `text_length` bytes at least RETIMER_OUTPUT_FOR(text_length) bytes of output, RETIMER_PLACES_FOR(text_length)
  * places for warnings and RETIMER_TOLD_NUMBERS told numbers are lent.
  * Refused, nothing is written: 15 for the timescale or the map, 16 for the kind, a text of more than 2^30 bytes, or too little lent.
  * Else 0, or 19 to 22 or 24 for the text: the retimed text, of a faulty one what stands before the fault, is at the start of `out`, the warnings, two numbers to each, at the start
@@ -126,8 +126,8 @@ enum retimer_told {
     RETIMER_TOLD_PASSED = 5,  /* captions that stay as they are, with warning 1 or 2 */
     RETIMER_TOLD_TAKEN = 6    /* bytes of the text */
 };
-uint32_t retimer_text(uint32_t kind, uint32_t timescale, const uint64_t *map, size_t map_length, const uint8_t *text, size_t length, uint8_t *out, size_t out_length,
-                      uint64_t *warnings, size_t places, uint64_t *told, size_t told_places);
+uint32_t retimer_text(uint32_t kind, uint32_t timescale, const uint64_t *map, size_t map_length, const uint8_t *text, size_t text_length, uint8_t *out, size_t out_lent,
+                      uint64_t *warnings, size_t warnings_lent, uint64_t *told, size_t told_lent);
 
 /* Conversions. kind: 0 ASS (hundredths), 1 SRT and 2 WebVTT (thousandths); timescale: ticks a second, 1 to 1000000000.
  * A value of units is at most 2^36, one of ticks at most 2^53. Refused, they return 0; the number says so. */

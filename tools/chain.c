@@ -22,8 +22,11 @@ static void fail(const char *what, unsigned long number) {
     exit(1);
 }
 
+/* Zeros, kept until the end. */
 static void *room(size_t length) {
-    void *at = calloc(length ? length : 1, 1);
+    static void *made[32];
+    static size_t many;
+    void *at = many < 32 ? made[many++] = calloc(length ? length : 1, 1) : NULL;
     if (!at)
         fail("no memory for", (unsigned long)length);
     return at;
@@ -89,16 +92,15 @@ static struct retimed in_pieces(uint32_t kind, uint32_t timescale, const uint64_
 #ifdef WITH_TEXT
 static struct retimed at_once(uint32_t kind, uint32_t timescale, const uint64_t *map, size_t numbers, struct bytes text) {
     struct retimed r = places(text.length);
-    uint64_t told[7] = {0};
-    uint32_t number = retimer_text(kind, timescale, map, numbers, text.at, text.length, r.out, 3 * text.length + RETIMER_LEAST_OUTPUT, r.warnings,
-                                   text.length / 3 + RETIMER_LEAST_PLACES, told, 7);
+    uint64_t told[RETIMER_TOLD_NUMBERS] = {0};
+    uint32_t number = retimer_text(kind, timescale, map, numbers, text.at, text.length, r.out, RETIMER_OUTPUT_FOR(text.length), r.warnings, RETIMER_PLACES_FOR(text.length), told, RETIMER_TOLD_NUMBERS);
     if (number)
         fail("retimer_text", number);
-    if (told[6] != text.length)
-        fail("retimer_text took", (unsigned long)told[6]);
-    r.written = told[0];
-    r.warned = told[1];
-    memcpy(r.counts, told + 2, sizeof r.counts);
+    if (told[RETIMER_TOLD_TAKEN] != text.length)
+        fail("retimer_text took", (unsigned long)told[RETIMER_TOLD_TAKEN]);
+    r.written = told[RETIMER_TOLD_WRITTEN];
+    r.warned = told[RETIMER_TOLD_WARNED];
+    memcpy(r.counts, told + RETIMER_TOLD_SHIFTED, sizeof r.counts);
     return r;
 }
 #endif
