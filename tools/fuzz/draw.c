@@ -236,6 +236,7 @@ size_t draw_list(uint64_t frames, int *known) {
     static const char *const blank[] = {"", " ", "\n", "\xc2\xa0\t"};
     struct writer w = {list_bytes, 0, MOST_LIST};
     size_t k;
+    int last = one_in(60); /* it ends at the last frame that there can be */
     *known = 1;
     draw_ranges(frames);
     if (one_in(15)) {
@@ -250,10 +251,10 @@ size_t draw_list(uint64_t frames, int *known) {
         say(&w, "Trim(");
         say_number(&w, ranges[k].start);
         say(&w, ",");
-        say_number(&w, ranges[k].end - 1);
+        say_number(&w, last && k + 1 == range_count ? UINT32_MAX : ranges[k].end - 1);
         say(&w, ")");
     }
-    *known = range_count >= 1 && range_count <= 1024 && w.length <= 65536;
+    *known = !last && range_count >= 1 && range_count <= 1024 && w.length <= 65536;
     if (one_in(3)) {
         *known = 0;
         w.length = mutate(list_bytes, w.length, MOST_LIST);

@@ -125,6 +125,24 @@ void case_stored(void) {
     }
 }
 
+/* A number of the text gets other digits. */
+static size_t other_number(size_t length) {
+    static const char *const numbers[] = {"0", "1000000000", "1000000001", "4294967295", "4294967296", "9007199254740992", "9007199254740993", "18446744073709551615", "18446744073709551616", "01", "7"};
+    const char *number = PICK(numbers);
+    size_t at = below(length), end, size = strlen(number);
+    while (at < length && (json[at] < '0' || json[at] > '9'))
+        at++;
+    while (at > 0 && json[at - 1] >= '0' && json[at - 1] <= '9')
+        at--;
+    for (end = at; end < length && json[end] >= '0' && json[end] <= '9'; end++)
+        ;
+    if (end == at || length - (end - at) + size > sizeof json)
+        return length;
+    memmove(json + at + size, json + end, length - end);
+    memcpy(json + at, number, size);
+    return length - (end - at) + size;
+}
+
 /* A damaged text, or any bytes: whatever is read is written and read again the same. */
 void case_json(void) {
     size_t length, k;
@@ -134,6 +152,8 @@ void case_json(void) {
     if (one_in(20))
         for (length = below(200), k = 0; k < length; k++)
             json[k] = (uint8_t)(one_in(2) ? any() : (uint64_t)"{}[]\",:0123456789\\unrtfalse \n"[below(30)]);
+    else if (one_in(3))
+        length = other_number(length);
     else
         length = mutate(json, length, sizeof json);
     number = read_text(json, length, RETIMER_MAP_NUMBERS, RETIMER_MOST_PATH);

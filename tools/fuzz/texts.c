@@ -101,6 +101,18 @@ static void ass_line(uint32_t timescale, const uint64_t *map, size_t numbers) {
     say(line_end());
 }
 
+/* Lines of about 4,096 bytes together. */
+static void long_block(void) {
+    size_t k, left = near(4096 - 40, 60);
+    while (left > 1) {
+        size_t n = one_in(3) ? left : 1 + below(left < 1500 ? left : 1500);
+        for (k = 1; k < n; k++)
+            say("y");
+        say_line("");
+        left -= n;
+    }
+}
+
 static void block(uint32_t kind, uint32_t timescale, const uint64_t *map, size_t numbers) {
     static const char *const arrows[] = {" --> ", " --> ", "-->", "\t-->\xe3\x80\x80", " --> "};
     static const char *const behind[] = {"", "", "", " X1:1 X2:2", " align:start", "\tline:0", "\xc2\xa0", " ", "6"};
@@ -120,6 +132,8 @@ static void block(uint32_t kind, uint32_t timescale, const uint64_t *map, size_t
         say_words();
         say(line_end());
     }
+    if (one_in(150))
+        long_block();
     if (!one_in(20))
         say(line_end());
     if (kind == 1 && one_in(20))
@@ -150,7 +164,7 @@ size_t draw_text(uint32_t kind, uint32_t timescale, const uint64_t *map, size_t 
     if (one_in(60))
         for (length = below(3000), k = 0; k < length; k++)
             text_bytes[k] = (uint8_t)any();
-    return one_in(10) ? below(length + 1) : length;
+    return one_in(10) ? below(length + 1) : one_in(8) && length ? length - 1 : length;
 }
 
 /* ---- damage */
