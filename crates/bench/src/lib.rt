@@ -1,4 +1,7 @@
 // C functions for measurements alone, each with the contract of what it calls.
+mod feeding;
+
+pub use feeding::bench_feed;
 ghost use mathlib.Core.Path.{_≡_};
 ghost use mathlib.Core.Bool.{cond};
 ghost use Rattle.base.specs.Limits.{mostWork};

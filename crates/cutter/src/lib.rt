@@ -6,6 +6,7 @@ mod mapping;
 mod starts;
 mod stored;
 mod telling;
+mod texting;
 
 pub use delays::retimer_best_delay;
 pub use judging::retimer_rough;
@@ -17,6 +18,7 @@ pub use starts::retimer_census;
 pub use stored::retimer_map_read;
 pub use stored::retimer_map_write;
 pub use telling::retimer_why;
+pub use texting::retimer_text;
 ghost use mathlib.Core.Path.{_≡_};
 ghost use lib.ListN.{length};
 ghost use Rattle.sheet.specs.Sheet.{sheetOf, workAfter, numberOf};

@@ -35,7 +35,7 @@ use Rattle.example.specs.Texts.{assFirst, assRest, assTold}
 use Rattle.example.proofs.Four.{worked}
 
 -- the reader after the four calls: the refused piece is in its text once
-abbrev heard : Heard
+abbrev pub heard : Heard
 heard =
     record {
       numbers = 0 ∷ 16 ∷ 0 ∷ 0 ∷ [];
@@ -46,9 +46,12 @@ heard-is : plainFour 0 assFirst assRest ≡ heard
 unfolding leadLen secondLow secondHigh tail widthBy charWidth utf8From utf8 codeBy codeHead whiteHigh white whiteHead last endsWhite whiteTail headFrom keepFrom trimHead trimTail trim starts equals first contains upTo past piecesFrom pieces digit digits valueFrom natural unsigned number linesOf textOf terminatorLength terminatorOf kindBad unitsOf markOf timeWith markIn timeIn namesIn placeIn columnsIn fields fieldAt holdsAny bracketed inside pieceAt fieldPieces captionSays wordSays textSays lineSays faultUnless _orElse_ lineFault assRead linesSay plainRead flatOf segmentsOf endBad segmentBad anyBad mapBad readerRefusal
 heard-is = refl
 
-read-is : readBy 0 plainMap heard ≡ assTold
+pub read-is : readBy 0 plainMap heard ≡ assTold
 unfolding leadLen secondLow secondHigh tail widthBy charWidth utf8From utf8 codeBy codeHead whiteHigh white whiteHead last endsWhite whiteTail headFrom keepFrom trimHead trimTail trim starts equals first contains upTo past piecesFrom pieces digit digits valueFrom natural unsigned number linesOf textOf terminatorLength terminatorOf kindBad unitsOf markOf timeWith markIn timeIn namesIn placeIn columnsIn fields fieldAt holdsAny bracketed inside pieceAt fieldPieces captionSays wordSays textSays lineSays faultUnless _orElse_ lineFault assRead linesSay plainRead flatOf segmentsOf emitBy emitsOf render outputOf warningsOf timeText textWith pad width widthUnder fractionDigits hourDigits decideOf decideTicks findFrom meetsParts lostLater ticksOf startUnits endUnits scaledUp countAll
 read-is = refl
+
+pub ass-read : readBy 0 plainMap (plainFour 0 assFirst assRest) ≡ assTold
+ass-read = ap (readBy 0 plainMap) heard-is ∙ read-is
 
 pub known : kindBad 0 ≡ false
 unfolding kindBad
@@ -58,7 +61,7 @@ known = refl
 pub ass-run : (out short places : List ℕ) → length out ≡ 32768 → length short ≡ 32767 → length places ≡ 4096
     → toldBy (outcome (openAnswer 0 .session) (madeCalls 0 assFirst assRest out short places)) ≡ assTold
 ass-run out short places long few enough =
-    worked 0 known assFirst assRest out short places long few enough ∙ ap (readBy 0 plainMap) heard-is ∙ read-is
+    worked 0 known assFirst assRest out short places long few enough ∙ ass-read
 
 -- for buffers of zeros
 pub ass-zeros : toldBy (outcome (openAnswer 0 .session) (madeCalls 0 assFirst assRest (replicate 32768 0) (replicate 32767 0) (replicate 4096 0))) ≡ assTold

@@ -5,3 +5,4 @@ pub mod AssFates
 pub mod SrtRun
 pub mod VttRun
 pub mod VttRows
+pub mod StoredRun

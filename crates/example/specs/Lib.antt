@@ -3,3 +3,4 @@ pub mod Calls
 pub mod Worked
 pub mod Texts
 pub mod VttRows
+pub mod Stored

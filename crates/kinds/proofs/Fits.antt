@@ -1,5 +1,5 @@
 -- What any call writes fits the output and the places that it is lent, whatever session it is given.
-use mathlib.Core.Path.{_≡_, refl}
+use mathlib.Core.Path.{_≡_, refl, subst}
 use mathlib.Core.Bool.{Bool, true, false}
 use mathlib.Core.List.{List, [], _∷_}
 use Prim.Native.Nat.{ℕ, zero, suc, _+_, _*_, _≤_}
@@ -21,8 +21,9 @@ use Rattle.machine.specs.Machine.{Run, going, stopped, run, finishRun}
 use Rattle.machine.specs.Session.{Session, Call, feed, finish, lentOf, argumentBad, gate, foreign, settle, resume, accepted, respond, answer}
 use Rattle.machine.proofs.Emits.{parts-none}
 use Rattle.machine.proofs.CutLaws.{cut-length}
+use Rattle.machine.proofs.Bytes.{begin}
 use Rattle.machine.proofs.Laws.{Lawful}
-use Rattle.machine.proofs.Native.{GoingOk}
+use Rattle.machine.proofs.Native.{GoingOk, text-ok}
 use Rattle.machine.proofs.Room.{outLen, warnLen, out-none, warn-none, GoingRoom, Room, Roomy, run-room, finish-room}
 use Rattle.kinds.specs.Takes.{State}
 use Rattle.kinds.specs.Kit.{kit}
@@ -48,6 +49,33 @@ roomy zero e c set g good = ass-roomy c set g good
 roomy (suc zero) e c set g good = srt-roomy c set g good
 roomy (suc (suc zero)) e c set g good = vtt-roomy c set g good
 roomy (suc (suc (suc k))) e c set g good = absurd (known-three k e)
+
+-- ---- a whole text: three bytes of output for each byte, and two places for every seven
+module _ (c : Config) (set : Set c) (g : List ℕ) (good : mapBad g ≡ false) where
+  abbrev T : Lawful kit (c .kind)
+  T = lawful (c .kind) (set .kind-known)
+
+  text-room : (t : List ℕ) → Room c (segmentsOf g) (T .size) 3 (length t + 0) (run (kit .machine (c .kind)) (begin (kit .machine (c .kind))) t)
+  text-room t =
+      run-room kit (c .kind) T c (segmentsOf g) 3 (roomy (c .kind) (set .kind-known) c set g good) 0 0 0 (begin (kit .machine (c .kind))) t (text-ok kit (c .kind) T 0 [])
+      (record {
+        out = rw (out-none c (segmentsOf g), T .start-size) (omega arith);
+        warn = rw (warn-none c (segmentsOf g), T .start-size) (omega arith);
+      })
+
+  pub record TextFits (t : List ℕ) (es : List Emit) : Type 0 where
+    pub out : length (outputOf es) ≤ 3 * length t
+    pub places : 3 * length (placesOf (warningsOf es)) ≤ length t
+
+  going-fits : (t : List ℕ) (s : State) (n : ℕ) (h : List ℕ) (ps : List Part) → Room c (segmentsOf g) (T .size) 3 (length t + 0) (going s n h ps)
+      → TextFits t (emitsOf c (segmentsOf g) ps)
+  unfolding outLen warnLen
+  going-fits t s n h ps x =
+      record { out = omega (arith, x .out); places = omega (arith, x .warn, places-two (warningsOf (emitsOf c (segmentsOf g) ps))) }
+
+  pub text-fits : (t : List ℕ) (s : State) (n : ℕ) (h : List ℕ) (ps : List Part) → run (kit .machine (c .kind)) (begin (kit .machine (c .kind))) t ≡ going s n h ps
+      → TextFits t (emitsOf c (segmentsOf g) ps)
+  text-fits t s n h ps e = going-fits t s n h ps (subst (Room c (segmentsOf g) (T .size) 3 (length t + 0)) e (text-room t))
 
 module _ (s : Session Columns) (N : Native s) (g : List ℕ) (good : mapBad g ≡ false) where
   abbrev kind : ℕ

@@ -14,3 +14,4 @@ pub mod Numbers
 pub mod Empty
 pub mod Room
 pub mod Keeps
+pub mod Wholly

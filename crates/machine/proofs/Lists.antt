@@ -65,11 +65,11 @@ module _ {σ κ : Type 0} (K : Kit σ κ) (c : Config) (m : List ℕ) (L : Lawfu
     dead : (t : List ℕ) (f : Bool) (k : ℕ) (ps : List Part) → read f t ≡ reading k ps → captionsIn ps ≤ length t → length t ≤ mostTaken
         → Inv (deadSession (length t) k (counted ps)) ps (readerAt t f true)
 
-  record Kept (a : Answer κ) (ps : List Part) (b : ReaderAnswer) : Type 0 where
-    number : a .number ≡ b .number
-    new : List Part
-    emits : a .emits ≡ E new
-    inv : Inv (a .session) (ps ++ new) (b .reader)
+  pub record Kept (a : Answer κ) (ps : List Part) (b : ReaderAnswer) : Type 0 where
+    pub number : a .number ≡ b .number
+    pub new : List Part
+    pub emits : a .emits ≡ E new
+    pub inv : Inv (a .session) (ps ++ new) (b .reader)
 
   refused : (s : Session κ) (ps : List Part) (r : Reader) (k : ℕ) (x : Call) → Inv s ps r
       → Kept (respond K (refuse k) s x) ps (readerResponds read (refuse k) r x)
@@ -245,7 +245,7 @@ module _ {σ κ : Type 0} (K : Kit σ κ) (c : Config) (m : List ℕ) (L : Lawfu
   read-number f t k ps e = subst (λ (r : Reading). OfText (r .fault)) e (lines-number M f (closedLines t) (unfinished t) (M .start) 0)
 
   -- one call
-  keeps : (s : Session κ) (ps : List Part) (r : Reader) → Inv s ps r → (x : Call) → ProperCall m x → Kept (answer K s x) ps (readerAnswer read r x)
+  pub keeps : (s : Session κ) (ps : List Part) (r : Reader) → Inv s ps r → (x : Call) → ProperCall m x → Kept (answer K s x) ps (readerAnswer read r x)
   keeps _ _ _ (live t s n h ps e q) x p =
       subst (λ (b : Bool). Kept (respond K (gate b false (mapBad (lentOf x .map)) (argumentBad (length t) x)) (liveSession (length t) s n h (counted ps)) x) ps
       (readerAnswer read (readerAt t false false) x))
@@ -294,13 +294,13 @@ module _ {σ κ : Type 0} (K : Kit σ κ) (c : Config) (m : List ℕ) (L : Lawfu
       let k = keeps s ps r i x (p .0) in
       joined x xs s ps r k (lists xs (p .1) (answer K s x .session) (ps ++ k .new) (readerAnswer read r x .reader) (k .inv))
 
-  record AtLast (s : Session κ) (ps : List Part) (r : Reader) : Type 0 where
-    is : readingOf read r ≡ reading (s .outcome) ps
-    counts : s .counts ≡ counted ps
-    taken : s .taken ≡ length (r .text)
-    ended : s .ended ≡ r .ended
+  pub record AtLast (s : Session κ) (ps : List Part) (r : Reader) : Type 0 where
+    pub is : readingOf read r ≡ reading (s .outcome) ps
+    pub counts : s .counts ≡ counted ps
+    pub taken : s .taken ≡ length (r .text)
+    pub ended : s .ended ≡ r .ended
 
-  at-last : (s : Session κ) (ps : List Part) (r : Reader) → Inv s ps r → AtLast s ps r
+  pub at-last : (s : Session κ) (ps : List Part) (r : Reader) → Inv s ps r → AtLast s ps r
   at-last _ _ _ (live t s n h ps e q) =
       record { is = sym (bytes-reading M false t) ∙ ap ranTo e; counts = refl; taken = refl; ended = refl }
   at-last _ _ _ (dead t f k ps w o q) = record { is = w; counts = refl; taken = refl; ended = refl }
@@ -308,7 +308,7 @@ module _ {σ κ : Type 0} (K : Kit σ κ) (c : Config) (m : List ℕ) (L : Lawfu
   none-counted : counted [] ≡ noCounts
   none-counted = ap countsOf (emits-none c (segmentsOf m)) ∙ count-none noCounts
 
-  starts : Inv (fresh K c) [] newReader
+  pub starts : Inv (fresh K c) [] newReader
   starts =
       subst (λ (s : Session κ). Inv s [] newReader)
       (ap₂ (λ (x : List ℕ) (y : Counts). record { config = c; taken = 0; lines = 0; held = x; known = K .known (M .start); counts = y; outcome = 0; ended = false })

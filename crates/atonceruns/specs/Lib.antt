@@ -1,0 +1,2 @@
+-- Demand 3 of a whole text at once.
+pub mod Claims

@@ -1,0 +1,1 @@
+// Theorems on a whole text at once: no code.

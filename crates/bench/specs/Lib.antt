@@ -1,0 +1,2 @@
+-- What the functions for measurements answer.
+pub mod Fed
