@@ -22,8 +22,8 @@ fn to_standard_output() {
     }
 }
 
-/// The counts and warnings of the example play, worked out from its sheet and list: frames of 1001 ticks, 24000 a second, kept 12 to 720, 1164 to 1608 and 1680 to 2448 once
-/// widened to every twelfth frame, that is 0.500 to 30.030 s, 48.548 to 67.067 s and 70.070 to 102.102 s.
+/// The counts and warnings of the example play, worked out from its sheet and list: frames of 1001 ticks, 24000 a second, kept 12 to 720, 1164 to 1608 and 1680 to 2388 once
+/// widened to every twelfth frame, that is 0.500 to 30.030 s, 48.548 to 67.067 s and 70.070 to 99.600 s. One caption ends in the second gap and goes on in the third stretch.
 #[test]
 fn told_on_standard_error() {
     let name = subs("ass");
