@@ -152,6 +152,28 @@ fn bad_times() {
     held(2, 60_000, 12);
 }
 
+/// Any bytes: nothing panics, and there is a fault where the retimer refuses.
+#[test]
+fn any_bytes() {
+    let parts: [&[u8]; 24] = [b"\n", b"\n", b"\n\n", b"\r\n", b"\r", b"-->", b" ", b":", b"0", b"00:00:01,000", b"00:01.000", b"0:00:01.00", b",", b".", b"\xff", b"\xe3\x80\x80", b"\xe3\x80", b"\xef\xbb\xbf", b"[Events]\n", b"Format:Start,End\n", b"Dialogue:", b"WEBVTT", b"<", b"{"];
+    let mut random = Random(4);
+    let (mut sound, map) = (0, map(&mut Random(5)));
+    for k in 0..90_000 {
+        let kind = Kind::ALL[k % 3];
+        let mut text = if k % 6 < 3 { b"WEBVTT\n\n".to_vec() } else { Vec::new() };
+        (0..random.below(30)).for_each(|_| text.extend_from_slice(random.of(&parts)));
+        let found = faults::in_captions(kind, &text, &mut |_| {});
+        match retime(kind, &map, &text) {
+            Ok(retimed) => {
+                assert!(found.is_empty() && tally(kind, &map, &text).unwrap().counts == retimed.counts, "{kind:?} {text:?}");
+                sound += 1;
+            }
+            Err(stopped) => assert_eq!((found[0].refused, found[0].place.as_str()), (stopped.refused, stopped.place.unwrap().to_string().as_str()), "{kind:?} {text:?}"),
+        }
+    }
+    assert!(sound > 20_000, "{sound}");
+}
+
 #[test]
 fn words_and_lines() {
     let ass = "\u{FEFF}[Events]\r\nFormat: Layer, Start, End, Text\r\nDialogue: 0,0:00:01.00,0:00:02.50,{\\i1}Good\\Nevening{\\i0}, all\r\nDialogue: 0,0:00:01.00\r\n";

@@ -22,8 +22,8 @@ fn to_standard_output() {
     }
 }
 
-/// The counts and warnings of the example play, worked out from its sheet and list: frames of 1001 ticks, 24000 a second, kept 12 to 720, 1164 to 1608 and 1680 to 2448 once
-/// widened to every twelfth frame, that is 0.500 to 30.030 s, 48.548 to 67.067 s and 70.070 to 102.102 s.
+/// The counts and warnings of the example play, worked out from its sheet and list: frames of 1001 ticks, 24000 a second, kept 12 to 720, 1164 to 1608 and 1680 to 2388 once
+/// widened to every twelfth frame, that is 0.500 to 30.030 s, 48.548 to 67.067 s and 70.070 to 99.600 s. One caption ends in the second gap and goes on in the third stretch.
 #[test]
 fn told_on_standard_error() {
     let name = subs("ass");
@@ -184,6 +184,10 @@ fn refused_texts() {
     let new = folder.path("new.srt");
     run_play("retime", &["--subs", &bad, "-o", &new, "--warnings", &folder.path("warnings")]).fails(1, &[]);
     assert_eq!(folder.names(), ["bad.srt", "kept.srt", "latin.srt", "out"]);
+    let wide: Vec<u8> = [0xFEFF].into_iter().chain("1\r\n".encode_utf16()).flat_map(u16::to_le_bytes).collect();
+    let wide = folder.write("wide.srt", wide);
+    let ran = run_play("retime", &["--subs", &wide]);
+    assert!(ran.fails(1, &[]).err.starts_with(&format!("{bytes} ({wide}, line 1: ")) && ran.err.ends_with("(this is UTF-16: save it as UTF-8))\n"), "{}", ran.err);
     let empty = folder.write("empty.vtt", "");
     run_play("retime", &["--subs", &empty]).fails(1, &[&format!("refused 24: the WebVTT captions do not begin with the line WEBVTT ({empty}, line 1: \"\")")]);
 }

@@ -47,6 +47,16 @@ pub(crate) fn is_utf8(text: &[u8]) -> bool {
     std::str::from_utf8(text).is_ok()
 }
 
+/// A word more about a text that is not UTF-8, where it is UTF-16 by its byte order mark.
+pub(crate) fn hint(number: u32, text: &[u8]) -> &'static str {
+    let wide = text.starts_with(b"\xff\xfe") || text.starts_with(b"\xfe\xff");
+    if number == 20 && wide {
+        " (this is UTF-16: save it as UTF-8)"
+    } else {
+        ""
+    }
+}
+
 /// Where a pattern stands first.
 pub(crate) fn find(text: &[u8], pattern: &[u8]) -> Option<usize> {
     text.windows(pattern.len()).position(|w| w == pattern)

@@ -11,7 +11,7 @@ mod words;
 
 pub(crate) use ass::{note, Columns};
 pub(crate) use blocks::{blocks, Block};
-pub(crate) use lines::{is_utf8, line_length, lines, text_of, trimmed, Line, BOM};
+pub(crate) use lines::{hint, is_utf8, line_length, lines, text_of, trimmed, Line, BOM};
 pub(crate) use place::{place_of, Start};
 pub use place::Place;
 pub use time::read_time;

@@ -1,11 +1,13 @@
 //! The faults of a caption text. A session takes it line by line (ASS) or block by block; where one is refused, the session from before it goes on with blank
 //! lines in its place, so that later lines keep their numbers.
 use super::Fault;
-use crate::captions::{blocks, line_length, lines, place_of, text_of, Block, Columns, Line, Start, BOM};
-use crate::{ffi, Kind, LEAST_OUTPUT, LEAST_PLACES, MOST_PIECE, SESSION_BYTES};
+use crate::captions::{blocks, hint, line_length, lines, place_of, text_of, Block, Columns, Line, Start, BOM};
+use crate::{ffi, retime, Kind, Map, LEAST_OUTPUT, LEAST_PLACES, MOST_PIECE, SESSION_BYTES};
 
 /// Bytes of a text, at most.
 const MOST_TEXT: usize = 1 << 30;
+
+// the faults of a text do not depend on the map, so it is read through an empty one, which is good
 
 /// All faults of a text; none where it can be retimed. `progress` is told how many bytes were looked at.
 ///
@@ -21,6 +23,9 @@ const MOST_TEXT: usize = 1 << 30;
 pub fn in_captions(kind: Kind, text: &[u8], progress: &mut dyn FnMut(usize)) -> Vec<Fault> {
     if text.len() > MOST_TEXT {
         return vec![Fault::new(16, format!("{} bytes, and a text has at most {MOST_TEXT}", text.len()))];
+    }
+    if retime(kind, &Map { timescale: 1_000, numbers: Vec::new() }, text).is_ok() {
+        return Vec::new();
     }
     let mut check = Check::new(kind);
     let mark = if text.starts_with(BOM) { BOM.len() } else { 0 };
@@ -67,7 +72,6 @@ struct Check<'t> {
 impl Check<'_> {
     fn new(kind: Kind) -> Self {
         let mut session = [0; SESSION_BYTES];
-        // faults of a text do not depend on the map: an empty one is good
         ffi::open(kind.number(), 1_000, &[], &mut session);
         Check { kind, session, columns: Columns::default(), mark: b"", out: vec![0; LEAST_OUTPUT], places: vec![0; LEAST_PLACES], found: Vec::new() }
     }
@@ -184,7 +188,6 @@ impl Check<'_> {
     fn tell(&mut self, number: u32, bytes: &[u8], first: u64) {
         let text = [if first == 1 { self.mark } else { b"" }, bytes].concat();
         let place = place_of(number, self.kind, &text, Start { line: first, columns: self.columns });
-        let hint = if number == 20 && (bytes.starts_with(b"\xff\xfe") || bytes.starts_with(b"\xfe\xff")) { " (this is UTF-16: save it as UTF-8)" } else { "" };
-        self.found.push(Fault::new(number, place.map_or(format!("line {first}"), |p| p.to_string()) + hint));
+        self.found.push(Fault::new(number, place.map_or(format!("line {first}"), |p| p.to_string()) + hint(number, bytes)));
     }
 }

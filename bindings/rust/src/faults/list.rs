@@ -1,6 +1,6 @@
 //! The faults of a trim list. Each entry is asked for by itself, and behind the last sound one before it.
 use super::Fault;
-use crate::captions::{shown, trimmed, BOM};
+use crate::captions::{hint, shown, trimmed, BOM};
 use crate::{check_list, Refused};
 
 const MOST_BYTES: usize = 65_536;
@@ -66,7 +66,7 @@ pub fn in_list(list: &[u8]) -> Vec<Fault> {
         match number_of(entry, behind) {
             0 => behind = Some(entry),
             6 => all.push(crossing(entry, behind)),
-            number => all.push(Fault::new(number, entry.shown() + hint(entry.text))),
+            number => all.push(Fault::new(number, entry.shown() + hint(number, entry.text))),
         }
     }
     if all.is_empty() {
@@ -106,13 +106,4 @@ fn crossing(entry: Entry<'_>, behind: Option<Entry<'_>>) -> Fault {
         format!(", behind entry {}: {}", b.place, shown(text.trim()))
     });
     Fault::new(6, entry.shown() + &before)
-}
-
-/// A word more about bytes that are not UTF-8.
-fn hint(text: &[u8]) -> &'static str {
-    if text.starts_with(b"\xff\xfe") || text.starts_with(b"\xfe\xff") {
-        " (this is UTF-16: save it as UTF-8)"
-    } else {
-        ""
-    }
 }

@@ -12,7 +12,8 @@ pub use cut::in_cut;
 pub use list::in_list;
 pub use sheet::in_sheet;
 
-use crate::Refused;
+use crate::captions::hint;
+use crate::{Refused, Stopped};
 
 /// A fault.
 #[derive(Clone, Debug, PartialEq, Eq)]
@@ -26,6 +27,12 @@ pub struct Fault {
 impl Fault {
     fn new(number: u32, place: impl Into<String>) -> Fault {
         Fault { refused: Refused(number), place: place.into() }
+    }
+
+    /// The fault at which a text stopped; nothing where it is no fault of the text.
+    pub fn of_text(stopped: &Stopped, text: &[u8]) -> Option<Fault> {
+        let place = stopped.place.as_ref()?;
+        Some(Fault { refused: stopped.refused, place: place.to_string() + hint(stopped.refused.0, text) })
     }
 }
 

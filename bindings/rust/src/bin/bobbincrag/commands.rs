@@ -50,7 +50,8 @@ static JSON: Opt = opt("--json", "PATH", "print the JSON that the cutter stores;
 static LINE: Opt = opt("--line", "N", "tell of the caption at this line alone, with every kept stretch");
 static BUDGET: Opt = opt("--budget", "N", "try so many shifts; without it all 12001");
 
-const INPUTS: &str = "A FILE that is - is standard input, for one of them. Numbers: docs/GUIDE.md.";
+const INPUTS: &str = "A FILE that is - is standard input, for one of them.";
+const STATUS: &str = "Status 0: done; 1: refused, as `refused N: sentence`, or a file can't be read or written; 2: the command line is wrong.";
 
 pub static ALL: [Command; 7] = [
     Command {
@@ -79,7 +80,7 @@ pub static ALL: [Command; 7] = [
         form: "[--sheet S] [--list L] [--subs C..]",
         words: "",
         options: &[&SHEET, &LIST, &INWARD, &MANY_SUBS, &KIND],
-        more: "Prints a line for each fault with its place, at most 50 of one number in a file. Whether trims fit the recording is looked at\nwhere sheet and list are given. Status 1 where there is a fault.",
+        more: "Prints a line for each fault with its place, at most 50 of one number in a file. Whether trims fit the recording is looked at\nwhere sheet and list are given. Status 1 where there is a fault, and the last line sums up.",
         example: "bobbincrag check --sheet play.bin --list trim.txt --subs en.srt ja.ass",
         run: check::run,
     },
@@ -131,8 +132,8 @@ pub fn overview() -> String {
     for command in &ALL {
         text += &format!("  {:12} {}\n", command.name, command.about);
     }
-    text += "\nbobbincrag COMMAND --help says what a command takes, with an example. bobbincrag --version says the version.\nStatus 0: done; 1: refused, or a file can't be read or written; 2: the command line is wrong.\n";
-    text
+    text += "\nbobbincrag COMMAND --help says what a command takes, with an example. bobbincrag --version says the version.\n";
+    text + STATUS + "\n"
 }
 
 /// The help of a command.
@@ -149,5 +150,5 @@ pub fn help(command: &Command) -> String {
     if command.options.iter().any(|o| o.value.starts_with("FILE")) {
         text += &format!("{INPUTS}\n");
     }
-    text + &format!("\nExample:\n  {}\n", command.example)
+    text + &format!("{STATUS}\n\nExample:\n  {}\n", command.example)
 }

@@ -1,6 +1,9 @@
 //! Why a command ends without its result.
 use crate::commands::Command;
+use crate::input::Input;
 use crate::stderr::say;
+use retimer::faults::Fault;
+use retimer::Stopped;
 use std::path::Path;
 use std::process::ExitCode;
 
@@ -20,6 +23,11 @@ impl Failure {
 
     pub fn refused(line: impl std::fmt::Display) -> Failure {
         Failure::Refused(vec![line.to_string()])
+    }
+
+    /// A text that was refused, in the words of `refused_text`.
+    pub fn text(stopped: &Stopped, text: &Input) -> Failure {
+        Failure::refused(refused_text(stopped, text))
     }
 
     pub fn reading(name: &str, error: &std::io::Error) -> Failure {
@@ -45,6 +53,14 @@ impl Failure {
             }
             Failure::Told => ExitCode::from(1),
         }
+    }
+}
+
+/// `refused N: sentence`, and in brackets the file, and where it is at fault its line and the words there.
+pub fn refused_text(stopped: &Stopped, text: &Input) -> String {
+    match Fault::of_text(stopped, &text.bytes) {
+        Some(fault) => format!("{} ({}, {})", fault.refused, text.name, fault.place),
+        None => format!("{} ({})", stopped.refused, text.name),
     }
 }
 

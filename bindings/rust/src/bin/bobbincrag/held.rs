@@ -6,10 +6,7 @@ use retimer::{retime, Fate, Kind, Map};
 
 /// The captions with their fates; a text that the retimer refuses is refused.
 pub fn captions<'t>(map: &Map, kind: Kind, text: &'t Input) -> Result<Vec<(Caption<'t>, Option<Fate>)>, Failure> {
-    let retimed = retime(kind, map, &text.bytes).map_err(|stopped| match stopped.place {
-        Some(place) => Failure::refused(format!("{} ({}, {place})", stopped.refused, text.name)),
-        None => Failure::refused(format!("{} ({})", stopped.refused, text.name)),
-    })?;
+    let retimed = retime(kind, map, &text.bytes).map_err(|stopped| Failure::text(&stopped, text))?;
     let tally = tally(kind, map, &text.bytes).map_err(Failure::refused)?;
     if tally.counts != retimed.counts {
         let what = format!("internal error: the captions of {} were read as {}, and the retimer counts {}", text.name, tally.counts, retimed.counts);

@@ -1,11 +1,11 @@
 //! `bobbincrag retime`: caption files through a cut.
 use crate::args::Args;
-use crate::failure::Failure;
+use crate::cut;
+use crate::failure::{refused_text, Failure};
 use crate::input::{self, Input};
 use crate::output::{self, Files};
 use crate::progress::Progress;
 use crate::report::Report;
-use crate::cut;
 use retimer::{retime, Kind, Map, Retimed};
 use std::ffi::OsStr;
 use std::path::{Path, PathBuf};
@@ -40,10 +40,7 @@ fn all(map: &Map, texts: &[Input], kinds: &[Kind]) -> Result<Vec<Retimed>, Failu
         let _progress = Progress::new(format!("retiming {}", text.name), 0);
         match retime(*kind, map, &text.bytes) {
             Ok(retimed) => done.push(retimed),
-            Err(stopped) => match stopped.place {
-                Some(place) => refused.push(format!("{} ({}, {place})", stopped.refused, text.name)),
-                None => refused.push(format!("{} ({})", stopped.refused, text.name)),
-            },
+            Err(stopped) => refused.push(refused_text(&stopped, text)),
         }
     }
     if refused.is_empty() {
@@ -91,7 +88,7 @@ fn apart(args: &Args, out: &Out) -> Result<(), Failure> {
         Out::Folder(folder, names) => names.iter().map(|n| folder.join(n)).collect(),
     };
     outs.extend(args.one("--warnings").map(PathBuf::from));
-    crate::output::apart(args, &outs)
+    output::apart(args, &outs)
 }
 
 fn write(args: &Args, out: Out, retimed: &[Retimed], reports: &[Report]) -> Result<(), Failure> {
