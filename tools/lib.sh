@@ -1,7 +1,7 @@
 # What tools/bobbincrag and tools/install share: the static library and the command, built where they are missing or older than what they are made from.
 # `name` is the tool's name, for what is said. Lines go to standard error.
 
-root=$(cd "$(dirname "$0")/.." && pwd)
+root=$(cd -P "$(dirname "$0")/.." && pwd -P)
 library=$root/target/staticlib/libcutter.a
 program=$root/target/bindings/release/bobbincrag
 
