@@ -2,6 +2,7 @@
 //! returns on every input, and writes nothing but what is lent to it for that.
 
 mod delays;
+pub mod picture;
 mod retiming;
 mod rough;
 mod starts;
