@@ -1,4 +1,4 @@
-use retimer::picture::{svg, Cut, Drawn, Fate, Stretch};
+use retimer::picture::{svg, Cut, Drawn, Fate, New, Stretch};
 use std::collections::BTreeSet;
 
 /// Walks through an XML text: tags closed in order, attributes quoted, no bare `<` or `&`, no control characters. It answers how many elements there are.
@@ -49,13 +49,13 @@ fn attributes(tag: &str) -> &str {
 
 /// A caption through a map, by the rule of document 01.
 fn through(line: u64, start: u64, end: u64, map: &[Stretch], words: &str) -> Drawn {
-    let hit = map.iter().find(|s| s.duration > 0 && start < s.source + s.duration && end > s.source);
+    let hit = map.iter().enumerate().find(|(_, s)| s.duration > 0 && start < s.source + s.duration && end > s.source);
     let (fate, new) = match hit {
         None => (Fate::Dropped, None),
-        Some(s) => {
+        Some((stretch, s)) => {
             let (a, b) = (start.max(s.source), end.min(s.source + s.duration));
             let fate = if (a, b) == (start, end) { Fate::Shifted } else { Fate::Clipped };
-            (fate, Some((a - s.source + s.output, b - s.source + s.output)))
+            (fate, Some(New { stretch, start: a - s.source + s.output, end: b - s.source + s.output, torn: (a > start, b < end) }))
         }
     };
     Drawn { line, start, end, fate, new, warnings: vec![], words: words.to_string() }
@@ -66,7 +66,7 @@ fn stretch(source: u64, output: u64, duration: u64) -> Stretch {
 }
 
 fn draw(timescale: u32, recording: u64, segments: &[Stretch], captions: &[Drawn]) -> String {
-    let cut = Cut { title: "A play", timescale, recording, segments, captions };
+    let cut = Cut { title: "A play", timescale, recording: Some(recording), segments, captions };
     let text = svg(&cut);
     well_formed(&text);
     assert_eq!(text, svg(&cut));
@@ -117,7 +117,7 @@ fn bars_stand_at_their_times() {
 fn words_are_escaped() {
     let words = "<b>\"&\u{0}\u{7}\r\n\t'\u{85}\u{fffe}\u{ffff}]]>  \u{1f600}";
     let all = [through(1, 10, 90, &[], words)];
-    let cut = Cut { title: "a < b & \"c\" \u{1b}[0m", timescale: 1, recording: 100, segments: &[], captions: &all };
+    let cut = Cut { title: "a < b & \"c\" \u{1b}[0m", timescale: 1, recording: Some(100), segments: &[], captions: &all };
     let text = svg(&cut);
     well_formed(&text);
     assert!(text.contains("dropped: &lt;b&gt;&quot;&amp; ' ]]&gt; \u{1f600}</title>"), "{text}");
@@ -179,7 +179,7 @@ fn past_all_ends() {
     (far.start, far.end) = (u64::MAX - 1, u64::MAX);
     let mut long = through(2, 10, 20, &[], "long");
     long.end = 9999 * 3600 * 1000;
-    let kept = Drawn { fate: Fate::Shifted, new: Some((u64::MAX, 0)), ..long.clone() };
+    let kept = Drawn { fate: Fate::Shifted, new: Some(New { stretch: 0, start: u64::MAX, end: 0, torn: (false, false) }), ..long.clone() };
     for segments in [&map[..], &map[1..], &[]] {
         let text = draw(1000, 100_000, segments, &[far.clone(), long.clone(), kept.clone(), through(3, 100, 2100, &[], "short")]);
         assert!(text.contains("<title>line 1: ") && text.len() < 1 << 20, "{}", text.len());
@@ -190,7 +190,7 @@ fn past_all_ends() {
 fn passed_and_warned() {
     let passed = Drawn { line: 3, start: 0, end: 0, fate: Fate::Passed, new: None, warnings: vec![2], words: "no times".into() };
     let timed = Drawn { line: 4, start: 100, end: 900, ..passed.clone() };
-    let both = Drawn { line: 5, warnings: vec![3, 4, 77], fate: Fate::Clipped, new: Some((0, 500)), start: 100, end: 900, words: "both".into() };
+    let both = Drawn { line: 5, warnings: vec![3, 4, 77], fate: Fate::Clipped, new: Some(New { stretch: 0, start: 0, end: 500, torn: (true, true) }), start: 100, end: 900, words: "both".into() };
     let text = draw(100, 1000, &[stretch(200, 0, 500)], &[passed, timed, both]);
     assert!(!text.contains("<title>line 3") && text.contains("line 3</text>"));
     assert!(text.contains("<g class=\"p\"><title>line 4"));

@@ -101,7 +101,7 @@ pub fn marks(pen: &mut Pen, numbers: &[u64], x: f64, y: f64) {
 /// What is said when the bar is pointed at.
 pub fn told(play: &Play, c: &Caption) -> String {
     let was = span((c.told.start, c.told.end), play.timescale);
-    let is = c.told.new.map_or(String::new(), |new| format!(" to {} of the cut", span(new, play.timescale)));
+    let is = c.told.new.map_or(String::new(), |new| format!(" to {} of the cut", span((new.start, new.end), play.timescale)));
     let warnings: String = c.told.warnings.iter().map(|n| format!(", warning {n}")).collect();
     let turned = if c.told.end < c.told.start { ", ends before it starts" } else { "" };
     format!("line {}: {was}, {}{is}{warnings}{turned}: {}", c.told.line, word(c.told.fate), c.words)

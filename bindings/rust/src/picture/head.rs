@@ -87,7 +87,8 @@ fn summary(play: &Play, pen: &mut Pen, y: f64) {
     let c = play.counts(0..play.captions.len());
     let there = play.cut.segments.iter().filter(|s| s.duration > 0);
     let (kept, stretches) = there.fold((0u64, 0), |(end, n), s| (end.max(s.output.saturating_add(s.duration)), n + 1));
-    let lengths = format!("The recording lasts {}, the cut {} in {}.", brief(play.cut.recording, play.timescale), brief(kept, play.timescale), count(stretches, "stretch", "stretches"));
+    let whole = play.cut.recording.map_or("The recording's end is not known".to_string(), |ticks| format!("The recording lasts {}", brief(ticks, play.timescale)));
+    let lengths = format!("{whole}, the cut lasts {} in {}.", brief(kept, play.timescale), count(stretches, "stretch", "stretches"));
     let all = count(play.captions.len(), "caption", "captions");
     let dropped = format!("{} dropped", count(c.dropped, "is", "are"));
     let rest = format!("{} shifted, {} clipped, {} passed unchanged; {} warned of.", count(c.shifted, "", ""), count(c.clipped, "", ""), count(c.passed, "", ""), count(c.warned, "is", "are"));

@@ -63,7 +63,7 @@ fn entry(play: &Play, pen: &mut Pen, c: &Caption, x: (f64, f64), times: f64, y: 
     pen.words("q", at, y, &span((c.told.start, c.told.end), play.timescale));
     at += times;
     if let Some(new) = c.told.new {
-        let is = format!("to {}", span(new, play.timescale));
+        let is = format!("to {}", span((new.start, new.end), play.timescale));
         pen.words("q", at, y, &is);
         at += width(&is, 12.0).max(times) + 14.0;
     }

@@ -27,8 +27,8 @@ pub struct Cut<'a> {
     pub title: &'a str,
     /// Ticks a second; 0 counts as 1.
     pub timescale: u32,
-    /// Ticks of the whole recording.
-    pub recording: u64,
+    /// Ticks of the whole recording; where they are not known, it is drawn as far as stretches and captions reach.
+    pub recording: Option<u64>,
     /// What is kept, in the order of the map.
     pub segments: &'a [Stretch],
     /// The captions, in the order of their text.
@@ -57,12 +57,25 @@ pub struct Drawn {
     pub end: u64,
     /// What became of it.
     pub fate: Fate,
-    /// Its start and end in the cut, in ticks, where it is kept.
-    pub new: Option<(u64, u64)>,
+    /// Where it is kept.
+    pub new: Option<New>,
     /// The numbers of its warnings.
     pub warnings: Vec<u64>,
     /// What it says; line ends and other control characters are drawn as spaces.
     pub words: String,
+}
+
+/// Where a caption is kept.
+#[derive(Clone, Copy, Debug, PartialEq, Eq)]
+pub struct New {
+    /// The place of its stretch in the map, from 0.
+    pub stretch: usize,
+    /// Its start in the cut, in ticks.
+    pub start: u64,
+    /// Its end in the cut, in ticks.
+    pub end: u64,
+    /// Whether something was cut off at its start, and at its end.
+    pub torn: (bool, bool),
 }
 
 /// What became of a caption.

@@ -1,6 +1,6 @@
 //! What is to be drawn, measured: where each caption lies in the recording, what of it is kept, and how large things are.
 use super::text::clean;
-use super::{Cut, Drawn, Fate, Stretch};
+use super::{Cut, Drawn, Fate, New, Stretch};
 
 /// So few captions have room for their words.
 const FEW: usize = 100;
@@ -49,6 +49,8 @@ pub struct Kept {
     pub stretch: usize,
     pub from: u64,
     pub to: u64,
+    /// Whether its start and its end are cut off.
+    pub torn: (bool, bool),
 }
 
 /// A caption in its place.
@@ -88,7 +90,12 @@ pub fn end_of(s: &Stretch) -> u64 {
 
 impl<'a> Play<'a> {
     pub fn new(cut: &'a Cut<'a>) -> Play<'a> {
-        let end = cut.segments.iter().map(end_of).max().unwrap_or(0).max(cut.recording).max(1);
+        let ends = cut.segments.iter().map(end_of);
+        let end = match cut.recording {
+            Some(ticks) => ends.max().unwrap_or(0).max(ticks),
+            None => ends.chain(cut.captions.iter().map(|c| c.start.max(c.end))).max().unwrap_or(0),
+        };
+        let end = end.max(1);
         let captions = cut.captions.iter().map(|told| Caption { told, span: span(told), kept: kept(told, cut.segments), words: clean(&told.words) });
         Play { cut, timescale: cut.timescale.max(1), captions: captions.collect(), end, look: Look::of(cut.captions.len()) }
     }
@@ -114,11 +121,10 @@ fn span(told: &Drawn) -> Option<(u64, u64)> {
     (!nowhere).then_some((told.start.min(told.end), told.start.max(told.end)))
 }
 
-/// The caption's times in the cut, led back into the first stretch that it meets.
+/// The caption's times in the cut, led back into its stretch.
 fn kept(told: &Drawn, stretches: &[Stretch]) -> Option<Kept> {
-    let (a, b) = told.new.filter(|_| matches!(told.fate, Fate::Shifted | Fate::Clipped))?;
-    let stretch = stretches.iter().position(|s| s.duration > 0 && told.start < end_of(s) && told.end > s.source)?;
-    let s = &stretches[stretch];
+    let New { stretch, start, end, torn } = told.new.filter(|_| matches!(told.fate, Fate::Shifted | Fate::Clipped))?;
+    let s = stretches.get(stretch)?;
     let back = |t: u64| s.source.saturating_add(t.saturating_sub(s.output).min(s.duration));
-    Some(Kept { stretch, from: back(a.min(b)), to: back(a.max(b)) })
+    Some(Kept { stretch, from: back(start.min(end)), to: back(start.max(end)), torn })
 }

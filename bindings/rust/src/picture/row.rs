@@ -54,7 +54,7 @@ fn margin(play: &Play, row: &Row, pen: &mut Pen, f: &Frame, empty: bool) {
 fn lines(play: &Play, pen: &mut Pen, row: &Row, above: &Side, below: &Side, f: &Frame) {
     let (mut shifted, mut clipped) = (String::new(), String::new());
     for (k, bar) in below.bars.iter().enumerate() {
-        let from = above.bars.iter().position(|b| b.who == bar.who);
+        let from = above.bars.binary_search_by_key(&bar.who, |b| b.who).ok();
         let (Some(j), Some(lane)) = (from, below.stack.lane[k]) else { continue };
         let (Some(high), Some(solid)) = (above.stack.lane[j], above.bars[j].solid) else { continue };
         let path = if play.captions[bar.who].told.fate == Fate::Clipped { &mut clipped } else { &mut shifted };

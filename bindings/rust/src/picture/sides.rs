@@ -12,6 +12,7 @@ const BETWEEN: f64 = 3.0;
 
 /// The bars of one side, in lanes.
 pub struct Side {
+    /// In the order of the captions.
     pub bars: Vec<Bar>,
     pub stack: Stack,
     /// The top of each lane's bars, from the top of the side.
@@ -37,7 +38,7 @@ pub fn was(play: &Play, row: &Row, scale: Scale) -> Side {
 /// Where the captions of a row are: in the lanes where they were, if these are free. The first lane is the highest.
 pub fn is(play: &Play, row: &Row, pieces: &[Piece], was: &Side) -> Side {
     let bars: Vec<Bar> = row.captions.iter().filter_map(|&k| bar_after(&play.captions[k], k, row, pieces)).collect();
-    let before = |b: &Bar| was.bars.iter().position(|w| w.who == b.who).and_then(|k| was.stack.lane[k]);
+    let before = |b: &Bar| was.bars.binary_search_by_key(&b.who, |w| w.who).ok().and_then(|k| was.stack.lane[k]);
     let stack = stack(&bars.iter().map(|b| want(play, b, false, before(b))).collect::<Vec<_>>());
     let lanes = stack.marked.len();
     let tops = (0..lanes).map(|l| row.look.edge + l as f64 * (row.look.bar + BETWEEN)).collect();
@@ -63,15 +64,14 @@ fn bar_before(c: &Caption, who: usize, row: &Row, scale: Scale) -> Option<Bar> {
         Fate::Clipped => {
             let kept = c.kept.filter(inside);
             let solid = kept.map(|k| wide_enough(place(k.from, k.to), least));
-            Some(Bar { who, whole, solid, torn: kept.map_or((false, false), |k| torn(c, &k, row)) })
+            Some(Bar { who, whole, solid, torn: kept.map_or((false, false), |k| torn(&k, row)) })
         }
     }
 }
 
 /// Which ends were cut off inside the row.
-fn torn(c: &Caption, kept: &Kept, row: &Row) -> (bool, bool) {
-    let (from, to) = c.span.unwrap_or((kept.from, kept.to));
-    (kept.from > from && kept.from >= row.from, kept.to < to && kept.to <= row.to)
+fn torn(kept: &Kept, row: &Row) -> (bool, bool) {
+    (kept.torn.0 && kept.from >= row.from, kept.torn.1 && kept.to <= row.to)
 }
 
 fn bar_after(c: &Caption, who: usize, row: &Row, pieces: &[Piece]) -> Option<Bar> {
@@ -83,7 +83,7 @@ fn bar_after(c: &Caption, who: usize, row: &Row, pieces: &[Piece]) -> Option<Bar
         return None;
     }
     let solid = wide_enough((piece.x_of(from), piece.x_of(to)), 3.0);
-    let torn = if c.told.fate == Fate::Clipped { torn(c, &kept, row) } else { (false, false) };
+    let torn = torn(&kept, row);
     Some(Bar { who, whole: solid, solid: Some(solid), torn })
 }
 
