@@ -24,6 +24,7 @@
 //! | ask what becomes of a caption, and why | [`why`], [`rough`] |
 //! | ask how captions would fare | [`census`], [`best_delay`] |
 //! | show captions with lines and words | [`captions`] |
+//! | draw what became of captions, as SVG | [`picture`] |
 //!
 //! A refusal is a [`Refused`]: its number is that of docs/NUMBERS.md, its sentence that of docs/GUIDE.md. A fault of a caption text is a [`Stopped`], which adds the line and
 //! the words. The command `bobbincrag` in this package does all of this from files.
@@ -36,6 +37,7 @@ pub mod faults;
 mod ffi;
 mod kind;
 mod map;
+pub mod picture;
 mod questions;
 mod refused;
 mod session;

@@ -4,7 +4,7 @@ mod common;
 use common::{file, play, read, run, run_play, run_with, seal, words, Folder};
 use std::process::Command;
 
-const COMMANDS: [&str; 7] = ["retime", "map", "check", "why", "census", "delay", "completions"];
+const COMMANDS: [&str; 8] = ["retime", "map", "check", "why", "census", "delay", "picture", "completions"];
 
 #[test]
 fn sound() {

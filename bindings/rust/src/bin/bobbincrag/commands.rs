@@ -1,7 +1,7 @@
 //! The commands: what each takes, and its help.
 use crate::args::Args;
 use crate::failure::Failure;
-use crate::{census, check, completions, delay, map, retime, why};
+use crate::{census, check, completions, delay, map, picture, retime, why};
 
 pub struct Opt {
     pub name: &'static str,
@@ -53,7 +53,7 @@ static BUDGET: Opt = opt("--budget", "N", "try so many shifts; without it all 12
 const INPUTS: &str = "A FILE that is - is standard input, for one of them.";
 const STATUS: &str = "Status 0: done; 1: refused, as `refused N: sentence`, or a file can't be read or written; 2: the command line is wrong.";
 
-pub static ALL: [Command; 7] = [
+pub static ALL: [Command; 8] = [
     Command {
         name: "retime",
         about: "retime captions through a cut",
@@ -113,6 +113,16 @@ pub static ALL: [Command; 7] = [
         more: "Tries shifts of 0, 1 and -1, 2 and -2 units, and so on to 6000; a unit is 1/100 s in ASS, else 1/1000 s. Lost is a caption that is shortened, that\nvanishes, or that would start or end before 0.",
         example: "bobbincrag delay --sheet play.bin --list trim.txt --subs en.srt",
         run: delay::run,
+    },
+    Command {
+        name: "picture",
+        about: "draw what became of the captions, as SVG",
+        form: "--sheet S [--list L] --subs C [-o OUT]",
+        words: "",
+        options: &[&SHEET, &LIST, &MAP, &INWARD, &SUBS, &KIND, &OUT],
+        more: "Draws the recording above and the cut below, and each caption where it was and where it is; below the rows it lists what vanished, was\nclipped or is warned of. Any browser shows the file. On standard error stands how many captions were shifted, clipped, dropped and passed.",
+        example: "bobbincrag picture --sheet play.bin --list trim.txt --subs en.srt -o play.svg",
+        run: picture::run,
     },
     Command {
         name: "completions",

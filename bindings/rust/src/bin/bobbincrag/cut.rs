@@ -3,12 +3,22 @@ use crate::args::Args;
 use crate::failure::Failure;
 use crate::input::{self, Input};
 use crate::stderr::say;
-use retimer::{faults, About, Direction, Map, Refused};
+use retimer::{faults, About, Direction, Map, Refused, Sheet};
 
 pub struct Cut {
     pub map: Map,
     /// What a map's JSON says beside the map, with an empty path where that is not known.
     pub about: About,
+    /// The sheet, where the cut is told by one.
+    sheet: Option<Input>,
+}
+
+impl Cut {
+    /// The ticks of the whole recording, which a map does not tell.
+    pub fn recording(&self) -> Result<Option<u64>, Failure> {
+        let ticks = |sheet: &Input| Sheet::from_bytes(&sheet.bytes).map(|s| s.durations.iter().sum());
+        self.sheet.as_ref().map(ticks).transpose().map_err(Failure::refused)
+    }
 }
 
 /// Whether the options name a cut in one way.
@@ -34,7 +44,7 @@ pub fn read(args: &Args) -> Result<Cut, Failure> {
     if let Some(name) = args.one("--map") {
         let json = input::read(name, input::MOST_TEXT)?;
         let (map, about) = Map::from_json(&json.bytes).map_err(|refused| Failure::refused(format!("{refused} ({})", json.name)))?;
-        return Ok(Cut { map, about });
+        return Ok(Cut { map, about, sheet: None });
     }
     let sheet = input::read(args.one("--sheet").unwrap_or_default(), input::MOST_SHEET)?;
     let list = args.one("--list").map(|name| input::read(name, input::MOST_LIST)).transpose()?;
@@ -46,7 +56,7 @@ pub fn read(args: &Args) -> Result<Cut, Failure> {
     match Map::new(&sheet.bytes, bytes, direction(args)) {
         Ok(map) => {
             let about = About::of_sheet(&sheet.bytes, "").ok_or_else(|| Failure::refused(Refused(11)))?;
-            Ok(Cut { map, about })
+            Ok(Cut { map, about, sheet: Some(sheet) })
         }
         Err(refused) => Err(placed(args, refused, &sheet, list.as_ref())),
     }

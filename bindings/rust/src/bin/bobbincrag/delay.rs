@@ -23,7 +23,7 @@ pub fn run(args: &Args) -> Result<(), Failure> {
     };
     let map = cut::read(args)?.map;
     let text = input::read(name, input::MOST_TEXT)?;
-    let read = held::captions(&map, kind, &text)?;
+    let read = held::captions(&map, kind, &text)?.captions;
     let captions: Vec<[u64; 2]> = read.iter().filter_map(|(c, _)| times(c.times)).collect();
     if captions.len() < read.len() {
         say(format_args!("{} captions are left out: they have no times that are read", read.len() - captions.len()));

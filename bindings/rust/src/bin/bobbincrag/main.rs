@@ -16,6 +16,7 @@ mod input;
 mod map;
 mod output;
 mod page;
+mod picture;
 mod progress;
 mod report;
 mod retime;

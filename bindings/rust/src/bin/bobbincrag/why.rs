@@ -41,7 +41,7 @@ fn of_text(args: &Args) -> Result<(), Failure> {
     let line = args.one("--line").map(|n| number(args, n)).transpose()?;
     let map = cut::read(args)?.map;
     let text = input::read(name, input::MOST_TEXT)?;
-    let read = held::captions(&map, kind, &text)?;
+    let read = held::captions(&map, kind, &text)?.captions;
     let page = match line {
         Some(line) => {
             // the caption that begins at the line or last before it
