@@ -1,5 +1,5 @@
 # What tools/bobbincrag and tools/install share: the static library and the command, built where they are missing or older than what they are made from.
-# `name` is the tool's name, for what is said. Lines go to standard error.
+# `name` is the tool's name, for what is said. Lines go to standard error. It is read by `.`, and gives `root`, `library`, `program` and `built`.
 
 root=$(cd -P "$(dirname "$0")/.." && pwd -P)
 library=$root/target/staticlib/libcutter.a
