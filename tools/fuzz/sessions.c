@@ -111,7 +111,7 @@ static void one_call(struct run *r, enum function f, const uint64_t *map, size_t
     l.f = f;
     l.size = wrong & LENGTH ? (one_in(2) ? SIZE + 1 + below(1000) : below(SIZE)) : SIZE;
     l.numbers = wrong & BAD_MAP ? numbers + 1 : numbers;
-    l.length = wrong & LONG_PIECE ? RETIMER_MOST_PIECE + 1 + below(2000) : length;
+    l.length = wrong & LONG_PIECE ? RETIMER_MOST_PIECE + 1 + (one_in(3) ? 0 : below(2000)) : length;
     l.out_lent = wrong & SHORT_OUT ? (one_in(2) ? RETIMER_LEAST_OUTPUT - 1 : below(RETIMER_LEAST_OUTPUT)) : RETIMER_LEAST_OUTPUT + (one_in(3) ? below(100) : 0);
     l.places = wrong & FEW_PLACES ? (one_in(2) ? RETIMER_LEAST_PLACES - 1 : below(RETIMER_LEAST_PLACES)) : RETIMER_LEAST_PLACES + (one_in(3) ? below(50) : 0);
     memcpy(bad_map, map, 8 * numbers);
