@@ -35,7 +35,7 @@ static void *room(size_t length) {
 static struct bytes file(const char *path) {
     struct bytes b = {NULL, 0};
     FILE *f = fopen(path, "rb");
-    long size;
+    long size = 0;
     if (!f || fseek(f, 0, SEEK_END) || (size = ftell(f)) < 0 || fseek(f, 0, SEEK_SET))
         fail(path, 0);
     b.length = (size_t)size;

@@ -28,7 +28,6 @@ use mp4io::read::SampleInfo;
 use order::{DecodeIdx, DisplayIdx, OrderMap};
 use segmap::SegmentMap;
 use std::hint::black_box;
-use std::time::Instant;
 
 #[link(name = "cutter", kind = "static")]
 extern "C" {
@@ -42,8 +41,8 @@ extern "C" {
 #[cfg(with_direct)]
 #[link(name = "bench", kind = "static")]
 extern "C" {
-    /// The number of a text that a session takes in pieces of 1,024 bytes, without parking; each call writes over the output of the one before.
-    fn bench_direct(kind: u32, timescale: u32, map: *const u64, map_length: usize, text: *const u8, text_length: usize, out: *mut u8, out_lent: usize, warnings: *mut u64, warnings_lent: usize) -> u32;
+    /// The number of a text that a session takes in pieces of 1,024 bytes, without parking; what it writes is thrown away.
+    fn bench_feed(kind: u32, timescale: u32, map: *const u64, map_length: usize, text: *const u8, text_length: usize) -> u32;
 }
 
 // ---- the proved functions; the bytes that are lent are made anew each time, as the Rust makes its strings
@@ -60,40 +59,49 @@ fn map_here(sheet: &[u8], list: &[u8]) -> Map {
     Map { timescale, numbers }
 }
 
-/// The retimed text through a session that is kept as bytes.
-fn fed_here(kind: u32, map: &Map, text: &[u8]) -> Vec<u8> {
-    let (mut session, mut out, mut warnings) = (vec![0; 9216], vec![0; 3 * text.len() + 32_768], vec![0; text.len() / 3 + 4096]);
+/// What is lent for a text.
+struct Lent {
+    out: Vec<u8>,
+    warnings: Vec<u64>,
+}
+
+fn lent(text: &[u8]) -> Lent {
+    Lent { out: vec![0; 3 * text.len() + 32_768], warnings: vec![0; text.len() / 3 + 4096] }
+}
+
+/// Retimes through a session that is kept as bytes, and tells how many bytes were written. Joined, each call writes behind the one before, else over it.
+fn fed_here(kind: u32, map: &Map, text: &[u8], to: &mut Lent, joined: bool) -> usize {
+    let mut session = vec![0; 9216];
     let (mut at, mut warned, mut written, mut told) = (0, 0, 0, 0);
     let (m, n) = (map.numbers.as_ptr(), map.numbers.len());
     unsafe {
         assert_eq!(retimer_open(kind, map.timescale, m, n, session.as_mut_ptr(), 9216), 0);
         for piece in text.chunks(1024) {
-            let (o, w) = (&mut out[at..], &mut warnings[warned..]);
+            let (o, w) = (&mut to.out[at..], &mut to.warnings[warned..]);
             assert_eq!(retimer_feed(session.as_mut_ptr(), 9216, m, n, piece.as_ptr(), piece.len(), o.as_mut_ptr(), o.len(), w.as_mut_ptr(), w.len(), &mut written, &mut told), 0);
-            (at, warned) = (at + written as usize, warned + told as usize);
+            if joined {
+                (at, warned) = (at + written as usize, warned + told as usize);
+            }
         }
-        let (o, w) = (&mut out[at..], &mut warnings[warned..]);
+        let (o, w) = (&mut to.out[at..], &mut to.warnings[warned..]);
         assert_eq!(retimer_finish(session.as_mut_ptr(), 9216, m, n, o.as_mut_ptr(), o.len(), w.as_mut_ptr(), w.len(), &mut written, &mut told), 0);
     }
-    out.truncate(at + written as usize);
-    out
+    at + written as usize
 }
 
 /// The same with the whole text at once.
 #[cfg(with_text)]
-fn text_here(kind: u32, map: &Map, text: &[u8]) -> Vec<u8> {
-    let (mut out, mut warnings, mut told) = (vec![0; 3 * text.len() + 32_768], vec![0; text.len() / 3 + 4096], [0; 7]);
+fn text_here(kind: u32, map: &Map, text: &[u8], to: &mut Lent) -> usize {
+    let mut told = [0; 7];
     let (m, n) = (map.numbers.as_ptr(), map.numbers.len());
-    assert_eq!(unsafe { retimer_text(kind, map.timescale, m, n, text.as_ptr(), text.len(), out.as_mut_ptr(), out.len(), warnings.as_mut_ptr(), warnings.len(), told.as_mut_ptr(), 7) }, 0);
-    out.truncate(told[0] as usize);
-    out
+    assert_eq!(unsafe { retimer_text(kind, map.timescale, m, n, text.as_ptr(), text.len(), to.out.as_mut_ptr(), to.out.len(), to.warnings.as_mut_ptr(), to.warnings.len(), told.as_mut_ptr(), 7) }, 0);
+    told[0] as usize
 }
 
 #[cfg(with_direct)]
 fn direct_here(kind: u32, map: &Map, text: &[u8]) {
-    let (mut out, mut warnings) = (vec![0; 32_768], vec![0; 4096]);
     let (m, n) = (map.numbers.as_ptr(), map.numbers.len());
-    assert_eq!(unsafe { bench_direct(kind, map.timescale, m, n, text.as_ptr(), text.len(), out.as_mut_ptr(), out.len(), warnings.as_mut_ptr(), warnings.len()) }, 0);
+    assert_eq!(unsafe { bench_feed(kind, map.timescale, m, n, text.as_ptr(), text.len()) }, 0);
 }
 
 // ---- the Rust
@@ -134,15 +142,26 @@ fn remap(kind: u32, text: &[u8], map: &SegmentMap) -> String {
     r.unwrap().content
 }
 
-// ---- rounds: each runs all, in turn from the first and from the last
+// ---- rounds: each runs all, in turn from the first and from the last; times are this process's own
+extern "C" {
+    fn clock_gettime(clock: i32, time: *mut [i64; 2]) -> i32;
+}
+
+fn now() -> f64 {
+    let mut t = [0; 2];
+    assert_eq!(unsafe { clock_gettime(3, &mut t) }, 0); // CLOCK_THREAD_CPUTIME_ID
+    t[0] as f64 + t[1] as f64 / 1e9
+}
+
+/// Of each the median and the best.
 fn rounds(count: usize, all: &mut [&mut dyn FnMut()]) -> Vec<(f64, f64)> {
     let mut times = vec![vec![]; all.len()];
     for round in 0..count {
         for k in 0..all.len() {
             let k = if round % 2 == 0 { k } else { all.len() - 1 - k };
-            let start = Instant::now();
+            let start = now();
             all[k]();
-            times[k].push(start.elapsed().as_secs_f64());
+            times[k].push(now() - start);
         }
     }
     times
@@ -166,10 +185,27 @@ fn same_but_marks(here: &[u8], rust: &[u8]) -> bool {
 fn agree(map: &Map, rust: &SegmentMap, kind: u32, text: &[u8], commas: &[u8]) {
     let flat: Vec<u64> = rust.segments.iter().flat_map(|s| [s.source_start_frame as u64, s.source_end_frame as u64, s.source_start_dts, s.frame_count as u64, s.output_start, s.duration]).collect();
     assert_eq!(map.numbers, flat);
-    let fed = fed_here(kind, map, text);
-    assert!(same_but_marks(&fed, remap(kind, commas, rust).as_bytes()));
+    let mut to = lent(text);
+    let size = fed_here(kind, map, text, &mut to, true);
+    assert!(same_but_marks(&to.out[..size], remap(kind, commas, rust).as_bytes()));
     #[cfg(with_text)]
-    assert_eq!(text_here(kind, map, text), fed);
+    {
+        let mut whole = lent(text);
+        assert_eq!(text_here(kind, map, text, &mut whole), size);
+        assert_eq!(whole.out[..size], to.out[..size]);
+    }
+}
+
+/// Bytes to lend are made anew for each text, as the Rust makes its strings.
+fn fed_anew(kind: u32, map: &Map, text: &[u8]) {
+    let mut to = lent(text);
+    black_box(fed_here(kind, map, text, &mut to, true));
+}
+
+#[cfg(with_text)]
+fn text_anew(kind: u32, map: &Map, text: &[u8]) {
+    let mut to = lent(text);
+    black_box(text_here(kind, map, text, &mut to));
 }
 
 fn beside_rust(sheet: &[u8], list: &[u8], kind: u32, name: &str, text: &[u8], commas: &[u8], count: usize) {
@@ -181,14 +217,14 @@ fn beside_rust(sheet: &[u8], list: &[u8], kind: u32, name: &str, text: &[u8], co
         &mut [
             &mut || drop(black_box(map_here(black_box(sheet), list))),
             &mut || drop(black_box(map_rust(black_box(&f), l))),
-            &mut || drop(black_box(fed_here(kind, &map, black_box(text)))),
+            &mut || fed_anew(kind, &map, black_box(text)),
             &mut || drop(black_box(remap(kind, black_box(commas), &rust))),
-            &mut || drop(black_box(fed_here(kind, &map_here(black_box(sheet), list), black_box(text)))),
+            &mut || fed_anew(kind, &map_here(black_box(sheet), list), black_box(text)),
             &mut || drop(black_box(remap(kind, black_box(commas), &map_rust(black_box(&f), l)))),
             #[cfg(with_text)]
-            &mut || drop(black_box(text_here(kind, &map, black_box(text)))),
+            &mut || text_anew(kind, &map, black_box(text)),
             #[cfg(with_text)]
-            &mut || drop(black_box(text_here(kind, &map_here(black_box(sheet), list), black_box(text)))),
+            &mut || text_anew(kind, &map_here(black_box(sheet), list), black_box(text)),
         ],
     );
     println!("{name}, {} bytes; here and the Rust, medians of {count} rounds", text.len());
@@ -201,35 +237,49 @@ fn beside_rust(sheet: &[u8], list: &[u8], kind: u32, name: &str, text: &[u8], co
     }
 }
 
-/// What parking costs: the same text by feeds without it.
+/// What parking costs: the same text by feeds without it. Here all that is lent is made beforehand.
 #[cfg(with_direct)]
 fn beside_direct(map: &Map, kind: u32, name: &str, text: &[u8], count: usize) {
+    let (mut to, mut whole) = (lent(text), lent(text));
     let t = rounds(
         count,
         &mut [
             &mut || direct_here(kind, map, black_box(text)),
-            &mut || drop(black_box(fed_here(kind, map, black_box(text)))),
+            &mut || {
+                black_box(fed_here(kind, map, black_box(text), &mut to, false));
+            },
             #[cfg(with_text)]
-            &mut || drop(black_box(text_here(kind, map, black_box(text)))),
+            &mut || {
+                black_box(text_here(kind, map, black_box(text), &mut whole));
+            },
         ],
     );
     line(&format!("{name}, retimer_feed and the direct feed"), t[1], t[0]);
     if cfg!(with_text) {
         line(&format!("{name}, retimer_text and the direct feed"), t[2], t[0]);
     }
+    drop(whole);
 }
 
 fn main() {
     let files: Vec<Vec<u8>> = std::env::args().skip(1).map(|path| std::fs::read(path).unwrap()).collect();
     let [sheet, list, ass, srt, commas, vtt] = &files[..] else { panic!("play_speed SHEET LIST ASS SRT COMMAS VTT") };
-    beside_rust(sheet, list, 0, "ASS", ass, ass, 60);
-    beside_rust(sheet, list, 1, "SRT", srt, commas, 60);
+    beside_rust(sheet, list, 0, "ASS", ass, ass, 100);
+    beside_rust(sheet, list, 1, "SRT", srt, commas, 100);
     let map = map_here(sheet, list);
-    let t = rounds(60, &mut [&mut || drop(black_box(fed_here(2, &map, black_box(vtt)))), &mut || drop(black_box(fed_here(2, &map_here(black_box(sheet), list), black_box(vtt))))]);
-    println!("WebVTT, {} bytes, which the Rust has not: captions through retimer_feed {:.2} ms, with the map {:.2} ms", vtt.len(), t[0].0 * 1e3, t[1].0 * 1e3);
+    let t = rounds(
+        100,
+        &mut [
+            &mut || fed_anew(2, &map_here(black_box(sheet), list), black_box(vtt)),
+            #[cfg(with_text)]
+            &mut || text_anew(2, &map_here(black_box(sheet), list), black_box(vtt)),
+        ],
+    );
+    let all: Vec<String> = t.iter().zip(["retimer_feed", "retimer_text"]).map(|(t, name)| format!("through {name} {:.2} ms", t.0 * 1e3)).collect();
+    println!("WebVTT, {} bytes, which the Rust has not; map and captions {}", vtt.len(), all.join(", "));
     #[cfg(with_direct)]
     for (kind, name, text) in [(0, "ASS", ass), (1, "SRT", srt), (2, "WebVTT", vtt)] {
-        beside_direct(&map, kind, name, text, 100);
+        beside_direct(&map, kind, name, text, 200);
     }
     #[cfg(not(with_direct))]
     println!("no direct feed in libbench.a: retimer_feed and retimer_text are not held against it");

@@ -48,7 +48,7 @@ static uint64_t seen[FUNCTIONS][32], seed, now;
 
 /* ---- violations */
 static void where(void) {
-    fprintf(stderr, "fuzz: to see it again: fuzz 1 %llu %llu 1\n", (unsigned long long)seed, (unsigned long long)now);
+    fprintf(stderr, "fuzz: to see it again: target/fuzz 1 %llu %llu 1\n", (unsigned long long)seed, (unsigned long long)now);
 }
 
 void expect(int holds, enum function f, const char *what) {

@@ -71,15 +71,15 @@ static void went_on(const struct lot *l, const uint8_t *before, uint32_t number)
 
 /* An accepted call: what was told is taken, all behind it is as it was. */
 static void take(const struct lot *l, struct run *r, uint32_t number) {
-    uint64_t written = *place(0), warned = *place(1), k;
+    uint64_t written = *place(0), warned = *place(1), line = r->warned ? r->warnings[r->warned - 1] : 1, k;
     expect(written <= l->out_lent && warned <= l->places && warned % 2 == 0, l->f, "told lengths");
     went_on(l, r->session, number);
     r->taken += l->length;
     expect(r->written + written <= 3 * r->taken + 3, l->f, "more than three bytes for each byte taken");
     memcpy(r->out + r->written, l->out, written);
     memcpy(r->warnings + r->warned, l->warnings, 8 * warned);
-    for (k = 0; k < warned; k += 2)
-        expect(l->warnings[k] >= 1 && l->warnings[k] <= 5 && l->warnings[k + 1] >= 1 && l->warnings[k + 1] <= r->taken, l->f, "a warning");
+    for (k = 0; k < warned; line = l->warnings[k + 1], k += 2)
+        expect(l->warnings[k] >= 1 && l->warnings[k] <= 5 && l->warnings[k + 1] >= line && l->warnings[k + 1] <= r->taken, l->f, "a warning");
     r->written += written;
     r->warned += warned;
     memcpy(r->session, l->session, SIZE);
@@ -111,7 +111,7 @@ static void one_call(struct run *r, enum function f, const uint64_t *map, size_t
     l.f = f;
     l.size = wrong & LENGTH ? (one_in(2) ? SIZE + 1 + below(1000) : below(SIZE)) : SIZE;
     l.numbers = wrong & BAD_MAP ? numbers + 1 : numbers;
-    l.length = wrong & LONG_PIECE ? RETIMER_MOST_PIECE + 1 + below(2000) : length;
+    l.length = wrong & LONG_PIECE ? RETIMER_MOST_PIECE + 1 + (one_in(3) ? 0 : below(2000)) : length;
     l.out_lent = wrong & SHORT_OUT ? (one_in(2) ? RETIMER_LEAST_OUTPUT - 1 : below(RETIMER_LEAST_OUTPUT)) : RETIMER_LEAST_OUTPUT + (one_in(3) ? below(100) : 0);
     l.places = wrong & FEW_PLACES ? (one_in(2) ? RETIMER_LEAST_PLACES - 1 : below(RETIMER_LEAST_PLACES)) : RETIMER_LEAST_PLACES + (one_in(3) ? below(50) : 0);
     memcpy(bad_map, map, 8 * numbers);
@@ -310,7 +310,8 @@ static void forged_number(const struct lot *l, const uint8_t *s, uint32_t number
         expect((number == 16) == (word_at(s, 6) + l->length > 1u << 30), l->f, "16 for the bytes taken");
 }
 
-static void forged_call(const uint8_t *session, size_t numbers, size_t length) {
+/* Whether it was accepted and goes on; what it leaves is second's. */
+static int forged_call(const uint8_t *session, size_t numbers, size_t length) {
     struct lot l;
     uint32_t number;
     memset(&l, 0, sizeof l);
@@ -325,12 +326,13 @@ static void forged_call(const uint8_t *session, size_t numbers, size_t length) {
     forged_number(&l, session, number);
     if (number && !ends_text(number)) {
         nothing_written(&l);
-        return;
+        return 0;
     }
     second.written = second.warned = 0;
     second.taken = (1u << 30) + 1;
-    memcpy(second.session, session, SIZE);
+    memmove(second.session, session, SIZE);
     take(&l, &second, number);
+    return !second.ended;
 }
 
 /* A run goes on in another place, with nothing joined yet. */
@@ -375,6 +377,13 @@ void case_forged(void) {
     if (one_in(30))
         for (k = 0; k < SIZE; k++)
             r.session[k] = (uint8_t)any();
-    forge(r.session);
-    forged_call(r.session, numbers, n);
+    if (!one_in(4))
+        forge(r.session);
+    if (one_in(3)) { /* another map than it was opened with */
+        numbers = draw_map(timescale, 1);
+        numbers = map_bad(map_numbers, numbers) ? 0 : numbers;
+    }
+    if (forged_call(r.session, numbers, n))
+        for (k = below(4); k > 0 && forged_call(second.session, numbers, below(n + 1)); k--)
+            ;
 }
