@@ -11,7 +11,8 @@
 extern "C" {
 #endif
 
-/* Bytes are given as a pointer that is not NULL and a length in bytes, which may be 0. What is lent to be written overlaps nothing else that is given. */
+/* Bytes and numbers are given as a pointer that is not NULL and, behind it, how many there are, which may be 0: `x_length` of those that are read, `x_lent` of those that are lent to
+ * be written. What is lent overlaps nothing else that is given. */
 
 /* The numbers that a function returns. */
 enum retimer_number {
@@ -68,10 +69,10 @@ enum retimer_direction { RETIMER_OUTWARD = 0, RETIMER_INWARD = 1 };
  * durations are more than 2^53 ticks together.
  * The work bytes, of any value, are n / 8, rounded up, for n frames, or more. They must not overlap the sheet.
  * With 0, 25 and 26 those needed end zero; else all stay as they were, and bytes past those needed always do. */
-uint32_t retimer_sheet_check(const uint8_t *sheet, size_t length, uint8_t *work, size_t work_length);
+uint32_t retimer_sheet_check(const uint8_t *sheet, size_t sheet_length, uint8_t *work, size_t work_lent);
 
 /* 0 for a good trim list, or a blank one, which keeps the whole play; else 2 to 7, or 20 for bytes that are not UTF-8. */
-uint32_t retimer_list_check(const uint8_t *list, size_t length);
+uint32_t retimer_list_check(const uint8_t *list, size_t list_length);
 
 /* Numbers that are enough for every map: 1024 segments, six to each. */
 #define RETIMER_MAP_NUMBERS 6144
@@ -82,8 +83,8 @@ uint32_t retimer_list_check(const uint8_t *list, size_t length);
  * With 0 the map is written, six numbers to a segment, and `timescale` and `count` tell the sheet's ticks a second and how many segments there are: the map to
  * hand on is the first 6 * count numbers. Numbers behind them stay as they were. With any other number the map and both places stay as they were.
  * Where fewer numbers are lent or the direction is neither, the work bytes stay too; else they are as the check leaves them. */
-uint32_t retimer_map(const uint8_t *sheet, size_t sheet_length, const uint8_t *list, size_t list_length, uint32_t direction, uint8_t *work, size_t work_length,
-                     uint64_t *map, size_t map_numbers, uint32_t *timescale, uint64_t *count);
+uint32_t retimer_map(const uint8_t *sheet, size_t sheet_length, const uint8_t *list, size_t list_length, uint32_t direction, uint8_t *work, size_t work_lent,
+                     uint64_t *map, size_t map_lent, uint32_t *timescale, uint64_t *count);
 
 /* Captions retimed. A session is kept by the caller, between two calls, as RETIMER_SESSION_BYTES bytes, which may be stored and taken up another day; they have no alignment.
  * A map is 64-bit numbers, six to a segment (below). A piece has at most RETIMER_MOST_PIECE bytes, cut anywhere; for every call at least RETIMER_LEAST_OUTPUT bytes of
@@ -95,7 +96,7 @@ uint32_t retimer_map(const uint8_t *sheet, size_t sheet_length, const uint8_t *l
 
 /* Opens a session of a kind, with the ticks a second, through the map. 0; 15 for the timescale or the map; 16 for the kind, then where fewer than RETIMER_SESSION_BYTES bytes are
  * lent. With 0 the session is the first RETIMER_SESSION_BYTES bytes, and those behind stay; else all stay as they were. */
-uint32_t retimer_open(uint32_t kind, uint32_t timescale, const uint64_t *map, size_t map_length, uint8_t *session, size_t session_length);
+uint32_t retimer_open(uint32_t kind, uint32_t timescale, const uint64_t *map, size_t map_length, uint8_t *session, size_t session_lent);
 
 /* Takes a piece of the text. Refused, nothing is written and all that is lent stays as it was, the two told lengths too: 27 where the session is not
  * the RETIMER_SESSION_BYTES bytes that a call left, 17 where they name a session that no call leads to, 18 where it has ended, 15 for the map, 16 for a length, or
@@ -103,14 +104,14 @@ uint32_t retimer_open(uint32_t kind, uint32_t timescale, const uint64_t *map, si
  * Else 0, and the retimed text that is complete stands at the start of `out`, the warnings, two numbers to each (which, and the line), at the start of `warnings`;
  * `written` and `warned` tell how many bytes and how many numbers; bytes and numbers behind them stay. The session is the one to hand to the next call.
  * 19 to 22 and 24 end the session: what stands before the fault is written and told likewise. */
-uint32_t retimer_feed(uint8_t *session, size_t session_length, const uint64_t *map, size_t map_length, const uint8_t *piece, size_t piece_length, uint8_t *out,
-                      size_t out_length, uint64_t *warnings, size_t places, uint64_t *written, uint64_t *warned);
+uint32_t retimer_feed(uint8_t *session, size_t session_lent, const uint64_t *map, size_t map_length, const uint8_t *piece, size_t piece_length, uint8_t *out,
+                      size_t out_lent, uint64_t *warnings, size_t warnings_lent, uint64_t *written, uint64_t *warned);
 
 /* The end of the text: what is held is its last line. The same numbers and the same places as for a piece; with 0 too the session has ended (18 from then on). */
-uint32_t retimer_finish(uint8_t *session, size_t session_length, const uint64_t *map, size_t map_length, uint8_t *out, size_t out_length, uint64_t *warnings,
-                        size_t places, uint64_t *written, uint64_t *warned);
+uint32_t retimer_finish(uint8_t *session, size_t session_lent, const uint64_t *map, size_t map_length, uint8_t *out, size_t out_lent, uint64_t *warnings,
+                        size_t warnings_lent, uint64_t *written, uint64_t *warned);
 
-/* A whole text in one call: opened, fed and finished inside. For a text of `length` bytes at least RETIMER_OUTPUT_FOR(length) bytes of output, RETIMER_PLACES_FOR(length)
+/* A whole text in one call: opened, fed and finished inside. For a text of `text_length` bytes at least RETIMER_OUTPUT_FOR(text_length) bytes of output, RETIMER_PLACES_FOR(text_length)
  * places for warnings and RETIMER_TOLD_NUMBERS told numbers are lent.
  * Refused, nothing is written: 15 for the timescale or the map, 16 for the kind, a text of more than 2^30 bytes, or too little lent.
  * Else 0, or 19 to 22 or 24 for the text: the retimed text, of a faulty one what stands before the fault, is at the start of `out`, the warnings, two numbers to each, at the start
@@ -127,8 +128,8 @@ enum retimer_told {
     RETIMER_TOLD_PASSED = 5,  /* captions that stay as they are, with warning 1 or 2 */
     RETIMER_TOLD_TAKEN = 6    /* bytes of the text */
 };
-uint32_t retimer_text(uint32_t kind, uint32_t timescale, const uint64_t *map, size_t map_length, const uint8_t *text, size_t length, uint8_t *out, size_t out_length,
-                      uint64_t *warnings, size_t places, uint64_t *told, size_t told_places);
+uint32_t retimer_text(uint32_t kind, uint32_t timescale, const uint64_t *map, size_t map_length, const uint8_t *text, size_t text_length, uint8_t *out, size_t out_lent,
+                      uint64_t *warnings, size_t warnings_lent, uint64_t *told, size_t told_lent);
 
 /* Conversions. kind: 0 ASS (hundredths), 1 SRT and 2 WebVTT (thousandths); timescale: ticks a second, 1 to 1000000000.
  * A value of units is at most 2^36, one of ticks at most 2^53. Refused, they return 0; the number says so. */
@@ -148,7 +149,7 @@ uint32_t retimer_ticks_number(uint64_t value, uint32_t timescale, uint32_t kind)
 #define RETIMER_SURELY_DROPPED 0 /* no choice within the bounds meets a kept segment */
 #define RETIMER_SURELY_KEPT 1    /* every choice does */
 #define RETIMER_UNSURE 2         /* one does, another does not */
-uint32_t retimer_rough(const uint64_t *map, size_t length, uint64_t start_low, uint64_t start_high, uint64_t end_low, uint64_t end_high,
+uint32_t retimer_rough(const uint64_t *map, size_t map_length, uint64_t start_low, uint64_t start_high, uint64_t end_low, uint64_t end_high,
                        uint64_t *judgement);
 
 /* What becomes of a caption of two times in units, at most 2^36 each, and why. 0; 15 for a bad timescale or map; 16 for a kind above 2, a time above the limit, or
@@ -161,7 +162,7 @@ uint32_t retimer_rough(const uint64_t *map, size_t length, uint64_t start_low, u
 #define RETIMER_NO_LENGTH 1    /* causes, the first that applies: the segment has no length */
 #define RETIMER_ENDS_BEFORE 2  /* it ends at or before the caption's start */
 #define RETIMER_STARTS_AFTER 3 /* it starts at or after the caption's end */
-uint32_t retimer_why(const uint64_t *map, size_t length, uint32_t timescale, uint32_t kind, uint64_t start, uint64_t stop, uint64_t *causes, size_t places,
+uint32_t retimer_why(const uint64_t *map, size_t map_length, uint32_t timescale, uint32_t kind, uint64_t start, uint64_t stop, uint64_t *causes, size_t causes_lent,
                      uint64_t *fate, uint64_t *place, uint64_t *start_cut, uint64_t *end_cut);
 
 /* How many starts survive a cut: captions of so many units at the starts 0 to count - 1, in units of the kind. How many are shifted, clipped and dropped goes
@@ -188,14 +189,14 @@ uint32_t retimer_best_delay(const uint64_t *map, size_t map_length, uint32_t tim
  * 0; 15 for a bad timescale or map; 16 for a path above 1024 bytes; 20 for one that is not UTF-8; 16 where the text is longer than the bytes lent for it.
  * With 0 the text stands at the start of `text`, bytes behind it staying as they were, and `written` is its length; else nothing is written.
  * `text` must not overlap the map or the path. */
-uint32_t retimer_map_write(const uint64_t *map, size_t length, uint32_t timescale, uint32_t rate_num, uint32_t rate_den, const uint8_t *path,
-                           size_t path_length, uint32_t frames, uint8_t *text, size_t places, uint64_t *written);
+uint32_t retimer_map_write(const uint64_t *map, size_t map_length, uint32_t timescale, uint32_t rate_num, uint32_t rate_den, const uint8_t *path,
+                           size_t path_length, uint32_t frames, uint8_t *text, size_t text_lent, uint64_t *written);
 
 /* A map from its text. 0; 23 for a text outside the rules of docs/GUIDE.md, or with a path above 1024 bytes; 15 for a timescale or map outside the limits; 16 where
  * fewer than 6144 places are lent for numbers, or fewer than 1024 for path bytes.
  * With 0 the map's numbers stand at the start of `map` and the path, decoded, at the start of `path`, what is behind them staying as it was, and the six places tell
  * the timescale, the frame rate, the frame count and how many numbers and path bytes were written; else nothing is written. Nothing lent may overlap. */
-uint32_t retimer_map_read(const uint8_t *text, size_t length, uint64_t *map, size_t map_places, uint8_t *path, size_t path_places, uint32_t *timescale,
+uint32_t retimer_map_read(const uint8_t *text, size_t text_length, uint64_t *map, size_t map_lent, uint8_t *path, size_t path_lent, uint32_t *timescale,
                           uint32_t *rate_num, uint32_t *rate_den, uint32_t *frames, uint64_t *numbers, uint64_t *path_length);
 
 #ifdef __cplusplus

@@ -6,7 +6,7 @@ import subprocess
 import sys
 import tempfile
 
-root = os.path.dirname(os.path.dirname(os.path.abspath(__file__)))
+root = os.path.dirname(os.path.dirname(os.path.realpath(__file__)))
 name = os.path.basename(sys.argv[0])
 
 # requests of document 02 that have landed, as the oracle's program takes them
@@ -87,8 +87,8 @@ def oracle():
     return [path, *LANDED]
 
 
-def beside_oracle(program, **how):
-    """The path of tools/PROGRAM.rs built beside the oracle's copy of the Rust."""
+def beside_oracle(program, target='target', **how):
+    """The path of tools/PROGRAM.rs built beside the oracle's copy of the Rust; `target`: the folder there that cargo builds in."""
     oracle()
     where = os.path.join(root, 'target/oracle')
     copy = os.path.join(where, 'src/bin', program + '.rs')
@@ -96,10 +96,10 @@ def beside_oracle(program, **how):
     with open(os.path.join(root, 'tools', program + '.rs')) as f, open(copy, 'w') as g:
         g.write(f.read())
     try:
-        run(['cargo', 'build', '-q', '--release', '--offline', '--bin', program], cwd=where, **how)
+        run(['cargo', 'build', '-q', '--release', '--offline', '--target-dir', target, '--bin', program], cwd=where, **how)
     finally:
         os.remove(copy)
-    return os.path.join(where, 'target/release', program)
+    return os.path.join(where, target, 'release', program)
 
 
 # ---- a stream of cases: a head of eight 32-bit words (op a b c d lenX lenY lenZ), then the bytes X, Y, Z

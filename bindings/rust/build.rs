@@ -7,6 +7,9 @@ fn main() {
     let libs = root.join("target/staticlib");
     println!("cargo:rustc-link-search=native={}", libs.display());
     println!("cargo:rerun-if-changed={}", libs.display());
+    if !libs.join("libcutter.a").exists() {
+        println!("cargo:warning=target/staticlib/libcutter.a is not there: tools/bindings proves and builds it");
+    }
     println!("cargo:rerun-if-env-changed=TACHIKAZE_SRC");
     println!("cargo::rustc-check-cfg=cfg(tachikaze)");
     let out = env::var("OUT_DIR").unwrap();

@@ -1,6 +1,6 @@
 //! The delay that loses least, beside the same algorithm in Rust, in one run, by processor time: 12,001 delays, 4,096 captions and 1,024 segments, on six kinds of map. For each caption its fate is painted over the
 //! window of moved starts, the last segment first, and looked up for every delay.
-use retimer::{best_delay, BestDelay, Kind};
+use retimer::{best_delay, BestDelay, Kind, Map};
 use std::hint::black_box;
 
 extern "C" {
@@ -82,13 +82,14 @@ fn maps() -> Vec<(&'static str, Vec<Row>)> {
 
 fn main() {
     for (what, rows) in maps() {
-        let flat: Vec<u64> = rows.iter().enumerate().flat_map(|(k, &[q, o, d])| [k as u64, k as u64 + 1, q, 1, o, d]).collect();
+        let numbers = rows.iter().enumerate().flat_map(|(k, &[q, o, d])| [k as u64, k as u64 + 1, q, 1, o, d]).collect();
+        let map = Map { timescale: TIMESCALE as u32, numbers };
         let span = rows.iter().map(|r| r[0] + r[2]).max().unwrap() / 30;
         let captions: Vec<[u64; 2]> = (0..4096).map(|i| i * 9_973_001 % span).zip((0..4096).map(|i| 20 + i * 7_919 % 2_000)).map(|(s, l)| [s, s + if s % 2 == 0 { l } else { l % 50 }]).collect();
         let (mut here, mut rust) = (f64::INFINITY, f64::INFINITY);
         for _ in 0..7 {
             let t = now();
-            let told = black_box(best_delay(black_box(&flat), TIMESCALE as u32, Kind::Srt, black_box(&captions), u32::MAX).unwrap());
+            let told = black_box(best_delay(black_box(&map), Kind::Srt, black_box(&captions), u32::MAX).unwrap());
             here = here.min(now() - t);
             let t = now();
             let same = black_box(plain(black_box(&rows), black_box(&captions)));

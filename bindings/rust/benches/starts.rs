@@ -1,6 +1,6 @@
 //! How many starts survive a cut, beside plain counts in Rust, in one run: N = 36,000,000 starts through 1,024 segments. The plain counts try every start, one by looking for its
 //! segment from the first on, the other from where the start before found it, which an ascending map allows.
-use retimer::{count_starts, Kind, Starts};
+use retimer::{census, Kind, Map, Starts};
 use std::hint::black_box;
 use std::time::Instant;
 
@@ -67,8 +67,9 @@ fn main() {
     for (timescale, length) in [(1000, 2_000), (30_000, 2_000), (90_000, 60_000)] {
         let t = u64::from(timescale);
         let scaled: Vec<[u64; 3]> = rows.iter().map(|r| r.map(|x| x * t / 1000)).collect();
-        let flat: Vec<u64> = scaled.iter().enumerate().flat_map(|(k, &[q, o, d])| [k as u64, k as u64 + 1, q, 1, o, d]).collect();
-        let (here, told) = timed(200, || count_starts(black_box(&flat), timescale, Kind::Srt, length, STARTS).unwrap());
+        let numbers = scaled.iter().enumerate().flat_map(|(k, &[q, o, d])| [k as u64, k as u64 + 1, q, 1, o, d]).collect();
+        let map = Map { timescale, numbers };
+        let (here, told) = timed(200, || census(black_box(&map), Kind::Srt, length, STARTS).unwrap());
         let (next, same) = timed(3, || following(black_box(&scaled), t, length));
         let (each, again) = timed(1, || searching(black_box(&scaled), t, length));
         assert_eq!((told, told), (same, again));

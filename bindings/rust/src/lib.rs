@@ -1,141 +1,56 @@
-//! Safe functions over the retimer's static library. Each has the contract of the proved function that it calls: it
-//! returns on every input, and writes nothing but what is lent to it for that.
+//! Bobbincrag, a caption retimer whose promise is a theorem, as a crate for tools that cut.
+//!
+//! A recording is told by a frame sheet, a cut by a trim list. Both give a [`Map`], which is what the cut keeps; captions in ASS, SRT or WebVTT are retimed
+//! through it, as a whole ([`retime`]) or in pieces ([`Session`]). What a function here promises is what is proved of the one that it calls in the static
+//! library: it returns on every input, and its answer is that of the definitions that docs/PROOFS.md leads to.
+//!
+//! ```
+//! use retimer::{retime, Direction, Kind, Map, Sheet};
+//! // ten frames of 1,001 ticks, 30,000 a second; a cut can begin at the frames 0, 3 and 6
+//! let sheet = Sheet::in_order(30_000, (30_000, 1_001), vec![1_001; 10], [0, 3, 6]).to_bytes()?;
+//! let map = Map::new(&sheet, b"Trim(0,2) ++ Trim(6,8)", Direction::Outward)?;
+//! let retimed = retime(Kind::Srt, &map, b"1\n00:00:00,210 --> 00:00:00,250\nA line\n")?;
+//! assert_eq!(retimed.text, b"1\n00:00:00,109 --> 00:00:00,150\nA line\n");
+//! assert_eq!(retimed.counts.to_string(), "1 shifted, 0 clipped, 0 dropped, 0 passed");
+//! # Ok::<(), Box<dyn std::error::Error>>(())
+//! ```
+//!
+//! | To | take |
+//! |---|---|
+//! | write a frame sheet from numbers, or read one | [`Sheet`] |
+//! | check a sheet or a list | [`check_sheet`], [`check_list`]; with places [`faults`] |
+//! | build a map, store it as JSON, read it back | [`Map`] |
+//! | retime captions | [`retime`], [`Session`] |
+//! | ask what becomes of a caption, and why | [`why`], [`rough`] |
+//! | ask how captions would fare | [`census`], [`best_delay`] |
+//! | show captions with lines and words | [`captions`] |
+//! | draw what became of captions, as SVG | [`picture`] |
+//!
+//! A refusal is a [`Refused`]: its number is that of docs/NUMBERS.md, its sentence that of docs/GUIDE.md. A fault of a caption text is a [`Stopped`], which adds the line and
+//! the words. The command `bobbincrag` in this package does all of this from files.
+#![deny(unsafe_code)]
+#![warn(missing_docs)]
 
-mod delays;
-mod retiming;
-mod rough;
-mod starts;
-mod stored;
-mod why;
+pub mod captions;
+pub mod faults;
+#[allow(unsafe_code)]
+mod ffi;
+mod kind;
+mod map;
+pub mod picture;
+mod questions;
+mod refused;
+mod session;
+mod sheet;
 
-pub use delays::{best_delay, BestDelay};
-pub use retiming::{retime, Direction, Map, Session, Stopped, Warning, Written, LEAST_OUTPUT, LEAST_PLACES, MAP_NUMBERS, MOST_PIECE, SESSION_BYTES};
-pub use rough::{rough, Judgement};
-pub use starts::{count_starts, Starts};
-pub use stored::{read_map, write_map, StoredMap, MOST_NUMBERS, MOST_PATH, MOST_TEXT};
-pub use why::{why, Cause, Fate};
+pub use kind::{ticks_to_units_ceil, ticks_to_units_floor, units_to_ticks, Kind};
+pub use map::{check_list, About, Direction, Map, Segment, MAP_NUMBERS, MOST_PATH, MOST_TEXT};
+pub use questions::{best_delay, census, rough, why, BestDelay, Cause, Fate, Judgement, Starts};
+pub use refused::{Refused, Warning};
+pub use session::{retime, Counts, Retimed, Session, Stopped, Written, LEAST_OUTPUT, LEAST_PLACES, MOST_PIECE, SESSION_BYTES};
+pub use sheet::{check_sheet, Frame, Head, Layout, Sheet, MOST_FRAMES, MOST_WORK};
 
-#[link(name = "cutter", kind = "static")]
-extern "C" {
-    fn retimer_sheet_check(sheet: *const u8, length: usize, work: *mut u8, work_length: usize) -> u32;
-    fn retimer_list_check(list: *const u8, length: usize) -> u32;
-    fn retimer_units_to_ticks(value: u64, timescale: u32, kind: u32) -> u64;
-    fn retimer_ticks_to_units_floor(value: u64, timescale: u32, kind: u32) -> u64;
-    fn retimer_ticks_to_units_ceil(value: u64, timescale: u32, kind: u32) -> u64;
-    fn retimer_units_number(value: u64, timescale: u32, kind: u32) -> u32;
-    fn retimer_ticks_number(value: u64, timescale: u32, kind: u32) -> u32;
-}
-
-/// A refusal: its number in docs/NUMBERS.md.
-#[derive(Clone, Copy, Debug, PartialEq, Eq)]
-pub struct Refused(pub u32);
-
-impl std::fmt::Display for Refused {
-    fn fmt(&self, f: &mut std::fmt::Formatter<'_>) -> std::fmt::Result {
-        write!(f, "refused {}", self.0)
-    }
-}
-
-impl std::error::Error for Refused {}
-
-/// The caption format that a time belongs to.
-#[derive(Clone, Copy, Debug, PartialEq, Eq)]
-pub enum Kind {
-    /// Hundredths of a second.
-    Ass,
-    /// Thousandths of a second.
-    Srt,
-    /// WebVTT: thousandths of a second.
-    Vtt,
-}
-
-impl Kind {
-    fn number(self) -> u32 {
-        match self {
-            Kind::Ass => 0,
-            Kind::Srt => 1,
-            Kind::Vtt => 2,
-        }
-    }
-}
-
-fn by_number(number: u32) -> Result<(), Refused> {
-    match number {
-        0 => Ok(()),
-        n => Err(Refused(n)),
-    }
-}
-
-/// Work bytes that are enough for every sheet.
-pub const MOST_WORK: usize = 131_072;
-
-/// Whether `sheet` is a sound frame sheet: 11 length, 12 block, 13 head, 14 record, 25 a sample named twice. It lends the
-/// work bytes by itself, as many as are always enough.
-pub fn check_sheet(sheet: &[u8]) -> Result<(), Refused> {
-    by_number(raw::sheet_check(sheet, &mut vec![0; MOST_WORK]))
-}
-
-/// Whether `list` is a good trim list, or a blank one, which keeps the whole play: else 2 to 7, or 20 for bytes that are not UTF-8.
-pub fn check_list(list: &[u8]) -> Result<(), Refused> {
-    by_number(unsafe { retimer_list_check(list.as_ptr(), list.len()) })
-}
-
-/// Units to ticks, rounded down.
-pub fn units_to_ticks(units: u64, timescale: u32, kind: Kind) -> Result<u64, Refused> {
-    let k = kind.number();
-    by_number(unsafe { retimer_units_number(units, timescale, k) })?;
-    Ok(unsafe { retimer_units_to_ticks(units, timescale, k) })
-}
-
-/// Ticks to units, rounded down: a written start.
-pub fn ticks_to_units_floor(ticks: u64, timescale: u32, kind: Kind) -> Result<u64, Refused> {
-    let k = kind.number();
-    by_number(unsafe { retimer_ticks_number(ticks, timescale, k) })?;
-    Ok(unsafe { retimer_ticks_to_units_floor(ticks, timescale, k) })
-}
-
-/// Ticks to units, rounded up: a written end.
-pub fn ticks_to_units_ceil(ticks: u64, timescale: u32, kind: Kind) -> Result<u64, Refused> {
-    let k = kind.number();
-    by_number(unsafe { retimer_ticks_number(ticks, timescale, k) })?;
-    Ok(unsafe { retimer_ticks_to_units_ceil(ticks, timescale, k) })
-}
-
-/// The C functions as they are, for callers that pass any number as a kind.
+/// The C functions over slices of any length, for callers that pass any number as a kind, and lend output and places themselves.
 pub mod raw {
-    pub use crate::delays::flat_delay;
-    pub use crate::retiming::{feed, finish, map_of, open};
-    pub use crate::starts::census;
-    pub use crate::stored::{raw_read as map_read, raw_write as map_write};
-
-    /// The number of a sheet: as `check_sheet`, and 16 where fewer work bytes are lent than n / 8, rounded up. With 0 and 25
-    /// those needed end zero, whatever stood there, and any others stay; with other numbers all stay.
-    pub fn sheet_check(sheet: &[u8], work: &mut [u8]) -> u32 {
-        unsafe { super::retimer_sheet_check(sheet.as_ptr(), sheet.len(), work.as_mut_ptr(), work.len()) }
-    }
-
-    /// The value that units give as ticks; 0 when refused.
-    pub fn units_to_ticks(value: u64, timescale: u32, kind: u32) -> u64 {
-        unsafe { super::retimer_units_to_ticks(value, timescale, kind) }
-    }
-
-    /// The value that ticks give as units, down; 0 when refused.
-    pub fn ticks_to_units_floor(value: u64, timescale: u32, kind: u32) -> u64 {
-        unsafe { super::retimer_ticks_to_units_floor(value, timescale, kind) }
-    }
-
-    /// The value that ticks give as units, up; 0 when refused.
-    pub fn ticks_to_units_ceil(value: u64, timescale: u32, kind: u32) -> u64 {
-        unsafe { super::retimer_ticks_to_units_ceil(value, timescale, kind) }
-    }
-
-    /// The number of a conversion from units.
-    pub fn units_number(value: u64, timescale: u32, kind: u32) -> u32 {
-        unsafe { super::retimer_units_number(value, timescale, kind) }
-    }
-
-    /// The number of a conversion from ticks.
-    pub fn ticks_number(value: u64, timescale: u32, kind: u32) -> u32 {
-        unsafe { super::retimer_ticks_number(value, timescale, kind) }
-    }
+    pub use crate::ffi::*;
 }

@@ -1,8 +1,13 @@
-use retimer::{best_delay, raw, BestDelay, Kind, Refused};
+use retimer::{raw, BestDelay, Kind, Map, Refused};
 
 /// A map by source start, output start and duration.
 fn map(rows: &[(u64, u64, u64)]) -> Vec<u64> {
     rows.iter().enumerate().flat_map(|(k, &(q, o, d))| [k as u64, k as u64 + 1, q, 1, o, d]).collect()
+}
+
+/// The delay through a map of these numbers.
+fn best_delay(numbers: &[u64], timescale: u32, kind: Kind, captions: &[[u64; 2]], budget: u32) -> Result<BestDelay, Refused> {
+    retimer::best_delay(&Map { timescale, numbers: numbers.to_vec() }, kind, captions, budget)
 }
 
 fn found(delay: i64, loss: u32, tried: u32, off: u32) -> BestDelay {

@@ -1,4 +1,5 @@
-use retimer::{raw, retime, Direction, Kind, Map, Refused, Session, Stopped, Warning, Written, LEAST_OUTPUT, LEAST_PLACES, MAP_NUMBERS, MOST_WORK, SESSION_BYTES};
+use retimer::captions::Place;
+use retimer::{raw, retime, Direction, Kind, Map, Refused, Retimed, Session, Stopped, Warning, Written, LEAST_OUTPUT, LEAST_PLACES, MAP_NUMBERS, MOST_WORK, SESSION_BYTES};
 
 fn read(kind: &str, file: &str) -> Vec<u8> {
     std::fs::read(format!("{}/../../examples/play/{kind}/{file}", env!("CARGO_MANIFEST_DIR"))).unwrap()
@@ -19,26 +20,32 @@ fn the_play() {
     }
 }
 
-/// In pieces of any size, stored and taken up after every call, it is the same, with the same warnings.
+/// In pieces of any size, parked and resumed after every call, it is the same, with the same warnings and counts.
 #[test]
 fn the_play_in_pieces() {
     for (kind, name) in KINDS {
         let (map, text) = (play(name), read(name, &format!("subs.{name}")));
         let whole = retime(kind, &map, &text).unwrap();
-        for size in [1, 7, 100, 1000] {
+        for size in [1, 7, 100, 1000, 1024, 1025, 5000] {
             let mut session = Session::open(kind, &map).unwrap();
             let mut all = Written::default();
             for piece in text.chunks(size) {
-                session = Session::from_bytes(session.bytes());
-                let w = session.feed(&map, piece).unwrap();
+                session = Session::resume(&map, &session.park()).unwrap();
+                let w = session.feed(piece).unwrap();
                 all.text.extend(w.text);
                 all.warnings.extend(w.warnings);
             }
-            let w = session.finish(&map).unwrap();
+            assert!(!session.has_ended());
+            let w = session.finish().unwrap();
             all.text.extend(w.text);
             all.warnings.extend(w.warnings);
-            assert_eq!(all, whole, "{name} by {size}");
-            assert_eq!(session.finish(&map).unwrap_err().refused, Refused(18));
+            assert_eq!(Retimed { text: all.text, warnings: all.warnings, counts: session.counts() }, whole, "{name} by {size}");
+            assert!(session.has_ended());
+            assert_eq!(session.taken(), text.len() as u64);
+            assert_eq!(session.finish().unwrap_err().refused, Refused(18));
+            assert_eq!(session.feed(b"").unwrap_err().refused, Refused(18));
+            let mut again = Session::resume(&map, &session.park()).unwrap();
+            assert_eq!((again.counts(), again.feed(b"x").unwrap_err().refused), (whole.counts, Refused(18)));
         }
     }
 }
@@ -156,12 +163,58 @@ fn forged_within_the_limits() {
 fn a_fault_tells_what_stands_before_it() {
     let map = play("srt");
     let mut session = Session::open(Kind::Srt, &map).unwrap();
-    let stopped = session.feed(&map, b"text\n\n1\n00:00:01,000 --> nothing\n\n").unwrap_err();
-    assert_eq!(stopped, Stopped { refused: Refused(22), before: Written { text: b"text\n\n".to_vec(), warnings: vec![] } });
-    assert_eq!(session.feed(&map, b"1").unwrap_err(), Stopped { refused: Refused(18), before: Written::default() });
+    let stopped = session.feed(b"text\n\n1\n00:00:01,000 --> nothing\n\n").unwrap_err();
+    let place = Some(Place { line: 4, words: "00:00:01,000 --> nothing".into() });
+    assert_eq!(stopped, Stopped { refused: Refused(22), place, before: Written { text: b"text\n\n".to_vec(), warnings: vec![] } });
+    assert_eq!(session.feed(b"1").unwrap_err(), Stopped { refused: Refused(18), place: None, before: Written::default() });
     let mut session = Session::open(Kind::Ass, &map).unwrap();
-    let told = session.feed(&map, b"[Events]\nDialogue: 0,0:00:01.00,0:00:02.00,x\n").unwrap();
-    assert_eq!(told.warnings, [Warning { kind: 1, line: 2 }]);
+    let told = session.feed(b"[Events]\nDialogue: 0,0:00:01.00,0:00:02.00,x\n").unwrap();
+    assert_eq!(told.warnings, [Warning { number: 1, line: 2 }]);
+}
+
+/// Whatever the pieces, a fault is told with the same line and words as in the whole text.
+#[test]
+fn a_fault_has_its_place() {
+    let long = format!("[Script Info]\n{}\n", "x".repeat(4_096));
+    let texts: [(Kind, &[u8], u32, u64, &str); 7] = [
+        (Kind::Srt, "\u{FEFF}1\n00:00:01,000 --> 00:00:02,000\nA\n\n\n2\n00:00:60,000 --> 00:00:02,000\n<i>B</i>\nC".as_bytes(), 22, 7, "00:00:60,000 --> 00:00:02,000 B C"),
+        (Kind::Vtt, b"WEBVTT\n\n00:01.000 --> 00:02.000\nA\n\nx\n0:01.000 --> 00:02.000\nB\n\nC\n", 22, 7, "0:01.000 --> 00:02.000 B"),
+        (Kind::Ass, b"[Events]\nFormat: Start,End,Text\nDialogue: 0:00:01.00,0:00:02.00,A\nDialogue: 0:00:01.00,0:00:02,{\\b1}B,\\NC\n", 22, 4, "0:00:01.00 --> 0:00:02 B, C"),
+        (Kind::Srt, b"1\n00:00:01,000 --> 00:00:02,000\nCaf\xe9\n\n", 20, 3, "Caf\u{FFFD}"),
+        (Kind::Ass, long.as_bytes(), 19, 2, &format!("{}..", "x".repeat(60))),
+        (Kind::Vtt, b"WEBVTT2\n", 24, 1, "WEBVTT2"),
+        (Kind::Vtt, "\u{FEFF}".as_bytes(), 24, 1, ""),
+    ];
+    let map = play("srt");
+    for (kind, text, number, line, words) in texts {
+        let whole = retime(kind, &map, text).unwrap_err();
+        assert_eq!((whole.refused, whole.place), (Refused(number), Some(Place { line, words: words.into() })), "{kind:?}");
+        for size in [1, 2, 7, 100, 5000] {
+            let mut session = Session::open(kind, &map).unwrap();
+            let fed = text.chunks(size).find_map(|piece| session.feed(piece).err());
+            let stopped = fed.unwrap_or_else(|| session.finish().unwrap_err());
+            let place = stopped.place.unwrap();
+            // a line that is too long is told before all of it is there
+            assert_eq!((stopped.refused, place.line), (Refused(number), line), "{kind:?} by {size}");
+            assert!(place.words == words || number == 20 && words.starts_with(&place.words), "{kind:?} by {size}: {}", place.words);
+        }
+    }
+}
+
+/// Bytes that are no parked session are refused when they are resumed.
+#[test]
+fn resumed() {
+    let map = play("srt");
+    let parked = Session::open(Kind::Srt, &map).unwrap().park();
+    let refused = |bytes: &[u8]| Session::resume(&map, bytes).err();
+    assert_eq!(refused(&parked), None);
+    assert_eq!(refused(&parked[1..]), Some(Refused(27)));
+    let mut damaged = parked;
+    damaged[700] = 1;
+    assert_eq!(refused(&damaged), Some(Refused(27)));
+    let mut forged = parked;
+    forge(&mut forged, 8, 1);
+    assert_eq!(refused(&forged), Some(Refused(17)));
 }
 
 /// A sheet of `n` frames of 1001 ticks, 30000 a second, in decode order, sync at every third.

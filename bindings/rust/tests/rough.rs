@@ -1,8 +1,14 @@
 use retimer::Judgement::{SurelyDropped, SurelyKept, Unsure};
-use retimer::{rough, Refused};
+use retimer::{Judgement, Map, Refused};
+use std::ops::RangeInclusive;
 
 /// Document 01's worked map: source ticks 0 to 3003 and 6006 to 10010.
 const MAP: [u64; 12] = [0, 3, 0, 3, 0, 3003, 6, 10, 6006, 4, 3003, 4004];
+
+/// What is sure through a map of these numbers.
+fn rough(numbers: &[u64], start: RangeInclusive<u64>, end: RangeInclusive<u64>) -> Result<Judgement, Refused> {
+    retimer::rough(&Map { timescale: 30_000, numbers: numbers.to_vec() }, start, end)
+}
 
 /// The first segment of positive length that ends after `a` and starts before `b`.
 fn kept(map: &[u64], a: u64, b: u64) -> bool {

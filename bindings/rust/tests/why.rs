@@ -1,8 +1,13 @@
 use retimer::Cause::{EndsBefore, NoLength, StartsAfter};
-use retimer::{why, Fate, Kind, Refused};
+use retimer::{Fate, Kind, Map, Refused};
 
 /// Document 01's worked map: source ticks 0 to 3003 and 6006 to 10010, 30000 a second.
 const MAP: [u64; 12] = [0, 3, 0, 3, 0, 3003, 6, 10, 6006, 4, 3003, 4004];
+
+/// The reason through a map of these numbers.
+fn why(numbers: &[u64], timescale: u32, kind: Kind, start: u64, stop: u64) -> Result<Fate, Refused> {
+    retimer::why(&Map { timescale, numbers: numbers.to_vec() }, kind, start, stop)
+}
 
 fn kept(place: usize, start_cut: u64, end_cut: u64) -> Result<Fate, Refused> {
     Ok(Fate::Kept { place, start_cut, end_cut })

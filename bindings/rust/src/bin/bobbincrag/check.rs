@@ -1,0 +1,109 @@
+//! `bobbincrag check`: every fault of a sheet, a list and captions, with its place.
+use crate::args::Args;
+use crate::cut::direction;
+use crate::failure::Failure;
+use crate::input::{self, Input};
+use crate::output;
+use crate::progress::Progress;
+use retimer::faults::{self, Fault};
+use retimer::Kind;
+use std::ffi::OsStr;
+
+/// Faults of one number in one file that are printed, at most.
+const MOST: usize = 50;
+
+pub fn run(args: &Args) -> Result<(), Failure> {
+    input::once(args)?;
+    let subs: Vec<&OsStr> = args.all("--subs").collect();
+    if !args.has("--sheet") && !args.has("--list") && subs.is_empty() {
+        return Err(args.usage("name what to check: --sheet, --list, --subs"));
+    }
+    let kinds = subs.iter().map(|s| input::kind_of(args, s)).collect::<Result<Vec<Kind>, _>>()?;
+    let read = |name: &'static str, most| args.one(name).map(|n| input::read(n, most)).transpose();
+    let (sheet, list) = (read("--sheet", input::MOST_SHEET)?, read("--list", input::MOST_LIST)?);
+    let texts = subs.iter().map(|s| input::read(s, input::MOST_TEXT)).collect::<Result<Vec<Input>, _>>()?;
+
+    let mut page = Page::default();
+    if let Some(sheet) = &sheet {
+        page.add(&sheet.name, faults::in_sheet(&sheet.bytes));
+    }
+    if let Some(list) = &list {
+        page.add(&list.name, of_list(args, &list.bytes, sheet.as_ref()));
+    } else if let Some(sheet) = &sheet {
+        // that the whole recording can be kept is asked where there is no list
+        let found = if page.faults == 0 { faults::in_cut(&sheet.bytes, b"", direction(args)) } else { Vec::new() };
+        page.note(&sheet.name, found);
+    }
+    for (text, kind) in texts.iter().zip(kinds) {
+        let progress = Progress::new(format!("checking {}", text.name), text.bytes.len());
+        let found = faults::in_captions(kind, &text.bytes, &mut |at| progress.at(at));
+        drop(progress);
+        page.add(&text.name, found);
+    }
+    page.end()
+}
+
+/// The list's own faults; where it has none and the sheet is sound, those of its trims there.
+fn of_list(args: &Args, list: &[u8], sheet: Option<&Input>) -> Vec<Fault> {
+    let found = faults::in_list(list);
+    match sheet {
+        Some(sheet) if found.is_empty() && retimer::check_sheet(&sheet.bytes).is_ok() => faults::in_cut(&sheet.bytes, list, direction(args)),
+        _ => found,
+    }
+}
+
+/// What is printed.
+#[derive(Default)]
+struct Page {
+    text: String,
+    faults: usize,
+    files: usize,
+    faulty: usize,
+}
+
+impl Page {
+    /// A file's faults.
+    fn add(&mut self, name: &str, found: Vec<Fault>) {
+        self.files += 1;
+        if found.is_empty() {
+            self.text += &format!("{name}: sound\n");
+        }
+        self.note(name, found);
+    }
+
+    /// Faults of a file that is told already.
+    fn note(&mut self, name: &str, found: Vec<Fault>) {
+        let mut told: Vec<(u32, usize)> = Vec::new();
+        for fault in &found {
+            let number = fault.refused.number();
+            let k = told.iter().position(|t| t.0 == number).unwrap_or_else(|| {
+                told.push((number, 0));
+                told.len() - 1
+            });
+            told[k].1 += 1;
+            if told[k].1 <= MOST {
+                self.text += &format!("{} ({name}, {})\n", fault.refused, fault.place);
+            }
+        }
+        for (number, count) in told.into_iter().filter(|t| t.1 > MOST) {
+            self.text += &format!("and {} more of {number} in {name}\n", count - MOST);
+        }
+        self.faults += found.len();
+        self.faulty += usize::from(!found.is_empty());
+    }
+
+    fn end(mut self) -> Result<(), Failure> {
+        let files = if self.files == 1 { "1 file".to_string() } else { format!("{} files", self.files) };
+        let faults = if self.faults == 1 { "1 fault".to_string() } else { format!("{} faults", self.faults) };
+        self.text += &match self.faults {
+            0 => format!("{files} checked, all sound\n"),
+            _ => format!("{files} checked, {faults} in {}\n", self.faulty),
+        };
+        output::print(self.text.as_bytes())?;
+        if self.faults == 0 {
+            Ok(())
+        } else {
+            Err(Failure::Told)
+        }
+    }
+}

@@ -1,0 +1,55 @@
+//! `bobbincrag delay`: the shift of all captions that loses fewest.
+use crate::args::Args;
+use crate::cut;
+use crate::failure::Failure;
+use crate::held;
+use crate::input;
+use crate::output;
+use crate::progress::Progress;
+use crate::stderr::say;
+use retimer::captions::Times;
+use retimer::{best_delay, Kind};
+
+/// All shifts that there are to try.
+const ALL: u32 = 12_001;
+
+pub fn run(args: &Args) -> Result<(), Failure> {
+    cut::named(args)?;
+    let name = args.one("--subs").ok_or_else(|| args.usage("name the captions with --subs"))?;
+    let kind = input::kind_of(args, name)?;
+    let budget = match args.one("--budget") {
+        Some(n) => n.to_str().and_then(|n| n.parse().ok()).ok_or_else(|| args.usage("--budget is how many shifts to try"))?,
+        None => ALL,
+    };
+    let map = cut::read(args)?.map;
+    let text = input::read(name, input::MOST_TEXT)?;
+    let read = held::captions(&map, kind, &text)?.captions;
+    let captions: Vec<[u64; 2]> = read.iter().filter_map(|(c, _)| times(c.times)).collect();
+    if captions.len() < read.len() {
+        say(format_args!("{} captions are left out: they have no times that are read", read.len() - captions.len()));
+    }
+    let progress = Progress::new(format!("trying shifts for {} captions", captions.len()), 0);
+    let best = best_delay(&map, kind, &captions, budget).map_err(|r| Failure::refused(format!("{r} ({})", text.name)));
+    drop(progress);
+    let best = best?;
+    let (shift, floor) = (seconds(kind, best.delay), best.loss - best.off);
+    let found = format!("Of {} shifts tried, {shift} s loses fewest: {} of {} captions.", best.tried, best.loss, captions.len());
+    output::print(format!("{found} No shift at all loses fewer than {floor}.\n").as_bytes())
+}
+
+fn times(times: Times) -> Option<[u64; 2]> {
+    match times {
+        Times::Read { start, stop } => Some([start, stop]),
+        Times::Passed | Times::Unreadable => None,
+    }
+}
+
+/// Units as seconds, with a sign.
+fn seconds(kind: Kind, units: i64) -> String {
+    let (a_second, sign) = (kind.units(), if units < 0 { '-' } else { '+' });
+    let (whole, part) = (units.unsigned_abs() / a_second, units.unsigned_abs() % a_second);
+    match kind {
+        Kind::Ass => format!("{sign}{whole}.{part:02}"),
+        Kind::Srt | Kind::Vtt => format!("{sign}{whole}.{part:03}"),
+    }
+}

@@ -1,0 +1,130 @@
+//! What is to be drawn, measured: where each caption lies in the recording, what of it is kept, and how large things are.
+use super::text::clean;
+use super::{Cut, Drawn, Fate, New, Stretch};
+
+/// So few captions have room for their words.
+const FEW: usize = 100;
+
+/// How large things are drawn: the more captions, the smaller.
+#[derive(Clone, Copy)]
+pub struct Look {
+    /// The median caption's width.
+    pub caption: f64,
+    /// A bar's height.
+    pub bar: f64,
+    /// The size of words in bars, and how many lines of them.
+    pub size: f64,
+    pub lines: usize,
+    /// The height between recording and cut.
+    pub join: f64,
+    /// The most lanes of bars; those that vanished, were cut or are warned of may take twice as many.
+    pub lanes: usize,
+    /// The room above and below the bars, and below the row.
+    pub edge: f64,
+    pub after: f64,
+}
+
+impl Look {
+    fn of(captions: usize) -> Look {
+        match captions {
+            n if n <= FEW => Look { caption: 170.0, bar: 36.0, size: 13.0, lines: 2, join: 60.0, lanes: 4, edge: 5.0, after: 18.0 },
+            n if n <= 1000 => Look { caption: 100.0, bar: 18.0, size: 11.0, lines: 1, join: 44.0, lanes: 5, edge: 5.0, after: 18.0 },
+            n if n <= 3000 => Look { caption: 62.0, bar: 16.0, size: 10.5, lines: 1, join: 38.0, lanes: 5, edge: 4.0, after: 16.0 },
+            _ => Look { caption: 42.0, bar: 14.0, size: 10.0, lines: 1, join: 34.0, lanes: 4, edge: 4.0, after: 16.0 },
+        }
+    }
+
+    /// The look of a row in which every caption is shifted, and by as much: low, and without words where there are many.
+    pub fn quiet(captions: usize) -> Look {
+        if captions <= FEW {
+            return Look::of(captions);
+        }
+        Look { bar: 6.0, lines: 0, join: 10.0, edge: 2.0, after: 14.0, ..Look::of(captions) }
+    }
+}
+
+/// The part of a caption that is kept, in ticks of the recording.
+#[derive(Clone, Copy)]
+pub struct Kept {
+    pub stretch: usize,
+    pub from: u64,
+    pub to: u64,
+    /// Whether its start and its end are cut off.
+    pub torn: (bool, bool),
+}
+
+/// A caption in its place.
+pub struct Caption<'a> {
+    pub told: &'a Drawn,
+    /// Where it lies in the recording, the lower tick first; a passed one without times lies nowhere.
+    pub span: Option<(u64, u64)>,
+    pub kept: Option<Kept>,
+    /// Its words on one line.
+    pub words: String,
+}
+
+/// How many captions fared how.
+#[derive(Clone, Copy, Default)]
+pub struct Counts {
+    pub shifted: usize,
+    pub clipped: usize,
+    pub dropped: usize,
+    pub passed: usize,
+    pub warned: usize,
+}
+
+/// A cut, measured.
+pub struct Play<'a> {
+    pub cut: &'a Cut<'a>,
+    pub timescale: u32,
+    pub captions: Vec<Caption<'a>>,
+    /// Where the recording ends: no stretch reaches further, and it is not 0.
+    pub end: u64,
+    pub look: Look,
+}
+
+/// Where a stretch ends in the recording.
+pub fn end_of(s: &Stretch) -> u64 {
+    s.source.saturating_add(s.duration)
+}
+
+impl<'a> Play<'a> {
+    pub fn new(cut: &'a Cut<'a>) -> Play<'a> {
+        let ends = cut.segments.iter().map(end_of);
+        let end = match cut.recording {
+            Some(ticks) => ends.max().unwrap_or(0).max(ticks),
+            None => ends.chain(cut.captions.iter().map(|c| c.start.max(c.end))).max().unwrap_or(0),
+        };
+        let end = end.max(1);
+        let captions = cut.captions.iter().map(|told| Caption { told, span: span(told), kept: kept(told, cut.segments), words: clean(&told.words) });
+        Play { cut, timescale: cut.timescale.max(1), captions: captions.collect(), end, look: Look::of(cut.captions.len()) }
+    }
+
+    /// How the captions with these places in the list fared.
+    pub fn counts(&self, which: impl Iterator<Item = usize>) -> Counts {
+        let mut c = Counts::default();
+        for told in which.map(|k| self.captions[k].told) {
+            c.warned += usize::from(!told.warnings.is_empty());
+            match told.fate {
+                Fate::Shifted => c.shifted += 1,
+                Fate::Clipped => c.clipped += 1,
+                Fate::Dropped => c.dropped += 1,
+                Fate::Passed => c.passed += 1,
+            }
+        }
+        c
+    }
+}
+
+fn span(told: &Drawn) -> Option<(u64, u64)> {
+    let nowhere = told.fate == Fate::Passed && told.start == 0 && told.end == 0;
+    (!nowhere).then_some((told.start.min(told.end), told.start.max(told.end)))
+}
+
+/// The caption's times in the cut, led back into its stretch.
+fn kept(told: &Drawn, stretches: &[Stretch]) -> Option<Kept> {
+    let New { stretch, start, end, torn } = told.new.filter(|_| matches!(told.fate, Fate::Shifted | Fate::Clipped))?;
+    let s = stretches.get(stretch)?;
+    let back = |t: u64| s.source.saturating_add(t.saturating_sub(s.output).min(s.duration));
+    Some(Kept { stretch, from: back(start.min(end)), to: back(start.max(end)), torn })
+}
