@@ -1,4 +1,5 @@
-/* The retimer's C functions: frame sheet check, trim list check, the map of a sheet and a list, captions retimed through it, time conversions, questions about a map, and maps as JSON.
+/* The retimer's C functions: frame sheet check, trim list check, the map of a sheet and a list, captions retimed through it, in pieces or in one call, time conversions,
+ * questions about a map, and maps as JSON.
  * They keep no state, write nothing but what is lent to them for that, and return on every input. Numbers: docs/NUMBERS.md. */
 #ifndef RETIMER_H
 #define RETIMER_H
@@ -25,23 +26,24 @@ enum retimer_number {
     RETIMER_OVERLAP = 8,           /* snapped ranges overlap */
     RETIMER_TURNED_OVER = 9,       /* a snapped range starts above its end */
     RETIMER_PAST_THE_END = 10,     /* a range takes samples past the last */
-    RETIMER_SHEET_LENGTH = 11,
-    RETIMER_SHEET_BLOCK = 12,
-    RETIMER_SHEET_HEAD = 13,
-    RETIMER_SHEET_RECORD = 14,
+    RETIMER_SHEET_LENGTH = 11,     /* the sheet's length is wrong */
+    RETIMER_SHEET_BLOCK = 12,      /* a block's number or sum is wrong */
+    RETIMER_SHEET_HEAD = 13,       /* timescale, frame count or a spare word is out of range */
+    RETIMER_SHEET_RECORD = 14,     /* a frame's record is wrong */
     RETIMER_BAD_MAP = 15,          /* the timescale or the map */
-    RETIMER_BAD_ARGUMENT = 16,
-    RETIMER_FOREIGN_SESSION = 17,
-    RETIMER_ENDED = 18,
-    RETIMER_LONG_LINE = 19,
+    RETIMER_BAD_ARGUMENT = 16,     /* a kind, a value, or a length that is lent */
+    RETIMER_FOREIGN_SESSION = 17,  /* a session that no call leads to */
+    RETIMER_ENDED = 18,            /* the session has ended */
+    RETIMER_LONG_LINE = 19,        /* a line of more than 4096 bytes */
     RETIMER_NOT_UTF8 = 20,
-    RETIMER_LONG_BLOCK = 21,
-    RETIMER_BAD_TIME = 22,
-    RETIMER_FIRST_LINE = 24,
-    RETIMER_NAMED_TWICE = 25,
-    RETIMER_TOO_MANY_TICKS = 26,
-    RETIMER_NO_PARKED_SESSION = 27,
-    RETIMER_OUT_OF_ORDER = 28,
+    RETIMER_LONG_BLOCK = 21,       /* an SRT or WebVTT block of more than 4096 bytes */
+    RETIMER_BAD_TIME = 22,         /* a caption's time can't be read */
+    RETIMER_NO_MAP_TEXT = 23,      /* a text that is no segment map as the cutter stores it */
+    RETIMER_FIRST_LINE = 24,       /* a WebVTT text does not begin with WEBVTT */
+    RETIMER_NAMED_TWICE = 25,      /* two frames of a sheet name the same sample */
+    RETIMER_TOO_MANY_TICKS = 26,   /* a sheet or a map lasts more than 2^53 ticks */
+    RETIMER_NO_PARKED_SESSION = 27, /* bytes that are no session */
+    RETIMER_OUT_OF_ORDER = 28,     /* a map whose segments do not ascend */
     RETIMER_NO_TRIES = 29          /* budget 0, or more than 4096 captions */
 };
 
@@ -180,7 +182,7 @@ uint32_t retimer_best_delay(const uint64_t *map, size_t map_length, uint32_t tim
 
 /* Segment maps as the Rust cutter stores them: the JSON text of to_json. */
 #define RETIMER_MOST_PATH 1024      /* bytes of the longest input path */
-#define RETIMER_MOST_NUMBERS 6144   /* numbers of the longest map, six to a segment */
+#define RETIMER_MOST_NUMBERS RETIMER_MAP_NUMBERS /* numbers of the longest map, six to a segment */
 #define RETIMER_MOST_TEXT 255141    /* bytes of the longest text */
 
 /* The text of a map, with its line end: timescale, frame rate (a fraction), input path and frame count go with it.

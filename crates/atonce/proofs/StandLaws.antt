@@ -11,7 +11,6 @@ use borrow.Author.Tests.{le-leb}
 use Rattle.base.specs.Limits.{mostPiece, mostTaken, leastOutput, leastPlaces}
 use Rattle.base.specs.Refusal.{_orElse_, faultUnless}
 use Rattle.base.specs.Put.{put}
-use Rattle.segment.specs.Segment.{segmentsOf}
 use Rattle.event.specs.declared.setting.Config.{Config}
 use Rattle.event.specs.Says.{Part}
 use Rattle.event.specs.Emit.{Emit, outputOf, warningsOf, placesOf}

@@ -2,13 +2,13 @@
 use mathlib.Core.Path.{_≡_, refl, sym, ap, subst, _∙_}
 use mathlib.Core.Bool.{Bool, true, false, cond}
 use mathlib.Core.List.{List, [], _++_}
-use Prim.Native.Nat.{ℕ, _+_, _-_, _*_, _/_, _≤_, _<_}
+use Prim.Native.Nat.{ℕ, _+_, _-_, _*_, _≤_, _<_}
 use native.Mathlib.Omega.{arith}
 use lib.Dec.{ltb}
 use lib.ListN.{length, take, drop, length-take, length-drop, length-append, take-append-drop}
 use lib.Seq.{take-add, take-all}
 use borrow.Author.Tests.{ltb-true, ltb-false, lt-ltb, le-ltb}
-use Rattle.base.specs.Limits.{mostPiece, mostTaken, leastOutput, leastPlaces}
+use Rattle.base.specs.Limits.{mostTaken, leastOutput, leastPlaces}
 use Rattle.base.specs.Put.{put}
 use Rattle.base.proofs.PutLaws.{put-nil, length-put, length-tail}
 use Rattle.event.specs.declared.setting.Config.{Config}

@@ -1,10 +1,10 @@
 -- The refusals, the session that is opened, and the numbers that are told.
-use mathlib.Core.Path.{_≡_, refl, sym, ap, ap₂, subst, _∙_}
+use mathlib.Core.Path.{_≡_, refl, sym, ap, subst, _∙_}
 use mathlib.Core.Bool.{Bool, true, false, not, cond, _||_}
 use mathlib.Core.List.{List, [], _∷_}
-use Prim.Native.Nat.{ℕ, _≤_, _<_, _+_, _*_, _/_}
+use Prim.Native.Nat.{ℕ, _≤_}
 use native.Mathlib.Omega.{arith}
-use lib.Dec.{eqb, leb}
+use lib.Dec.{leb}
 use lib.ListN.{length, set}
 use borrow.Author.Tests.{ne-eqb, leb-true}
 use Rattle.base.specs.Limits.{mostTaken}
@@ -19,8 +19,7 @@ use Rattle.event.specs.declared.setting.Config.{Config}
 use Rattle.event.specs.Emit.{Emit, outputOf, warningsOf, placesOf}
 use Rattle.columns.specs.declared.layout.Columns.{Columns}
 use Rattle.machine.specs.declared.counting.Counts.{Counts}
-use Rattle.machine.specs.Counts.{countsOf, CountedBy, howMany, wasShifted, wasClipped, wasDropped, wasPassed}
-use Rattle.machine.specs.Session.{gate, openBy, openSession, fresh}
+use Rattle.machine.specs.Session.{gate, openBy, fresh}
 use Rattle.machine.specs.Session as model
 use Rattle.machine.proofs.Counted.{counted-by}
 use Rattle.machine.proofs.Numbers.{Opened, opened, opens-fresh}
@@ -32,7 +31,7 @@ use Rattle.session.specs.Answer.{openOf, OpenAnswered}
 use Rattle.promise.specs.Plain.{plainRead}
 use Rattle.promise.specs.Promise.{configOf}
 use Rattle.atonce.specs.declared.running.Ran.{Ran}
-use Rattle.atonce.specs.Text.{outputFor, placesFor, toldNumbers, lengthsFault, refusedWith, emitsFor, textNumber, unlessRefused, toldOf, Retimed}
+use Rattle.atonce.specs.Text.{outputFor, placesFor, lengthsFault, refusedWith, emitsFor, textNumber, unlessRefused, toldOf, Retimed}
 use Rattle.atonce.specs.Ran.{Ready, RanText, tellsOf}
 
 -- ---- seven numbers stored

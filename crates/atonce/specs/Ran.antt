@@ -9,7 +9,6 @@ use Rattle.base.specs.Limits.{mostPiece, mostTaken}
 use Rattle.base.specs.Put.{put}
 use Rattle.event.specs.Emit.{outputOf, warningsOf, placesOf}
 use Rattle.event.specs.declared.setting.Config.{Config}
-use Rattle.machine.specs.declared.counting.Counts.{Counts}
 use Rattle.machine.specs.Counts.{countsOf}
 use Rattle.foreign.specs.declared.holding.Session.{Session}
 use Rattle.foreign.specs.View.{stored}

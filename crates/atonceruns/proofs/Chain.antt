@@ -5,7 +5,6 @@ use mathlib.Core.List.{List}
 use Prim.Native.Nat.{ℕ, _*_}
 use lib.ListN.{length, take}
 use Rattle.base.specs.Refusal.{_orElse_, faultUnless}
-use Rattle.base.specs.Put.{put}
 use Rattle.time.specs.Kind.{kindBad}
 use Rattle.segment.specs.Segment.{flatOf}
 use Rattle.segmap.specs.Map.{mapOf, mapNumber}

@@ -1,7 +1,7 @@
 -- DEMAND 3 of a whole text at once, proved: `text-promise` through every map that open accepts, `text-fed` beside every list of calls.
-use mathlib.Core.Path.{_≡_, refl, sym, ap, ap₂, subst, _∙_}
+use mathlib.Core.Path.{_≡_, refl, sym, ap, ap₂, _∙_}
 use mathlib.Core.Bool.{Bool, true, false, not}
-use mathlib.Core.List.{List, [], _∷_, _++_}
+use mathlib.Core.List.{List, [], _∷_}
 use Prim.Native.Nat.{ℕ, _+_}
 use native.Mathlib.Omega.{arith}
 use lib.ListN.{length, take, getD}
@@ -14,24 +14,22 @@ use Rattle.time.specs.Kind.{kindBad}
 use Rattle.time.specs.Convert.{timescaleBad}
 use Rattle.time.proofs.Limits.{units-low, timescale-low}
 use Rattle.segment.specs.Segment.{segmentsOf, mapBad}
-use Rattle.event.specs.Says.{Part, captionsIn}
+use Rattle.event.specs.Says.{captionsIn}
 use Rattle.event.specs.Emit.{Emit, Warning, outputOf, warningsOf, placesOf}
-use Rattle.columns.specs.declared.layout.Columns.{Columns}
-use Rattle.machine.specs.declared.counting.Counts.{Counts}
 use Rattle.machine.specs.Counts.{total, countsOf, CountedBy, howMany, wasShifted, wasClipped, wasDropped, wasPassed}
 use Rattle.machine.specs.Reader.{Reading}
-use Rattle.machine.specs.Session.{Call, emitted}
-use Rattle.machine.specs.Calls.{Played, Reader, readingOf}
+use Rattle.machine.specs.Session.{emitted}
+use Rattle.machine.specs.Calls.{readingOf}
 use Rattle.machine.proofs.Emits.{total-parts}
 use Rattle.machine.proofs.Counted.{counted-by}
 use Rattle.promise.specs.Plain.{plainRead}
-use Rattle.promise.specs.Demand.{passings, heard, Demand}
+use Rattle.promise.specs.Demand.{passings, heard}
 use Rattle.promise.specs.Promise.{configOf}
 use Rattle.promise.specs.Runs.{warningsIn}
 use Rattle.promise.proofs.AgainLaws.{text-again}
 use Rattle.promise.proofs.PartLaws.{all-right, passed-warnings}
-use Rattle.atonce.specs.Text.{lengthsFault, refusedWith, emitsFor, textNumber, unlessRefused, toldOf, Retimed}
-use Rattle.atonceruns.specs.Claims.{saidOf, putThrough, TextHolds, TextPromise, SameText, TextFed}
+use Rattle.atonce.specs.Text.{refusedWith, emitsFor, textNumber, unlessRefused, toldOf, Retimed}
+use Rattle.atonceruns.specs.Claims.{saidOf, putThrough, TextHolds, TextPromise, TextFed}
 
 warnings-back : (ws : List Warning) → warningsIn (placesOf ws) ≡ ws
 unfolding placesOf

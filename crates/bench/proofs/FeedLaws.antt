@@ -8,7 +8,7 @@ use lib.Dec.{leb}
 use lib.ListN.{length, take, drop, length-take, take-append-drop}
 use lib.Seq.{take-all}
 use borrow.Author.Tests.{le-leb, lt-leb}
-use Rattle.base.specs.Limits.{mostTaken, leastOutput, leastPlaces}
+use Rattle.base.specs.Limits.{mostTaken}
 use Rattle.base.specs.Refusal.{_orElse_, faultUnless}
 use Rattle.base.proofs.RefusalLaws.{else-none, else-here, unless-held, unless-failed, else-found}
 use Rattle.event.specs.declared.setting.Config.{Config}

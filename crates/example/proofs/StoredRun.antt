@@ -2,7 +2,7 @@
 -- a session told (`stored-run`, `text-run`).
 use mathlib.Core.Path.{_≡_, refl, sym, ap, subst, _∙_}
 use mathlib.Core.Logic.{inl}
-use mathlib.Core.Bool.{true, false}
+use mathlib.Core.Bool.{true}
 use mathlib.Core.List.{List, [], _∷_, _++_}
 use Prim.Native.Nat.{ℕ, _≤_}
 use lib.ListN.{length}
@@ -11,13 +11,11 @@ use Rattle.base.specs.Limits.{mostWork}
 use Rattle.base.specs.Refusal.{_orElse_, faultUnless}
 use Rattle.base.proofs.RefusalLaws.{else-none}
 use Rattle.sheet_vectors.specs.Small.{smallSheet}
-use Rattle.time.specs.Kind.{kindBad}
 use Rattle.segment.specs.Segment.{flatOf}
 use Rattle.segmap.specs.Map.{Map}
 use Rattle.table.specs.Example.{theList, theMap}
 use Rattle.table.proofs.TheMap.{map-is}
 use Rattle.machine.specs.Session.{Call, openSession}
-use Rattle.machine.specs.Counts.{countsOf}
 use Rattle.machine.specs.Calls.{newReader, hear}
 use Rattle.machine.proofs.Counted.{counted-by}
 use Rattle.kinds.specs.Kit.{kit}
@@ -32,9 +30,9 @@ use Rattle.keptruns.specs.Kept.{KeptCall, keptCalls, KeptRan, keptOutcome}
 use Rattle.keptruns.proofs.Runs.{kept-promise}
 use Rattle.atonceruns.specs.Claims.{putThrough, TextHolds}
 use Rattle.example.specs.Calls.{Asked, feeding, finishing, askedCall}
-use Rattle.example.specs.Worked.{lentMap, plainMap, four, fourCalls, toldBy, readBy, plainFour}
+use Rattle.example.specs.Worked.{lentMap, four, fourCalls, toldBy, readBy}
 use Rattle.example.specs.Texts.{assFirst, assRest, assTold}
-use Rattle.example.specs.Stored.{keptBy, keeps, openedBytes, storedCalls, toldText, inOne}
+use Rattle.example.specs.Stored.{keeps, openedBytes, storedCalls, toldText, inOne}
 use Rattle.example.proofs.AssRun.{known, read-is, ass-read}
 
 -- ---- every list of calls over bytes has a run

@@ -2,7 +2,7 @@
 use mathlib.Core.Bool.{true}
 use mathlib.Core.List.{List, [], _∷_}
 use Prim.Native.Nat.{ℕ}
-use lib.ListN.{length, take, getD}
+use lib.ListN.{length, getD}
 use Rattle.base.specs.Put.{put}
 use Rattle.machine.specs.Session.{Call}
 use Rattle.kept.specs.Answer.{callNumber, bytesAfter, textOut, placesIn, toldIn}
