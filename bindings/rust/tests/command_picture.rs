@@ -26,7 +26,7 @@ fn inside<'x>(xml: &'x str, name: &str) -> Vec<&'x str> {
                 found.extend((closed == name).then(|| &xml[from..start]));
             }
             None => {
-                assert!(tag.matches('"').count() % 2 == 0, "{tag}");
+                assert!(tag.matches('"').count().is_multiple_of(2), "{tag}");
                 plain(tag);
                 if !tag.ends_with('/') {
                     open.push((tag.split(' ').next().unwrap(), at));
