@@ -87,30 +87,30 @@ fn the_sides_of_a_small_play() {
     let times = [(150, 750), (3600, 6000), (6300, 7500), (6000, 6300)];
     let all: Vec<Drawn> = times.iter().zip(1..).map(|(&(a, b), n)| through(n, a, b, &map, "words")).collect();
     let text = draw(300, 10010, &map, &all);
-    assert!(text.contains("Of 4 captions <tspan class=\"bd\">1 is dropped</tspan>, 2 shifted, 1 clipped, 0 passed unchanged; 0 are warned of."), "{text}");
+    assert!(text.contains("Of 4 captions </tspan><tspan class=\"bd\">1 is dropped</tspan>, 2 shifted, 1 clipped, 0 passed unchanged; 0 are warned of."), "{text}");
     assert!(text.contains("<title>line 2: 0:00:12.00 – 0:00:20.00, dropped: words</title>"));
     assert!(text.contains("<title>line 3: 0:00:21.00 – 0:00:25.00, shifted to 0:00:10.99 – 0:00:14.99 of the cut: words</title>"));
     assert_eq!(dropped(&text), (1, 0));
     assert!(text.contains("What vanished: 1 caption dropped"));
 }
 
-/// The places from 116 to 1576 are the 1000 ticks of the recording; the second stretch stands against the first.
+/// The places from 116 to 1076 are the 1000 ticks of the recording; the second stretch stands against the first.
 #[test]
 fn bars_stand_at_their_times() {
     let map = [stretch(0, 0, 300), stretch(500, 300, 500)];
-    let times = [(100, 220), (600, 720), (350, 470), (250, 400)];
+    let times = [(100, 225), (600, 725), (350, 475), (250, 400)];
     let all: Vec<Drawn> = times.iter().zip(1..).map(|(&(a, b), n)| through(n, a, b, &map, "")).collect();
     let text = draw(100, 1000, &map, &all);
     let bars = |line: u64| {
         let group = text.split(&format!("<title>line {line}:")).nth(1).unwrap().split("</g>").next().unwrap();
-        let place = |path: &str| (path.split(' ').next().unwrap().to_string(), path.contains("h175.2v"));
+        let place = |path: &str| (path.split(' ').next().unwrap().to_string(), path.contains("h120v"));
         group.split("d=\"M").skip(1).map(place).collect::<Vec<_>>()
     };
     let at = |x: &str, whole: bool| (x.to_string(), whole);
-    assert_eq!(bars(1), [at("262", true), at("262", true)]);
-    assert_eq!(bars(2), [at("992", true), at("700", true)]);
-    assert_eq!(bars(3), [at("627", true), at("630", false)]);
-    assert_eq!(bars(4), [at("481", false), at("481", false), at("481", false)]);
+    assert_eq!(bars(1), [at("212", true), at("212", true)]);
+    assert_eq!(bars(2), [at("692", true), at("500", true)]);
+    assert_eq!(bars(3), [at("452", true), at("455", false)]);
+    assert_eq!(bars(4), [at("356", false), at("356", false), at("356", false)]);
 }
 
 #[test]
@@ -207,13 +207,13 @@ fn a_crowd_at_one_moment() {
 }
 
 #[test]
-fn three_hours_and_six_thousand_captions() {
+fn three_hours_and_seven_thousand_captions() {
     let map: Vec<Stretch> = (0..30).map(|k| stretch(360_000 * k + 5000, 300_000 * k, 300_000)).collect();
-    let all: Vec<Drawn> = (0..6000).map(|k| through(k + 1, 1800 * k, 1800 * k + 1500, &map, "霧が深い, and words that are long enough to be cut")).collect();
+    let all: Vec<Drawn> = (0..7200).map(|k| through(k + 1, 1500 * k, 1500 * k + 1250, &map, "霧が深い, and words that are long enough to be cut")).collect();
     let text = draw(1000, 10_800_000, &map, &all);
     let lost = all.iter().filter(|c| c.fate == Fate::Dropped).count();
     let (alone, in_blocks) = dropped(&text);
-    assert!(lost > 900 && alone == lost && in_blocks == 0, "{lost} {alone} {in_blocks}");
-    assert!(text.contains(&format!(">and {} more</text>", lost - 200)));
+    assert!(lost > 1100 && alone == lost && in_blocks == 0, "{lost} {alone} {in_blocks}");
+    assert!(text.contains(&format!(">and {} more</text>", lost - 1000)));
     assert!(text.len() < 4 << 20, "{}", text.len());
 }

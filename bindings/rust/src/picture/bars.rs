@@ -1,5 +1,4 @@
 //! A caption's bar: its fate by colour and by shape, its words, the marks of its warnings, and what it says when pointed at.
-use super::clock::span;
 use super::pen::{rectangle, Pen, N};
 use super::play::{Caption, Look, Play};
 use super::text::{escape, lines};
@@ -100,8 +99,8 @@ pub fn marks(pen: &mut Pen, numbers: &[u64], x: f64, y: f64) {
 
 /// What is said when the bar is pointed at.
 pub fn told(play: &Play, c: &Caption) -> String {
-    let was = span((c.told.start, c.told.end), play.timescale);
-    let is = c.told.new.map_or(String::new(), |new| format!(" to {} of the cut", span((new.start, new.end), play.timescale)));
+    let was = play.span((c.told.start, c.told.end));
+    let is = c.told.new.map_or(String::new(), |new| format!(" to {} of the cut", play.span((new.start, new.end))));
     let warnings: String = c.told.warnings.iter().map(|n| format!(", warning {n}")).collect();
     let turned = if c.told.end < c.told.start { ", ends before it starts" } else { "" };
     format!("line {}: {was}, {}{is}{warnings}{turned}: {}", c.told.line, word(c.told.fate), c.words)

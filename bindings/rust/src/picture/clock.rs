@@ -17,11 +17,14 @@ pub fn clock(nanos: u128, decimals: u32) -> String {
     }
 }
 
-/// A time to the nearest thousandth, as hundredths where that is the same.
+/// A time in thousandths of a second, the nearest one.
+pub fn thousandths(ticks: u64, timescale: u32) -> u128 {
+    (nanos(ticks, timescale) + SECOND / 2000) / (SECOND / 1000)
+}
+
+/// A time to the nearest thousandth.
 pub fn exact(ticks: u64, timescale: u32) -> String {
-    let thousandth = SECOND / 1000;
-    let rounded = (nanos(ticks, timescale) + thousandth / 2) / thousandth * thousandth;
-    clock(rounded, if rounded.is_multiple_of(10 * thousandth) { 2 } else { 3 })
+    clock(thousandths(ticks, timescale) * (SECOND / 1000), 3)
 }
 
 /// A length: to the nearest second, below ten seconds to the thousandth.
@@ -32,7 +35,7 @@ pub fn brief(ticks: u64, timescale: u32) -> String {
     }
 }
 
-/// Start and end of a caption.
+/// Where something begins and ends.
 pub fn span(times: (u64, u64), timescale: u32) -> String {
     format!("{} – {}", exact(times.0, timescale), exact(times.1, timescale))
 }

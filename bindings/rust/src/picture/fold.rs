@@ -1,6 +1,6 @@
 //! The recording folded into rows, as a score into systems. Rows in which nothing happens are left out.
 use super::clock::nanos;
-use super::pen::{LEFT, RIGHT};
+use super::pen::LEFT;
 use super::play::{end_of, Look, Play};
 use super::Fate;
 use std::collections::BTreeMap;
@@ -43,7 +43,7 @@ fn median(play: &Play) -> f64 {
 /// The length of a row: so that the median caption gets its width, and few rows are equally long, many of round length.
 fn row_length(play: &Play) -> u64 {
     let most = (play.captions.len() / LEAST_CAPTIONS).clamp(FEW_ROWS, MOST_ROWS) as u64;
-    let wanted = median(play) * (RIGHT - LEFT) / play.look.caption;
+    let wanted = median(play) * (play.look.right - LEFT) / play.look.caption;
     if wanted < 1.0 {
         return play.end;
     }
@@ -93,12 +93,11 @@ pub fn fold(play: &Play) -> Vec<Part> {
     parts
 }
 
-/// Whether one stretch keeps the whole row and each of its captions, and none of them is warned of.
+/// Whether one stretch keeps the whole row and each of its captions.
 fn quiet(play: &Play, from: u64, to: u64, captions: &[usize]) -> bool {
     let mut meeting = play.cut.segments.iter().filter(|s| s.duration > 0 && s.source < to && from < end_of(s));
     let whole = meeting.next().is_some_and(|s| s.source <= from && to <= end_of(s)) && meeting.next().is_none();
-    let kept = |&k: &usize| play.captions[k].told.fate == Fate::Shifted && play.captions[k].told.warnings.is_empty();
-    whole && captions.iter().all(kept)
+    whole && captions.iter().all(|&k| play.captions[k].told.fate == Fate::Shifted)
 }
 
 /// The rows in which something happens, and their captions.

@@ -1,6 +1,6 @@
 //! The ground of a row: what is kept and what is cut away, both axes, and the joins between recording and cut.
 use super::clock::{clock, exact, marks, nanos, span, step};
-use super::pen::{rectangle, Pen, N, WIDTH};
+use super::pen::{rectangle, Pen, EDGE, N};
 use super::place::{Piece, Scale};
 use super::play::{end_of, Play};
 use super::text::width;
@@ -50,7 +50,7 @@ impl Axis {
             let at = self.x.0 + past * tick;
             lines += &format!("M{} {}V{}", N(at), N(self.line.0), N(self.line.1));
             let half = width(&words, SIZE) / 2.0;
-            if at - half >= free && at + half <= WIDTH {
+            if at - half >= free && at + half <= play.look.right + EDGE {
                 pen.words("t m", at, self.label, &words);
                 free = at + half + 6.0;
             }

@@ -1,7 +1,7 @@
 //! The head of the picture: title, what became of the captions in a sentence, legend; and the file around it all.
 use super::bars::{class, marks, shape, Bar, MARK};
 use super::clock::brief;
-use super::pen::{rectangle, Pen, MARGIN, N, RIGHT, WIDTH};
+use super::pen::{rectangle, Pen, EDGE, MARGIN, N};
 use super::play::Play;
 use super::text::{clean, escape, fit, width};
 use super::Fate;
@@ -48,7 +48,7 @@ const HATCH: &str = "<pattern id=\"cut-away\" width=\"7\" height=\"7\" patternUn
 
 /// The whole file: `pen` is what was drawn, `height` how high it is.
 pub fn file(play: &Play, pen: &Pen, height: f64) -> String {
-    let size = format!("width=\"{0}\" height=\"{1}\" viewBox=\"0 0 {0} {1}\"", N(WIDTH), N(height.ceil()));
+    let size = format!("width=\"{0}\" height=\"{1}\" viewBox=\"0 0 {0} {1}\"", N(play.look.right + EDGE), N(height.ceil()));
     let font = format!("font-family=\"DejaVu Sans, Noto Sans CJK JP, sans-serif\" font-size=\"{}\"", N(play.look.size));
     let bars = format!(".s text,.c text,.d text,.p text{{font-size:{}px}}", play.look.size);
     format!(
@@ -74,16 +74,17 @@ pub fn count(number: usize, one: &str, more: &str) -> String {
 
 /// Draws the head and answers its height.
 pub fn draw(play: &Play, pen: &mut Pen) -> f64 {
-    pen.words("h", MARGIN, 42.0, &fit(&clean(play.cut.title), 25.0, RIGHT - MARGIN));
-    summary(play, pen, 74.0);
-    legend(pen, 94.0);
+    pen.words("h", MARGIN, 42.0, &fit(&clean(play.cut.title), 25.0, play.look.right - MARGIN));
+    let y = summary(play, pen, 74.0);
+    let y = legend(play, pen, y + 20.0);
     let mut numbers: Vec<u64> = play.captions.iter().flat_map(|c| c.told.warnings.iter().copied()).collect();
     numbers.sort_unstable();
     numbers.dedup();
-    warnings(pen, &numbers, 134.0)
+    warnings(play, pen, &numbers, y + 40.0)
 }
 
-fn summary(play: &Play, pen: &mut Pen, y: f64) {
+/// In one line, or where it is too long in two. It answers where the last stands.
+fn summary(play: &Play, pen: &mut Pen, y: f64) -> f64 {
     let c = play.counts(0..play.captions.len());
     let there = play.cut.segments.iter().filter(|s| s.duration > 0);
     let (kept, stretches) = there.fold((0u64, 0), |(end, n), s| (end.max(s.output.saturating_add(s.duration)), n + 1));
@@ -92,12 +93,15 @@ fn summary(play: &Play, pen: &mut Pen, y: f64) {
     let all = count(play.captions.len(), "caption", "captions");
     let dropped = format!("{} dropped", count(c.dropped, "is", "are"));
     let rest = format!("{} shifted, {} clipped, {} passed unchanged; {} warned of.", count(c.shifted, "", ""), count(c.clipped, "", ""), count(c.passed, "", ""), count(c.warned, "is", "are"));
-    pen.add(format_args!("<text class=\"u\" x=\"{}\" y=\"{}\">{lengths} Of {all} <tspan class=\"bd\">{dropped}</tspan>, {rest}</text>\n", N(MARGIN), N(y)));
+    let room = width(&format!("{lengths} Of {all} {dropped}, {rest}"), 16.0);
+    let (next, below) = if room > play.look.right - MARGIN { (format!(" x=\"{}\" dy=\"22\"", N(MARGIN)), 22.0) } else { (String::new(), 0.0) };
+    pen.add(format_args!("<text class=\"u\" x=\"{}\" y=\"{}\">{lengths} <tspan{next}>Of {all} </tspan><tspan class=\"bd\">{dropped}</tspan>, {rest}</text>\n", N(MARGIN), N(y)));
+    y + below
 }
 
-/// What colours, shapes and patterns mean.
-fn legend(pen: &mut Pen, y: f64) {
-    let mut x = MARGIN;
+/// What colours, shapes and patterns mean. It answers where the last row of them stands.
+fn legend(play: &Play, pen: &mut Pen, y: f64) -> f64 {
+    let (mut x, mut y) = (MARGIN, y);
     for (ground, name) in [("k", "kept stretch"), ("a", "cut away")] {
         pen.path(ground, &rectangle((x, x + 44.0), y, 18.0));
         pen.line("e", (x, y), (x, y + 18.0));
@@ -106,6 +110,7 @@ fn legend(pen: &mut Pen, y: f64) {
     }
     let fates = [(Fate::Shifted, "shifted: kept whole"), (Fate::Clipped, "clipped: the dashed part is lost"), (Fate::Dropped, "dropped: nothing is kept"), (Fate::Passed, "passed unchanged")];
     for (fate, name) in fates {
+        (x, y) = next_place(play, x, y, 44.0, name);
         let solid = if fate == Fate::Clipped { (x, x + 28.0) } else { (x, x + 44.0) };
         let bar = Bar { who: 0, whole: (x, x + 44.0), solid: Some(solid), torn: (false, fate == Fate::Clipped) };
         pen.add(format_args!("<g class=\"{}\">", class(fate)));
@@ -113,8 +118,17 @@ fn legend(pen: &mut Pen, y: f64) {
         pen.add(format_args!("</g>\n"));
         x = name_of(pen, x + 44.0, y, name);
     }
+    let name = "warned, with its number";
+    (x, y) = next_place(play, x, y, 16.0, name);
     pen.path("w", &format!("M{} {}h16l-8 -15z", N(x), N(y + 17.0)));
-    name_of(pen, x + 16.0, y, "warned, with its number");
+    name_of(pen, x + 16.0, y, name);
+    y
+}
+
+/// The place of a sign and its name: here, or where there is no room a row below.
+fn next_place(play: &Play, x: f64, y: f64, sign: f64, name: &str) -> (f64, f64) {
+    let end = x + sign + 7.0 + width(name, 12.0);
+    if end > play.look.right { (MARGIN, y + 26.0) } else { (x, y) }
 }
 
 fn name_of(pen: &mut Pen, x: f64, y: f64, name: &str) -> f64 {
@@ -123,7 +137,7 @@ fn name_of(pen: &mut Pen, x: f64, y: f64, name: &str) -> f64 {
 }
 
 /// What the warnings that occur say. It answers where the head ends.
-fn warnings(pen: &mut Pen, numbers: &[u64], y: f64) -> f64 {
+fn warnings(play: &Play, pen: &mut Pen, numbers: &[u64], y: f64) -> f64 {
     let (mut x, mut y) = (MARGIN, y);
     for &number in numbers {
         let said = match number {
@@ -135,7 +149,7 @@ fn warnings(pen: &mut Pen, numbers: &[u64], y: f64) -> f64 {
             _ => "see docs/NUMBERS.md",
         };
         let room = MARK.0 + 7.0 + width(said, 12.0) + 26.0;
-        if x + room > RIGHT {
+        if x + room > play.look.right {
             (x, y) = (MARGIN, y + 22.0);
         }
         marks(pen, &[number], x, y);

@@ -92,6 +92,20 @@ pub enum Fate {
 }
 
 /// The picture of `cut` as a whole SVG file.
+///
+/// ```
+/// use retimer::picture::{svg, Cut, Drawn, Fate, New, Stretch};
+/// // of a minute the first half is kept; a caption ends in it, another one is lost
+/// let segments = [Stretch { source: 0, output: 0, duration: 30_000 }];
+/// let new = Some(New { stretch: 0, start: 28_000, end: 30_000, torn: (false, true) });
+/// let captions = [
+///     Drawn { line: 2, start: 28_000, end: 33_000, fate: Fate::Clipped, new, warnings: vec![], words: "Good evening.".into() },
+///     Drawn { line: 6, start: 40_000, end: 42_500, fate: Fate::Dropped, new: None, warnings: vec![], words: "Who's there?".into() },
+/// ];
+/// let picture = svg(&Cut { title: "The Lamp", timescale: 1_000, recording: Some(60_000), segments: &segments, captions: &captions });
+/// assert!(picture.starts_with("<svg ") && picture.contains("What vanished: 1 caption dropped"));
+/// assert!(picture.contains("<title>line 6: 0:00:40.00 – 0:00:42.50, dropped: Who's there?</title>"));
+/// ```
 pub fn svg(cut: &Cut) -> String {
     let play = Play::new(cut);
     let parts = fold::fold(&play);

@@ -2,7 +2,7 @@
 use super::fold::Row;
 use super::ground::{cut, joins, labels, recording, Frame};
 use super::head::count;
-use super::pen::{rectangle, Pen, LEFT, MARGIN, RIGHT};
+use super::pen::{rectangle, Pen, LEFT, MARGIN};
 use super::place::{pieces, Scale};
 use super::play::{Caption, Play};
 use super::Fate;
@@ -46,9 +46,10 @@ fn strips(play: &Play, pen: &mut Pen, scale: Scale) {
 /// One strip: marked wherever there is such a caption.
 fn strip(play: &Play, pen: &mut Pen, scale: Scale, place: usize, look: (&str, &str, usize, &str), which: impl Fn(&Caption) -> bool) {
     let (y, height) = (TOP + STRIPS[..place].iter().sum::<f64>(), STRIPS[place]);
+    let right = play.look.right;
     let of = |(from, to): (u64, u64)| {
-        let from = scale.x(from).min(RIGHT - 3.0);
-        (from, scale.x(to).clamp(from + 3.0, RIGHT))
+        let from = scale.x(from).min(right - 3.0);
+        (from, scale.x(to).clamp(from + 3.0, right))
     };
     let mut spans: Vec<(f64, f64)> = play.captions.iter().filter(|c| which(c)).filter_map(|c| c.span).map(of).collect();
     spans.sort_by(|a, b| a.0.total_cmp(&b.0));
@@ -62,5 +63,5 @@ fn strip(play: &Play, pen: &mut Pen, scale: Scale, place: usize, look: (&str, &s
     let path: String = joined.iter().map(|&x| rectangle(x, y + 2.0, height - 4.0)).collect();
     pen.path(look.1, &path);
     pen.words(look.0, MARGIN, y + height / 2.0 + 4.5, &count(look.2, look.3, look.3));
-    pen.line("g", (LEFT, y), (RIGHT, y));
+    pen.line("g", (LEFT, y), (right, y));
 }

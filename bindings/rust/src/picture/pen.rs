@@ -2,14 +2,12 @@
 use super::text::escape;
 use std::fmt::{Arguments, Display, Formatter, Result, Write};
 
-/// The width of the page.
-pub const WIDTH: f64 = 1600.0;
 /// Where labels and texts begin.
 pub const MARGIN: f64 = 14.0;
 /// Where times begin; left of it stand labels.
 pub const LEFT: f64 = 116.0;
-/// Where times end.
-pub const RIGHT: f64 = WIDTH - 24.0;
+/// The room between where times end and the edge of the page.
+pub const EDGE: f64 = 24.0;
 
 /// A coordinate with one decimal at most.
 #[derive(Clone, Copy)]

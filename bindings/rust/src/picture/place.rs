@@ -1,6 +1,6 @@
 //! Where ticks stand in a row: those of the recording, and those of the cut, as near under their sources as can be.
 use super::fold::Row;
-use super::pen::{LEFT, RIGHT};
+use super::pen::LEFT;
 use super::play::{end_of, Play};
 
 /// Room between two parts of the cut that do not follow one another.
@@ -16,7 +16,7 @@ pub struct Scale {
 
 impl Scale {
     pub fn of(row: &Row) -> Scale {
-        Scale { from: row.from, tick: (RIGHT - LEFT) / row.length as f64 }
+        Scale { from: row.from, tick: (row.look.right - LEFT) / row.length as f64 }
     }
 
     pub fn x(&self, tick: u64) -> f64 {
@@ -61,7 +61,7 @@ pub fn pieces(play: &Play, row: &Row, scale: Scale) -> Vec<Piece> {
     }
     all.sort_by_key(|p| (p.source.0, p.stretch));
     lay(&mut all, scale);
-    squeeze(&mut all);
+    squeeze(&mut all, row.look.right);
     all
 }
 
@@ -85,10 +85,10 @@ fn lay(all: &mut [Piece], scale: Scale) {
 }
 
 /// Pieces whose sources overlap may need more room than there is: they are all made narrower.
-fn squeeze(all: &mut [Piece]) {
+fn squeeze(all: &mut [Piece], right: f64) {
     let (Some(first), Some(last)) = (all.first().map(|p| p.x.0), all.last().map(|p| p.x.1)) else { return };
-    if last > RIGHT + 0.5 {
-        let part = (RIGHT - first) / (last - first);
+    if last > right + 0.5 {
+        let part = (right - first) / (last - first);
         for p in all {
             p.x = (first + (p.x.0 - first) * part, first + (p.x.1 - first) * part);
         }

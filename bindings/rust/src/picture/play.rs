@@ -1,13 +1,18 @@
 //! What is to be drawn, measured: where each caption lies in the recording, what of it is kept, and how large things are.
+use super::clock::{clock, span, thousandths};
 use super::text::clean;
 use super::{Cut, Drawn, Fate, New, Stretch};
 
-/// So few captions have room for their words.
+/// So few captions have room for their words, on a page that can stand in a text.
 const FEW: usize = 100;
+/// Where times end on the page of many.
+const WIDE: f64 = 1576.0;
 
 /// How large things are drawn: the more captions, the smaller.
 #[derive(Clone, Copy)]
 pub struct Look {
+    /// Where times end.
+    pub right: f64,
     /// The median caption's width.
     pub caption: f64,
     /// A bar's height.
@@ -27,10 +32,10 @@ pub struct Look {
 impl Look {
     fn of(captions: usize) -> Look {
         match captions {
-            n if n <= FEW => Look { caption: 170.0, bar: 36.0, size: 13.0, lines: 2, join: 60.0, lanes: 4, edge: 5.0, after: 18.0 },
-            n if n <= 1000 => Look { caption: 100.0, bar: 18.0, size: 11.0, lines: 1, join: 44.0, lanes: 5, edge: 5.0, after: 18.0 },
-            n if n <= 3000 => Look { caption: 62.0, bar: 16.0, size: 10.5, lines: 1, join: 38.0, lanes: 5, edge: 4.0, after: 16.0 },
-            _ => Look { caption: 42.0, bar: 14.0, size: 10.0, lines: 1, join: 34.0, lanes: 4, edge: 4.0, after: 16.0 },
+            n if n <= FEW => Look { right: 1076.0, caption: 118.0, bar: 36.0, size: 13.0, lines: 2, join: 52.0, lanes: 4, edge: 5.0, after: 18.0 },
+            n if n <= 1000 => Look { right: WIDE, caption: 100.0, bar: 18.0, size: 11.0, lines: 1, join: 44.0, lanes: 5, edge: 5.0, after: 18.0 },
+            n if n <= 3000 => Look { right: WIDE, caption: 62.0, bar: 16.0, size: 10.5, lines: 1, join: 38.0, lanes: 5, edge: 4.0, after: 16.0 },
+            _ => Look { right: WIDE, caption: 42.0, bar: 14.0, size: 10.0, lines: 1, join: 34.0, lanes: 4, edge: 4.0, after: 16.0 },
         }
     }
 
@@ -81,6 +86,8 @@ pub struct Play<'a> {
     /// Where the recording ends: no stretch reaches further, and it is not 0.
     pub end: u64,
     pub look: Look,
+    /// Whether every time of a caption is a whole hundredth of a second.
+    hundredths: bool,
 }
 
 /// Where a stretch ends in the recording.
@@ -96,8 +103,20 @@ impl<'a> Play<'a> {
             None => ends.chain(cut.captions.iter().map(|c| c.start.max(c.end))).max().unwrap_or(0),
         };
         let end = end.max(1);
-        let captions = cut.captions.iter().map(|told| Caption { told, span: span(told), kept: kept(told, cut.segments), words: clean(&told.words) });
-        Play { cut, timescale: cut.timescale.max(1), captions: captions.collect(), end, look: Look::of(cut.captions.len()) }
+        let captions = cut.captions.iter().map(|told| Caption { told, span: place(told), kept: kept(told, cut.segments), words: clean(&told.words) });
+        let timescale = cut.timescale.max(1);
+        let whole = |ticks: u64| thousandths(ticks, timescale).is_multiple_of(10);
+        let hundredths = cut.captions.iter().all(|c| whole(c.start) && whole(c.end) && c.new.is_none_or(|n| whole(n.start) && whole(n.end)));
+        Play { cut, timescale, captions: captions.collect(), end, look: Look::of(cut.captions.len()), hundredths }
+    }
+
+    /// The times of a caption, with as many decimals as all need.
+    pub fn span(&self, times: (u64, u64)) -> String {
+        if !self.hundredths {
+            return span(times, self.timescale);
+        }
+        let [from, to] = [times.0, times.1].map(|t| clock(thousandths(t, self.timescale) * 1_000_000, 2));
+        format!("{from} – {to}")
     }
 
     /// How the captions with these places in the list fared.
@@ -116,7 +135,7 @@ impl<'a> Play<'a> {
     }
 }
 
-fn span(told: &Drawn) -> Option<(u64, u64)> {
+fn place(told: &Drawn) -> Option<(u64, u64)> {
     let nowhere = told.fate == Fate::Passed && told.start == 0 && told.end == 0;
     (!nowhere).then_some((told.start.min(told.end), told.start.max(told.end)))
 }

@@ -4,7 +4,7 @@ use super::clock::{brief, span};
 use super::fold::Row;
 use super::ground::{cut, joins, labels, recording, Frame};
 use super::lanes::Block;
-use super::pen::{rectangle, Pen, LEFT, MARGIN, N, RIGHT};
+use super::pen::{rectangle, Pen, LEFT, MARGIN, N};
 use super::place::{pieces, Scale};
 use super::play::{end_of, Look, Play};
 use super::sides::{is, was, Side};
@@ -138,8 +138,8 @@ pub fn gap(play: &Play, from: u64, to: u64, pen: &mut Pen) -> f64 {
         None if from >= play.end => ("z", "past the end of the recording".to_string()),
         None => ("a", "cut away".to_string()),
     };
-    pen.path(ground, &rectangle((LEFT, RIGHT), 0.0, MARK.1 + 5.0));
+    pen.path(ground, &rectangle((LEFT, play.look.right), 0.0, MARK.1 + 5.0));
     let words = format!("{}, {}: {what}, no captions", span((from, to), play.timescale), brief(to - from, play.timescale));
-    pen.words("o m", (LEFT + RIGHT) / 2.0, 14.0, &words);
+    pen.words("o m", (LEFT + play.look.right) / 2.0, 14.0, &words);
     MARK.1 + 5.0 + play.look.after
 }

@@ -2,7 +2,6 @@
 use super::bars::{Bar, MARK};
 use super::fold::Row;
 use super::lanes::{stack, Stack, Want};
-use super::pen::RIGHT;
 use super::place::{Piece, Scale};
 use super::play::{Caption, Kept, Play};
 use super::Fate;
@@ -46,9 +45,9 @@ pub fn is(play: &Play, row: &Row, pieces: &[Piece], was: &Side) -> Side {
 }
 
 /// A bar at least so wide, moved left where it would stand out of the row.
-fn wide_enough(x: (f64, f64), least: f64) -> (f64, f64) {
+fn wide_enough(x: (f64, f64), least: f64, row: &Row) -> (f64, f64) {
     let width = (x.1 - x.0).max(least);
-    let from = x.0.min(RIGHT - width);
+    let from = x.0.min(row.look.right - width);
     (from, from + width)
 }
 
@@ -56,14 +55,14 @@ fn bar_before(c: &Caption, who: usize, row: &Row, scale: Scale) -> Option<Bar> {
     let (from, to) = c.span?;
     let place = |from: u64, to: u64| (scale.x(from.max(row.from)), scale.x(to.clamp(row.from, row.to)));
     let least = if c.told.fate == Fate::Dropped { 11.0 } else { 3.0 };
-    let whole = wide_enough(place(from, to), least);
+    let whole = wide_enough(place(from, to), least, row);
     let inside = |k: &Kept| k.from < row.to && (k.to > row.from || k.from == k.to && k.from >= row.from);
     match c.told.fate {
         Fate::Dropped | Fate::Passed => Some(Bar { who, whole, solid: None, torn: (false, false) }),
         Fate::Shifted => Some(Bar { who, whole, solid: Some(whole), torn: (false, false) }),
         Fate::Clipped => {
             let kept = c.kept.filter(inside);
-            let solid = kept.map(|k| wide_enough(place(k.from, k.to), least));
+            let solid = kept.map(|k| wide_enough(place(k.from, k.to), least, row));
             Some(Bar { who, whole, solid, torn: kept.map_or((false, false), |k| torn(&k, row)) })
         }
     }
@@ -82,7 +81,7 @@ fn bar_after(c: &Caption, who: usize, row: &Row, pieces: &[Piece]) -> Option<Bar
     if from >= to && !point {
         return None;
     }
-    let solid = wide_enough((piece.x_of(from), piece.x_of(to)), 3.0);
+    let solid = wide_enough((piece.x_of(from), piece.x_of(to)), 3.0, row);
     let torn = torn(&kept, row);
     Some(Bar { who, whole: solid, solid: Some(solid), torn })
 }

@@ -76,7 +76,7 @@ impl Scale<'_> {
     }
 
     /// Where a kept caption is, as it is written: its start rounded down, its end up.
-    fn new(&self, times: (u64, u64), place: usize, cut: (u64, u64)) -> Result<Option<New>, Refused> {
+    fn kept(&self, times: (u64, u64), place: usize, cut: (u64, u64)) -> Result<Option<New>, Refused> {
         let Some(s) = self.map.segments().nth(place) else { return Ok(None) };
         let ticks = |units| units_to_ticks(units, self.map.timescale, self.kind);
         let moved = |tick: u64| tick.saturating_sub(s.source).saturating_add(s.output);
@@ -107,7 +107,7 @@ fn one(scale: &Scale, caption: &Caption<'_>, fate: Option<&Fate>, warnings: Vec<
         Some(Fate::Dropped(_)) => (picture::Fate::Dropped, None),
         Some(kept @ Fate::Kept { place, start_cut, end_cut }) => {
             let fate = if kept.is_shifted() { picture::Fate::Shifted } else { picture::Fate::Clipped };
-            (fate, scale.new(times, *place, (*start_cut, *end_cut))?)
+            (fate, scale.kept(times, *place, (*start_cut, *end_cut))?)
         }
     };
     Ok(Drawn { line: caption.line, start: scale.units(times.0), end: scale.units(times.1), fate, new, warnings, words: caption.words() })
