@@ -49,16 +49,22 @@ pub fn read(args: &Args) -> Result<Cut, Failure> {
     let sheet = input::read(args.one("--sheet").unwrap_or_default(), input::MOST_SHEET)?;
     let list = args.one("--list").map(|name| input::read(name, input::MOST_LIST)).transpose()?;
     let bytes = list.as_ref().map_or(&[][..], |l| &l.bytes);
-    if String::from_utf8_lossy(bytes).trim().is_empty() {
-        let what = list.as_ref().map_or("no list".to_string(), |l| format!("{} is blank", l.name));
-        say(format_args!("{what}: the whole recording is kept"));
-    }
     match Map::new(&sheet.bytes, bytes, direction(args)) {
         Ok(map) => {
+            say_whole(list.as_ref());
             let about = About::of_sheet(&sheet.bytes, "").ok_or_else(|| Failure::refused(Refused(11)))?;
             Ok(Cut { map, about, sheet: Some(sheet) })
         }
         Err(refused) => Err(placed(args, refused, &sheet, list.as_ref())),
+    }
+}
+
+/// A line where nothing is cut away.
+fn say_whole(list: Option<&Input>) {
+    match list {
+        None => say(format_args!("no list: the whole recording is kept")),
+        Some(list) if String::from_utf8_lossy(&list.bytes).trim().is_empty() => say(format_args!("{} is blank: the whole recording is kept", list.name)),
+        Some(_) => {}
     }
 }
 
