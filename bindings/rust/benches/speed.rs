@@ -49,7 +49,7 @@ fn sheet(n: u32, decode: impl Fn(u32) -> u32) -> Vec<u8> {
 /// The sheet's check as one would write it in Rust.
 fn plain_check(s: &[u8]) -> u32 {
     let word = |k: usize| u32::from_le_bytes(s[4 * k..4 * k + 4].try_into().unwrap());
-    if s.is_empty() || s.len() % 512 != 0 {
+    if s.is_empty() || !s.len().is_multiple_of(512) {
         return 11;
     }
     let sound = |b: usize| word(128 * b) == b as u32 && word(128 * b + 127) == (0..127).fold(0u32, |a, k| a.wrapping_add(word(128 * b + k)));
@@ -57,7 +57,7 @@ fn plain_check(s: &[u8]) -> u32 {
         return 12;
     }
     let (t, n) = (word(1), word(2) as usize);
-    if t < 1 || t > 1_000_000 || n < 1 || n > 1_048_576 || (5..127).any(|k| word(k) != 0) {
+    if !(1..=1_000_000).contains(&t) || !(1..=1_048_576).contains(&n) || (5..127).any(|k| word(k) != 0) {
         return 13;
     }
     if s.len() != 512 * (1 + n.div_ceil(63)) {
