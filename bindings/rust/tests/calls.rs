@@ -55,7 +55,7 @@ fn samples_named_once() {
     let above = changed(9, 129 + 2 * 8, 9);
     assert_eq!(check_sheet(&twice), Err(Refused(25)));
     assert_eq!(check_sheet(&above), Err(Refused(14)));
-    for (s, number, n) in [(sheet(8), 0, 8), (sheet(9), 0, 9), (sheet(1000), 0, 1000), (twice, 25, 9), (above, 14, 9)] {
+    for (s, number, n) in [(sheet(8), 0, 8_usize), (sheet(9), 0, 9), (sheet(1000), 0, 1000), (twice, 25, 9), (above, 14, 9)] {
         let need = n.div_ceil(8);
         for lent in [0, need - 1, need, need + 3] {
             let mut work = vec![170u8; lent];
