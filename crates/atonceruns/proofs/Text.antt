@@ -9,7 +9,6 @@ use borrow.Author.Tests.{not-true}
 use Rattle.base.specs.Refusal.{_orElse_, faultUnless}
 use Rattle.base.specs.Put.{put}
 use Rattle.base.proofs.RefusalLaws.{else-none, else-zero, held}
-use Rattle.base.proofs.PutLaws.{take-put}
 use Rattle.time.specs.Kind.{kindBad}
 use Rattle.time.specs.Convert.{timescaleBad}
 use Rattle.time.proofs.Limits.{units-low, timescale-low}
@@ -22,27 +21,19 @@ use Rattle.machine.specs.Session.{emitted}
 use Rattle.machine.specs.Calls.{readingOf}
 use Rattle.machine.proofs.Emits.{total-parts}
 use Rattle.machine.proofs.Counted.{counted-by}
+use Rattle.machine.proofs.Numbers.{Opened}
 use Rattle.promise.specs.Plain.{plainRead}
 use Rattle.promise.specs.Demand.{passings, heard}
 use Rattle.promise.specs.Promise.{configOf}
 use Rattle.promise.specs.Runs.{warningsIn}
 use Rattle.promise.proofs.AgainLaws.{text-again}
 use Rattle.promise.proofs.PartLaws.{all-right, passed-warnings}
+use Rattle.promise.proofs.RunLaws.{front, warnings-back}
 use Rattle.atonce.specs.Text.{refusedWith, emitsFor, textNumber, unlessRefused, toldOf, Retimed}
 use Rattle.atonceruns.specs.Claims.{saidOf, putThrough, TextHolds, TextPromise, TextFed}
 
-warnings-back : (ws : List Warning) → warningsIn (placesOf ws) ≡ ws
-unfolding placesOf
-warnings-back [] = refl
-warnings-back (x ∷ ws) = ap (λ (l : List Warning). x ∷ l) (warnings-back ws)
-
 -- what is not refused has a good timescale, a good map and a known kind
-pub record Good (kind T : ℕ) (m : List ℕ) : Type 0 where
-  pub timescale-good : timescaleBad T ≡ false
-  pub map-good : mapBad m ≡ false
-  pub kind-known : kindBad kind ≡ false
-
-pub good-of : (kind T : ℕ) (m : List ℕ) (n o w t : ℕ) → refusedWith kind T m n o w t ≡ 0 → Good kind T m
+pub good-of : (kind T : ℕ) (m : List ℕ) (n o w t : ℕ) → refusedWith kind T m n o w t ≡ 0 → Opened (configOf kind T) m
 unfolding refusedWith
 good-of kind T m n o w t e =
     let a = else-zero (faultUnless (not (timescaleBad T)) 15) _ e in
@@ -81,9 +72,6 @@ module _ (kind T : ℕ) (m text out out′ places places′ told told′ : List 
     ap (λ (l : List ℕ). getD l 5 0) tells,
     ap (λ (l : List ℕ). getD l 6 0) tells,
   )
-
-  front : (v l got : List ℕ) (n : ℕ) → n ≡ length v → got ≡ put v l → take n got ≡ v
-  front v l got n p q = rw (p, q) (take-put v l)
 
   output-is : take (getD told′ 0 0) out′ ≡ outputOf es
   output-is = front (outputOf es) out out′ (getD told′ 0 0) (told-are .0) (a .written ∙ done outputOf out)

@@ -22,15 +22,11 @@ use Rattle.session.specs.declared.calling.Fed.{Fed}
 use Rattle.session.specs.declared.calling.Opened as opening
 use Rattle.session.specs.Answer.{feedCall, finishCall, openOf, Answered, OpenAnswered}
 use Rattle.promise.specs.Plain.{plainRead}
-use Rattle.promise.specs.Promise.{configOf}
 use Rattle.atonce.specs.Ran.{pieceEnd}
 use Rattle.atonce.proofs.StandLaws.{Led, partsBehind, led-turn, led-fault, led-end, opens-well, led-start, over-plain}
-use Rattle.atonce.proofs.TextLaws.{Ends, end-of, front-is, piece-short, piece-taken}
+use Rattle.atonce.proofs.TextLaws.{ownOf, Ends, end-of, front-is, piece-short, piece-taken}
 use Rattle.atonce.proofs.ToldLaws.{config-of}
 use Rattle.bench.specs.Fed.{fedNumber, Fresh}
-
-abbrev ownOf : Session → Config
-ownOf s = configOf (s .config .kind) (s .config .timescale)
 
 -- the first i bytes have been fed
 pub record At (b : Session) (m text : List ℕ) (i : ℕ) (s : Session) : Type 0 where

@@ -30,7 +30,7 @@ use Rattle.promise.specs.Demand.{Demand}
 use Rattle.promise.specs.Promise.{configOf}
 use Rattle.promise.specs.Runs.{Made, fed, finished, resultOf, callOf, callsOf, warningsIn, writtenBy, warnedBy}
 use Rattle.promise.proofs.DemandText.{demand}
-use Rattle.promise.proofs.RunLaws.{next-view}
+use Rattle.promise.proofs.RunLaws.{front, warnings-back, next-view}
 use Rattle.promise.proofs.ThePromise.{open-number}
 use Rattle.parkruns.specs.Steps.{madeIn, outcomeOf, partsOf, warnsOf, MetBy, RanBy, lastOf, warnedAll, writtenAll, numbersAll}
 use Rattle.parkruns.specs.Claims.{UnderRules, UnderOne}
@@ -97,14 +97,6 @@ module _ (lost : Rule) (c : Config) (m : List ℕ) where
       ∙ sym (warns-append lost c (segmentsOf m) (partsOf v x) (partsAll w xs))
 
 -- ---- the other house
-front : (v l got : List ℕ) (n : ℕ) → n ≡ length v → got ≡ put v l → take n got ≡ v
-front v l got n p q = rw (p, q) (take-put v l)
-
-warnings-back : (ws : List Warning) → warningsIn (placesOf ws) ≡ ws
-unfolding placesOf
-warnings-back [] = refl
-warnings-back (x ∷ ws) = ap (λ (l : List Warning). x ∷ l) (warnings-back ws)
-
 record Read (lost : Rule) (s : Session) (x : Made) : Type 0 where
   number : resultOf x .number ≡ answer kit (view s) (callOf x) .number
   session : resultOf x .session ≡ nextOf s (callOf x)

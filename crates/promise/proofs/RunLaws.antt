@@ -28,6 +28,15 @@ use Rattle.session.specs.Answer.{lent, feedCall, finishCall, answerOf, sessionG
 use Rattle.session.proofs.CallLaws.{gate-passed, answer-by, settled-small}
 use Rattle.promise.specs.Runs.{Made, fed, finished, resultOf, callOf, callsOf, Met, Ran, warningsIn, writtenBy, warnedBy, outcome}
 
+-- ---- what a caller takes: as much as was told is what was written, and two places are a warning
+pub front : (v l got : List ℕ) (n : ℕ) → n ≡ length v → got ≡ put v l → take n got ≡ v
+front v l got n p q = rw (p, q) (take-put v l)
+
+pub warnings-back : (ws : List Warning) → warningsIn (placesOf ws) ≡ ws
+unfolding placesOf
+warnings-back [] = refl
+warnings-back (x ∷ ws) = ap (λ (l : List Warning). x ∷ l) (warnings-back ws)
+
 -- ---- the array of a session that a call returned
 abbrev pub Whole : Session → Type 0
 Whole s = length (s .held) ≡ mostHeld
@@ -90,14 +99,6 @@ module _ (s : Session) (w : Whole s) where
       ap view (next-is x) ∙ gate-view x (sessionGate s x) refl ∙ ap (λ (a : model.Answer Columns). a .session) (sym (answer-by s x) ∙ model-answer x)
 
   -- ---- a call that met its contract
-  front : (v l got : List ℕ) (n : ℕ) → n ≡ length v → got ≡ put v l → take n got ≡ v
-  front v l got n p q = rw (p, q) (take-put v l)
-
-  warnings-back : (ws : List Warning) → warningsIn (placesOf ws) ≡ ws
-  unfolding placesOf
-  warnings-back [] = refl
-  warnings-back (x ∷ ws) = ap (λ (l : List Warning). x ∷ l) (warnings-back ws)
-
   abbrev returned : Fed → (out′ places′ : List ℕ) → Returned Session
   returned r out′ places′ =
       record { number = r .number; session = r .session; output = take (r .written) out′; warnings = warningsIn (take (r .warned) places′) }
