@@ -168,7 +168,7 @@ uint32_t retimer_why(const uint64_t *map, size_t map_length, uint32_t timescale,
 /* How many starts survive a cut: captions of so many units at the starts 0 to count - 1, in units of the kind. How many are shifted, clipped and dropped goes
  * to the three places, and they sum to count. length and count are at most 36000000.
  * 0; 15 for the timescale or the map; 28 for a map whose segments of positive duration do not ascend without overlap in source and output; 16 for kind, length
- * or count. With a number that is not 0, the three places hold zeros. */
+ * or count. With a number that is not 0 nothing is written. The lent places must not overlap one another or the map. */
 uint32_t retimer_census(const uint64_t *map, size_t map_length, uint32_t timescale, uint32_t kind, uint64_t length, uint64_t count, uint64_t *shifted,
                         uint64_t *clipped, uint64_t *dropped);
 
@@ -176,7 +176,8 @@ uint32_t retimer_census(const uint64_t *map, size_t map_length, uint32_t timesca
  * and end in turn, in units of the kind, at most 4096 of them, each time at most 2^36; captions_length counts times. A caption is lost where a time falls below zero, or where it is clipped or dropped.
  * delay: the delay, which may be negative; loss: captions lost under it; tried: the delays tried, 12001 or the budget where that is smaller; off: how far off the loss can be: no delay
  * at all loses fewer than loss - off.
- * 0; 15 for the timescale or the map; 29 for budget 0 or more than 4096 captions; 16 for kind, an odd captions_length or a time. With a number that is not 0, the four places hold zeros. */
+ * 0; 15 for the timescale or the map; 29 for budget 0 or more than 4096 captions; 16 for kind, an odd captions_length or a time. With a number that is not 0 nothing is written.
+ * The lent places must not overlap one another, the map or the captions. */
 uint32_t retimer_best_delay(const uint64_t *map, size_t map_length, uint32_t timescale, uint32_t kind, const uint64_t *captions, size_t captions_length,
                             uint32_t budget, int64_t *delay, uint32_t *loss, uint32_t *tried, uint32_t *off);
 

@@ -1,6 +1,7 @@
 """Request 2.1 in Python, written from document 02: the JSON of a segment map, written and read. Two readers: one reads any RFC 8259 text to a tree and then holds the tree against
 the request; the other takes the tree from Python's own json. A map is a list of six-tuples, bytes are bytes."""
 import json
+import re
 import struct
 
 MOST_T, MOST_TICKS, MOST_SEGMENTS, MOST_PATH = 10 ** 9, 2 ** 53, 1024, 1024
@@ -297,7 +298,22 @@ def chosen():
     here = [(t, 23, True) for t in (one(more=deep(9)), one(more=objects(9)), in_row(deep(9)), in_row(objects(9)), one(more=',"x":"\\ud800"'), one(more=',"x":["\\udc00"]'), b'[1,2,3,"a",4,[]]', one(rows='[[1,2,3,4,5,6]]'), one(path='"' + 'a' * 1025 + '"'), one(path='"' + '\\u00e9' * 512 + 'a"'))]
     limits = [(t, 15, True) for t in (one(ts='0'), one(ts='1000000001'), one(ts='4294967295'), one(rows=rows(1025)), row('"duration":6', '"duration":9007199254740988'), row('"duration":6', '"duration":18446744073709551615'), row('"output_start":5', '"output_start":9007199254740987'))]
     behind = same(23, one(rows=rows(1025)) + b'x', one(rows=rows(1025, ',1')), one(rows=rows(1025, ',{}')), one(ts='0', num='01'))
-    return takes + fields + whole + values + strings + here + limits + behind
+    return takes + fields + whole + values + strings + here + limits + behind + edges()
+
+
+def edges():
+    """Each field at the end of its width and of the map's limits; surrogates first and last, and what stands beside them; bytes that are no white space."""
+    asked = lambda name, v: re.sub(b'"%s":[0-9]+' % name.encode(), b'"%s":%d' % (name.encode(), v), one(rows=rows(1)))
+    said = lambda number, t: (t, number, number != 23)
+    short = ('video_timescale', 'frame_rate_num', 'frame_rate_den', 'total_frames', 'source_start_frame', 'source_end_frame', 'frame_count')
+    found = [said(23, asked(n, SHORT + 1)) for n in short] + [said(15 if n == 'video_timescale' else 0, asked(n, SHORT)) for n in short]
+    for n in ('source_start_dts', 'output_start', 'duration'):
+        found += [said(23, asked(n, 2 ** 64)), said(15, asked(n, 2 ** 64 - 1)), said(15, asked(n, 2 ** 53)), said(0, asked(n, 2 ** 32))]
+    for n in ('source_start_dts', 'output_start'):
+        found += [said(0, asked(n, 2 ** 53 - 6)), said(15, asked(n, 2 ** 53 - 5))]
+    found += [said(n, one(path='"%s"' % t)) for t, n in (('\\udbff', 23), ('\\udfff', 23), ('\\ud800\\ue000', 23), ('\\ud800\\udbff', 23), ('\\ud7ff', 0), ('\\ue000', 0), ('\\udbff\\udfff', 0), ('\\ud800\\udc00', 0),
+                                                         ('\\udbff\\udc00', 0))]
+    return found + [said(23, t) for t in (one(before='\x0b'), one(after='\0'), one(after='\x0b'), one().replace(b',"s', b',\x0b"s'))]
 
 
 CHOSEN = chosen()
@@ -310,6 +326,7 @@ WRITTEN = [
     (1, 1, 1, 1, b'a' * 1024, []),
     (1, 1, 1, 1, b'a' * 1025, []),
     (1, 1, 1, 1, b'\xff' * 1025, []),
+    (0, 1, 1, 1, b'a' * 1025, []),
     (1, 1, 1, 1, b'\xed\xa0\x80', []),
     (1, 1, 1, 1, b'\xff', [(0, 0, 2 ** 53, 0, 0, 1)]),
     (0, 1, 1, 1, b'\xff', []),

@@ -11,6 +11,7 @@ import sys
 sys.path.insert(0, os.path.dirname(os.path.abspath(__file__)))
 import lib
 import vtt_model
+import worked_model
 from vtt_model import BOM, SPACE, bare, lines_of
 
 UNITS = (100, 1000, 1000)
@@ -326,6 +327,33 @@ BLOCKS = [(LIVE, 0), (DEAD, 0), (LIVE[:-1], 27), (LIVE + b'\0', 27), (b'', 27)] 
     (with_word(with_word(LIVE, 2, 7), 17, 1), 27), (LIVE[:508] + b'\0' + LIVE[509:], 27), (parked(Session(2, 1, 0, 0, 9, 1, held_length=2, held=b' \n')), 0), (parked(Session(1, 1, 0, 0, 9, 1, held_length=2, held=b' \n')), 17)]
 
 
+# every word of its own value; held bytes over many blocks; each rule of 27 by the least change of a session that is taken up
+ALL = Session(0, 30000, 0, 0, 5000, 40, 11, 12, 13, 14, 1, 9, 2, 3)
+OVER = Session(1, 30000, 1, 20, 5000, 0, 11, 12, 13, 14)
+LONG = bytes(33 + i % 90 for i in range(4096))
+BODY = b''.join(bytes(97 + (i + j) % 26 for j in range(127)) + b'\n' for i in range(32))
+
+
+def holding(held, **more):
+    return parked(dataclasses.replace(Session(1, 30000, 0, 0, 9000, 40), held_length=len(held), held=held, **more))
+
+
+def with_byte(b, at, v, summed=True):
+    """A byte changed, and the sum of its block with it, but no block's number."""
+    b, block = bytearray(b), at // 512 * 512
+    b[at] = v
+    if summed:
+        struct.pack_into('<I', b, block + 508, sum(struct.unpack_from('<127I', b, block)) % 2**32)
+    return bytes(b)
+
+
+EDGES = [(parked(ALL), 0), (parked(ALL, 1), 0), (with_word(parked(ALL), 1, 3), 27), (with_word(parked(ALL), 1, 2**32 - 1), 27), (parked(OVER), 0)]
+EDGES += [(holding(LONG, kind=0), 0), (holding(LONG + b'x', kind=0), 17), (holding(BODY + LONG), 0), (holding(BODY + LONG + b'x'), 17), (holding(BODY, lines=31), 17), (holding(b'\xff\n'), 17), (holding(b'\xff'), 0)]
+EDGES += [(with_word(parked(OVER), i, v), 27) for i, v in ((4, 2), (5, 23), (7, 1), (12, 1), (13, 1), (14, 1), (15, 1), (16, 1), (17, 1), (129, 1))] + [(with_word(parked(ALL), 12, 2), 27), (with_word(parked(ALL), 5, 20), 17)]
+EDGES += [(with_byte(holding(b'ab'), 518, 1), 27), (with_byte(parked(ALL), 9211, 1), 27), (with_byte(parked(ALL), 508, parked(ALL)[508] ^ 1, False), 27), (with_byte(parked(ALL), 9212, parked(ALL)[9212] ^ 1, False), 27)]
+EDGES += [(with_byte(parked(ALL), 512, 2), 27), (with_byte(parked(ALL), 8704, 18), 27), (with_byte(parked(ALL), 1, 1), 27)]
+
+
 def with_parkings(case, every, mark):
     """A case of op 5 as op 13."""
     head, x, _, text = vtt_model.parts(case)
@@ -340,7 +368,7 @@ def stored(sample):
     left = [TEXTS[k] for k in (1, 2, 5, 8, 10, 12)]
     return ([(with_parkings(c, 1 + k % 4, 1 + k // 4 % 2), w) for k, (c, w) in enumerate(texts[::6])]
             + [(lib.case(15, T01, kind, 2 + finished, 0, flat, b'', text), output(parked(by_hand(kind, text, finished, want)))) for kind, text, finished, want in left]
-            + [(lib.case(14, x=b), told(b)) for b, _ in BLOCKS[1:3] + BLOCKS[5:45:4] + BLOCKS[-7:-3]])
+            + [(lib.case(14, x=b), told(b)) for b, _ in BLOCKS[1:3] + BLOCKS[5:45:4] + BLOCKS[-7:-3] + EDGES])
 
 
 def store():
@@ -352,8 +380,8 @@ def store():
         size = 32 + sum(struct.unpack_from('<3I', stream, at + 20))
         kept.append(stream[at:at + size])
         at += size
-    sample = [(c, w) for c, w in zip(kept, lib.each_answer(['stdout'], want, len(kept))) if c[0] not in (13, 14, 15)]
-    sample += stored(sample)
+    sample = [(c, w) for c, w in worked_model.without(zip(kept, lib.each_answer(['stdout'], want, len(kept)))) if c[0] not in (13, 14, 15)]
+    sample += stored(sample) + worked_model.PINS
     for path, content in zip(paths, (b''.join(c for c, _ in sample), b''.join(b'case %d\n' % k + w for k, (_, w) in enumerate(sample)))):
         with open(path, 'wb') as f:
             f.write(content)
@@ -364,11 +392,11 @@ def main():
         got, hand = after(kind, T01, MAP01, text, 0, finished), by_hand(kind, text, finished, want)
         assert got == hand, (text, got, hand)
         assert take_up(parked(got, 1)) == take_up(parked(got)) == (0, got) and parked(got)[4] == 2, text
-    for k, (b, n) in enumerate(BLOCKS):
+    for k, (b, n) in enumerate(BLOCKS + EDGES):
         assert take_up(b)[0] == n, (k, n, take_up(b)[0])
     b = parked(Session(0, 1, 0, 0, 600, 0, held_length=505, held=b'A' * 505))
     assert b[516] == b[512 + 507] == b[1024 + 4] == 65 and b[1024 + 5] == 0
-    print('%d texts and %d rows of blocks as by hand' % (len(TEXTS), len(BLOCKS)))
+    print('%d texts and %d rows of blocks as by hand' % (len(TEXTS), len(BLOCKS + EDGES)))
     if sys.argv[1:] == ['--store']:
         store()
 

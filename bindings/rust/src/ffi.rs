@@ -102,19 +102,19 @@ pub fn why(map: &[u64], timescale: u32, kind: u32, start: u64, stop: u64, causes
     (number, [fate, place, start_cut, end_cut])
 }
 
-/// How many starts survive a cut: the number, and the counts, zeros where it is refused.
-pub fn census(map: &[u64], timescale: u32, kind: u32, length: u64, count: u64) -> (u32, Starts) {
-    let mut s = Starts::default();
-    let number = unsafe { retimer_census(map.as_ptr(), map.len(), timescale, kind, length, count, &mut s.shifted, &mut s.clipped, &mut s.dropped) };
-    (number, s)
+/// How many starts survive a cut: the number. The counts go to `told`, which stays as it was where it is refused.
+pub fn census(map: &[u64], timescale: u32, kind: u32, length: u64, count: u64, told: &mut Starts) -> u32 {
+    unsafe { retimer_census(map.as_ptr(), map.len(), timescale, kind, length, count, &mut told.shifted, &mut told.clipped, &mut told.dropped) }
 }
 
-/// The delay that loses least, for any row of times, start and end in turn (an odd number of them is 16): the number, and the answer, zeros where it is
-/// refused.
-pub fn flat_delay(map: &[u64], timescale: u32, kind: u32, captions: &[u64], budget: u32) -> (u32, BestDelay) {
-    let mut b = BestDelay::default();
-    let number = unsafe { retimer_best_delay(map.as_ptr(), map.len(), timescale, kind, captions.as_ptr(), captions.len(), budget, &mut b.delay, &mut b.loss, &mut b.tried, &mut b.off) };
-    (number, b)
+/// The delay that loses least, for any row of times, start and end in turn (an odd number of them is 16): the number. The answer goes to `told`, which
+/// stays as it was where it is refused.
+pub fn flat_delay(map: &[u64], timescale: u32, kind: u32, captions: &[u64], budget: u32, told: &mut BestDelay) -> u32 {
+    unsafe {
+        retimer_best_delay(
+            map.as_ptr(), map.len(), timescale, kind, captions.as_ptr(), captions.len(), budget, &mut told.delay, &mut told.loss, &mut told.tried, &mut told.off,
+        )
+    }
 }
 
 /// The JSON text of a map: any bytes as the path (20 where they are not UTF-8), and the text's bytes lent (16 where it does not fit). The

@@ -116,9 +116,9 @@ pub struct Starts {
 /// assert_eq!(census(&map, Kind::Ass, 4, 40), Ok(Starts { shifted: 16, clipped: 12, dropped: 12 }));
 /// ```
 pub fn census(map: &Map, kind: Kind, length: u64, count: u64) -> Result<Starts, Refused> {
-    let (number, starts) = ffi::census(&map.numbers, map.timescale, kind.number(), length, count);
-    Refused::unless_done(number)?;
-    Ok(starts)
+    let mut told = Starts::default();
+    Refused::unless_done(ffi::census(&map.numbers, map.timescale, kind.number(), length, count, &mut told))?;
+    Ok(told)
 }
 
 /// What a search for the best delay found.
@@ -145,7 +145,7 @@ pub struct BestDelay {
 /// # Ok::<(), retimer::Refused>(())
 /// ```
 pub fn best_delay(map: &Map, kind: Kind, captions: &[[u64; 2]], budget: u32) -> Result<BestDelay, Refused> {
-    let (number, best) = ffi::flat_delay(&map.numbers, map.timescale, kind.number(), captions.as_flattened(), budget);
-    Refused::unless_done(number)?;
-    Ok(best)
+    let mut told = BestDelay::default();
+    Refused::unless_done(ffi::flat_delay(&map.numbers, map.timescale, kind.number(), captions.as_flattened(), budget, &mut told))?;
+    Ok(told)
 }

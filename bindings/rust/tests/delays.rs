@@ -36,9 +36,10 @@ fn refusals() {
     assert_eq!(best_delay(&play, 30000, Kind::Ass, &vec![[5, 6]; 4097], 1), Err(Refused(29)));
     assert_eq!(best_delay(&play, 30000, Kind::Ass, &vec![[5, 6]; 4096], 1), Ok(found(0, 0, 1, 0)));
     assert_eq!(best_delay(&play, 30000, Kind::Ass, &[[5, (1 << 36) + 1]], 1), Err(Refused(16)));
-    // refused, the places that are lent hold zeros
-    for (number, got) in [(15, raw::flat_delay(&play, 0, 3, &[5], 0)), (29, raw::flat_delay(&play, 30000, 3, &[5], 0)), (16, raw::flat_delay(&play, 30000, 0, &[5], 1)), (16, raw::flat_delay(&play, 30000, 3, &[], 1))] {
-        assert_eq!(got, (number, found(0, 0, 0, 0)));
+    // refused, the places that are lent stay as they were
+    for (number, timescale, kind, captions, budget) in [(15, 0, 3, &[5][..], 0), (29, 30000, 3, &[5], 0), (16, 30000, 0, &[5], 1), (16, 30000, 3, &[], 1)] {
+        let mut told = found(-7, 7, 8, 9);
+        assert_eq!((raw::flat_delay(&play, timescale, kind, captions, budget, &mut told), told), (number, found(-7, 7, 8, 9)));
     }
 }
 

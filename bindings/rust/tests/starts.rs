@@ -48,9 +48,10 @@ fn refusals() {
     assert_eq!(census(&play, 30000, Kind::Ass, 36_000_001, 0), Err(Refused(16)));
     assert_eq!(census(&play, 30000, Kind::Ass, 0, 36_000_001), Err(Refused(16)));
     assert_eq!(census(&play, 30000, Kind::Ass, 36_000_000, 5), Ok(starts(0, 5, 0)));
-    // refused, the places that are lent hold zeros
-    for (number, got) in [(15, raw::census(&play, 0, 3, 4, 40)), (28, raw::census(&turned, 1000, 3, 4, 40)), (16, raw::census(&play, 30000, 3, 4, 40))] {
-        assert_eq!(got, (number, starts(0, 0, 0)));
+    // refused, the places that are lent stay as they were
+    for (number, numbers, timescale) in [(15, &play, 0), (28, &turned, 1000), (16, &play, 30000)] {
+        let mut told = starts(7, 8, 9);
+        assert_eq!((raw::census(numbers, timescale, 3, 4, 40, &mut told), told), (number, starts(7, 8, 9)));
     }
 }
 

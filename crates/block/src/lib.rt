@@ -1,4 +1,4 @@
-// Blocks of lines (SRT): what becomes of one closed block.
+// Blocks of lines (SRT, WebVTT): what becomes of one closed block.
 mod srt;
 
 pub use srt::block;

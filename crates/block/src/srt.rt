@@ -1,4 +1,4 @@
-// One closed SRT block: its lines as one slice, retimed into the rest of the output.
+// One closed block of SRT or WebVTT: its lines as one slice, retimed into the rest of the output.
 use event::Config;
 use event::Counted;
 use event::Decision;

@@ -5,3 +5,4 @@ pub mod Turns
 pub mod Answers
 pub mod TheCensus
 pub mod Rows
+pub mod Limits

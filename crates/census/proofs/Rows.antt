@@ -2,17 +2,19 @@
 use mathlib.Core.Path.{_≡_, refl}
 use mathlib.Core.List.{List, [], _∷_}
 use Prim.Native.Nat.{ℕ}
-use Rattle.time.specs.Kind.{unitsOf}
-use Rattle.time.specs.Convert.{scaledUp, ticksOf, startUnits, endUnits}
+use Rattle.base.specs.Refusal.{_orElse_, faultUnless}
+use Rattle.time.specs.Kind.{unitsOf, kindBad}
+use Rattle.time.specs.Convert.{scaledUp, ticksOf, startUnits, endUnits, timescaleBad}
 use Rattle.segment.specs.declared.segment.Segment.{Segment}
-use Rattle.segment.specs.Segment.{segment}
+use Rattle.segment.specs.Segment.{segment, segmentsOf, endBad, segmentBad, anyBad, mapBad}
+use Rattle.ascending.specs.Ascending.{stepsBack, after, ascendsFrom, ascends}
 use Rattle.event.specs.declared.setting.Config.{Config}
 use Rattle.event.specs.Hit.{meetsParts, findFrom}
 use Rattle.event.specs.Lost.{lostLater}
 use Rattle.event.specs.Decide.{decideTicks, decideOf}
 use Rattle.event.specs.Fates.{fateOf}
 use Rattle.census.specs.declared.counting.StartCounts.{StartCounts}
-use Rattle.census.specs.Census.{startsWith, countedCensus}
+use Rattle.census.specs.Census.{startsWith, censusNumber, countedCensus}
 
 -- a segment by source start, output start and duration
 abbrev at : (source output duration : ℕ) → Segment
@@ -53,3 +55,16 @@ empty-segment = refl
 across : Fares milliseconds (at 0 0 4 ∷ at 5 4 0 ∷ at 6 4 3 ∷ []) 6 10 0 9 1
 unfolding startsWith fateOf decideOf decideTicks unitsOf ticksOf startUnits endUnits scaledUp meetsParts findFrom lostLater
 across = refl
+
+-- ---- no start at all: the tests come before the count, and in their order; the kind and both limits from both sides
+-- numbers of a map: one segment that ends at 3003, and two that turn back
+abbrev one : List ℕ
+one = 0 ∷ 3 ∷ 0 ∷ 3 ∷ 0 ∷ 3003 ∷ []
+
+abbrev turned : List ℕ
+turned = 0 ∷ 1 ∷ 20 ∷ 1 ∷ 0 ∷ 5 ∷ 1 ∷ 2 ∷ 0 ∷ 1 ∷ 5 ∷ 5 ∷ []
+
+no-start : (censusNumber one 0 3 36000001 0 ≡ 15) × (censusNumber (9 ∷ turned) 1000 3 36000001 0 ≡ 15) × (censusNumber turned 1000 3 36000001 0 ≡ 28) × (censusNumber one 1000 3 0 0 ≡ 16)
+    × (censusNumber one 1000 2 36000001 0 ≡ 16) × (censusNumber one 1000 2 36000000 0 ≡ 0) × (censusNumber one 1000 2 0 36000001 ≡ 16) × (censusNumber one 1000 2 0 36000000 ≡ 0)
+unfolding censusNumber _orElse_ faultUnless timescaleBad endBad segmentBad anyBad mapBad segmentsOf stepsBack after ascendsFrom ascends kindBad
+no-start = (refl, refl, refl, refl, refl, refl, refl, refl)

@@ -4,3 +4,5 @@ pub mod Call
 pub mod Mapped
 pub mod Reason
 pub mod MapTexts
+pub mod Counts
+pub mod Shift

@@ -1,8 +1,11 @@
 // The delay that loses least (request 2.14), for callers from C.
 ghost use mathlib.Core.Path.{_≡_};
+ghost use mathlib.Core.Bool.{cond};
+ghost use lib.Dec.{eqb};
+ghost use Rattle.base.specs.Refusal.{leftIn};
 ghost use Rattle.delay.specs.Answer.{delayAnswer};
 
-// The number of a search for the best delay: 0, 15, 16 or 29; the delay, its loss, the tries and how far off it can be go to the lent places, zeros where it is refused.
+// The number of a search for the best delay: 0, 15, 16 or 29; the delay, its loss, the tries and how far off it can be go to the lent places, which stay as they were where it is refused.
 #[no_mangle]
 pub extern "C" fn retimer_best_delay(
     map: &[u64],
@@ -16,16 +19,20 @@ pub extern "C" fn retimer_best_delay(
     off: &mut u32,
 ) -> u32
     ensures { λ r. ⌜ r ≡ delayAnswer (now (map .entry)) timescale kind (now (captions .entry)) budget .number ⌝ }
-    ensures { λ _. ⌜ now (delay .exit) ≡ delayAnswer (now (map .entry)) timescale kind (now (captions .entry)) budget .delay ⌝ }
-    ensures { λ _. ⌜ now (loss .exit) ≡ delayAnswer (now (map .entry)) timescale kind (now (captions .entry)) budget .loss ⌝ }
-    ensures { λ _. ⌜ now (tried .exit) ≡ delayAnswer (now (map .entry)) timescale kind (now (captions .entry)) budget .tried ⌝ }
-    ensures { λ _. ⌜ now (off .exit) ≡ delayAnswer (now (map .entry)) timescale kind (now (captions .entry)) budget .off ⌝ }
+    ensures { λ r. ⌜ now (delay .exit) ≡ cond (eqb r 0) (delayAnswer (now (map .entry)) timescale kind (now (captions .entry)) budget .delay) (now (delay .entry)) ⌝ }
+    ensures { λ r. ⌜ now (loss .exit) ≡ leftIn r (delayAnswer (now (map .entry)) timescale kind (now (captions .entry)) budget .loss) (now (loss .entry)) ⌝ }
+    ensures { λ r. ⌜ now (tried .exit) ≡ leftIn r (delayAnswer (now (map .entry)) timescale kind (now (captions .entry)) budget .tried) (now (tried .entry)) ⌝ }
+    ensures { λ r. ⌜ now (off .exit) ≡ leftIn r (delayAnswer (now (map .entry)) timescale kind (now (captions .entry)) budget .off) (now (off .entry)) ⌝ }
 {
     let d = delay::best_delay(map, timescale, kind, captions, budget);
+    let number = d.number;
+    if number != 0 {
+        return number;
+    }
     let units = d.delay;
     *delay = units;
     *loss = d.loss;
     *tried = d.tried;
     *off = d.off;
-    d.number
+    0
 }

@@ -26,7 +26,7 @@ ghost use Rattle.trim.specs.TrimList.{listNumber};
 ghost use Rattle.time.specs.Kind.{unitsOf};
 ghost use Rattle.time.specs.Convert.{ticksOf, startUnits, endUnits, unitsNumber, ticksNumber, convertedTo};
 
-// The frame sheet's number: 0, 11 to 14, 16 or 25. The work bytes are n / 8, rounded up, or more; 131,072 are always enough. Those needed end zero.
+// The frame sheet's number: 0, 11 to 14, 16, 25 or 26. The work bytes are n / 8, rounded up, or more; 131,072 are always enough. Those needed end zero.
 #[no_mangle]
 pub extern "C" fn retimer_sheet_check(sheet: &[u8], work: &mut [u8]) -> u32
     ensures { λ r. ⌜ r ≡ numberOf (sheetOf (now (sheet .entry)) (length (now (work .entry)))) ⌝ }

@@ -1,8 +1,9 @@
 // How many starts survive a cut (request 2.13), for callers from C.
 ghost use mathlib.Core.Path.{_≡_};
+ghost use Rattle.base.specs.Refusal.{leftIn};
 ghost use Rattle.census.specs.Census.{censusOf};
 
-// The number of a count of starts: 0, 15, 16 or 28; the three counts go to the lent places, zeros where it is refused.
+// The number of a count of starts: 0, 15, 16 or 28; the three counts go to the lent places, which stay as they were where it is refused.
 #[no_mangle]
 pub extern "C" fn retimer_census(
     map: &[u64],
@@ -15,13 +16,14 @@ pub extern "C" fn retimer_census(
     dropped: &mut u64,
 ) -> u32
     ensures { λ r. ⌜ r ≡ censusOf (now (map .entry)) timescale kind length count .number ⌝ }
-    ensures { λ _. ⌜ now (shifted .exit) ≡ censusOf (now (map .entry)) timescale kind length count .shifted ⌝ }
-    ensures { λ _. ⌜ now (clipped .exit) ≡ censusOf (now (map .entry)) timescale kind length count .clipped ⌝ }
-    ensures { λ _. ⌜ now (dropped .exit) ≡ censusOf (now (map .entry)) timescale kind length count .dropped ⌝ }
+    ensures { λ r. ⌜ now (shifted .exit) ≡ leftIn r (censusOf (now (map .entry)) timescale kind length count .shifted) (now (shifted .entry)) ⌝ }
+    ensures { λ r. ⌜ now (clipped .exit) ≡ leftIn r (censusOf (now (map .entry)) timescale kind length count .clipped) (now (clipped .entry)) ⌝ }
+    ensures { λ r. ⌜ now (dropped .exit) ≡ leftIn r (censusOf (now (map .entry)) timescale kind length count .dropped) (now (dropped .entry)) ⌝ }
 {
     let c = census::census(map, timescale, kind, length, count);
-    *shifted = c.shifted;
-    *clipped = c.clipped;
-    *dropped = c.dropped;
-    c.number
+    let number = c.number;
+    *shifted = base::left_in(number, c.shifted, *shifted);
+    *clipped = base::left_in(number, c.clipped, *clipped);
+    *dropped = base::left_in(number, c.dropped, *dropped);
+    number
 }

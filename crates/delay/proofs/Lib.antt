@@ -12,3 +12,5 @@ pub mod SavingLaws
 pub mod AnswerLaws
 pub mod TheDelay
 pub mod Rows
+pub mod Order
+pub mod Limits

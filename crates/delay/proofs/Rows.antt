@@ -71,3 +71,18 @@ no-segment = refl
 empty-segment : floorOf (configWith 0 30000) (at 0 0 0 ∷ []) (0 ∷ 3 ∷ []) ≡ 1
 unfolding floorOf tooLong exceedsAll unitsOf ticksOf
 empty-segment = refl
+
+-- in hundredths of a second, 30,000 ticks a second: 13 hundredths are 3,900 ticks and not longer than 4,004; 14 are 4,200
+hundredths : floorOf (configWith 0 30000) worked (0 ∷ 13 ∷ 0 ∷ 14 ∷ []) ≡ 1
+unfolding floorOf tooLong exceedsAll unitsOf ticksOf
+hundredths = refl
+
+-- 3 hundredths at one tick a second are no tick, which is not above a segment's 0
+no-tick : floorOf (configWith 0 1) (at 0 0 0 ∷ []) (0 ∷ 3 ∷ []) ≡ 0
+unfolding floorOf tooLong exceedsAll unitsOf ticksOf
+no-tick = refl
+
+-- one unit is a length
+one-unit : floorOf (configWith 0 1) [] (3 ∷ 4 ∷ []) ≡ 1
+unfolding floorOf tooLong exceedsAll unitsOf ticksOf
+one-unit = refl

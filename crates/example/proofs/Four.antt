@@ -1,4 +1,4 @@
--- The four calls through demand 3: what they told is what the plain reader tells, for both kinds, any two pieces and any buffers of these lengths.
+-- The four calls through demand 3: what they told is what the plain reader tells, for every kind, any two pieces and any buffers of these lengths.
 use mathlib.Core.Path.{_≡_, refl, sym, ap, subst, _∙_}
 use mathlib.Core.Logic.{inl}
 use mathlib.Core.Bool.{false}

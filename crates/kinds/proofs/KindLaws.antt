@@ -339,7 +339,7 @@ vtt-laws =
     (λ s h f k e. held-good-block 1 s h f k e)
     (λ s n l. subst (Lined s) (sym (takes-vtt s n l)) (vtt-lined s n l (headerDue 2 n (s .block))))
 
--- ---- both kinds
+-- ---- the three kinds
 pub known-three : (k : ℕ) → kindBad (suc (suc (suc k))) ≡ false → ⊥
 known-three k e = let z : suc (suc (suc k)) ≤ 2 = by-kind (λ n. n ≤ 2) (omega arith) (omega arith) (omega arith) (suc (suc (suc k))) e in omega arith
 

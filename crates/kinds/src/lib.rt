@@ -1,1 +1,1 @@
-// No code: both kinds of captions as sessions.
+// No code: the three kinds of captions as sessions.

@@ -84,7 +84,7 @@ module _ {σ κ : Type 0} (K : Kit σ κ) where
   settle-number s t m (going st n h ps) f = inl refl
   settle-number s t m (stopped k ps) f = f
 
-  -- an admitted call: 0, 19 to 22
+  -- an admitted call: 0, 19 to 22 or 24
   pub accepted-number : (s : Session κ) (c : Call) → OfText (accepted K s c .number)
   accepted-number s (feed l piece) =
       settle-number s (s .taken + length piece) (l .map) (run (K .machine (s .config .kind)) (resume K s) piece)

@@ -23,7 +23,7 @@ pub data Says (σ : Type 0) : Type 0 where
 -- A line is given with its terminator and without a BOM; n is the number of lines before it.
 pub record Machine (σ : Type 0) : Type 0 where
   pub start : σ
-  -- a line that is not too long: 20, 21, 22 in this order, else what it says
+  -- a line that is not too long: 20, 24 or 21, 22 in this order, else what it says
   pub step : σ → (n : ℕ) → List ℕ → Says σ
   -- a finish after n lines: in SRT it ends the block
   pub close : σ → (n : ℕ) → Says σ

@@ -135,7 +135,7 @@ module _ {σ κ : Type 0} (K : Kit σ κ) where
   abbrev pub openSession : Config → (map : List ℕ) → Answer κ
   openSession c m = openBy (gate false false (timescaleBad (c .timescale) || mapBad m) (kindBad (c .kind))) c
 
-  -- after 19 to 22 or a finish the session is ended and holds nothing
+  -- after 19 to 22, 24 or a finish the session is ended and holds nothing
   abbrev pub settle : Session κ → (taken : ℕ) → (map : List ℕ) → Run σ → Answer κ
   settle s t m (going st n h ps) =
       record {

@@ -1,3 +1,4 @@
 pub mod Segments
 pub mod BlankList
 pub mod StillMaps
+pub mod Orders

@@ -17,21 +17,14 @@ fn print_output(text: &[u8], n: usize) {
 }
 
 // A map written as JSON.
-pub fn print_written(
-    map: &[u64],
-    timescale: u32,
-    num: u32,
-    den: u32,
-    path: &[u8],
-    frames: u32,
-    room: &mut [u8],
-) {
-    let w = mapjson::write_map(map, timescale, num, den, path, frames, room);
+pub fn print_written(map: &[u64], timescale: u32, num: u32, den: u32, path: &[u8], frames: u32) {
+    let mut room = [0u8; 255141];
+    let w = mapjson::write_map(map, timescale, num, den, path, frames, &mut room);
     if w.number != 0 {
         mapfile::print_number(b"refused ", w.number);
         return;
     }
-    print_output(room, w.written);
+    print_output(&room, w.written);
 }
 
 // `map` and its four numbers, `path` with its length, the path and a line end.

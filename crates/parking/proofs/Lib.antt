@@ -3,3 +3,4 @@ pub mod Kept
 pub mod StoreLaws
 pub mod ReadLaws
 pub mod TakeLaws
+pub mod Rows

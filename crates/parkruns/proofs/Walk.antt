@@ -30,7 +30,7 @@ use Rattle.parking.specs.Answer.{parkNumber, whenDone, Parks, TakesUp, Kept}
 use Rattle.parking.proofs.Kept.{parked-again, parked-length}
 use Rattle.promise.specs.Runs.{Made, fed, finished, resultOf, callOf, callsOf, Met, Ran, writtenBy, warnedBy, outcome}
 use Rattle.promise.proofs.RunLaws.{Whole, next-whole, next-view}
-use Rattle.parkruns.specs.Steps.{Step, call, parking, StepMet, Stepped, madeIn, AllKept, outcomeOf}
+use Rattle.parkruns.specs.Steps.{Step, call, parking, handed, StepMet, Stepped, madeIn, AllKept, outcomeOf}
 use Rattle.parkruns.proofs.Tidy.{Tidy, next-tidy}
 use Rattle.parkruns.proofs.Parts.{play-snoc, proper-snoc}
 
@@ -114,4 +114,12 @@ module _ (c : Config) (m : List ℕ) (o : Opened c m) where
         kept = (b .parked, b .up, w .kept);
         ran = subst (λ (z : Session). Ran z (madeIn xs)) (b .same) (w .ran);
         same = w .same ∙ ap (λ (z : Session). outcome z (madeIn xs)) (b .same);
+      }
+  walk s a (handed k t ∷ xs) p r =
+      let b = taken-back s (parkedOf k s) t (a .tidy) (parked-again k s (r .0 .0) (at-native s a)) (r .0 .1) in
+      let w = walk (t .session) (subst At (sym (b .1)) a) xs p (r .1) in
+      record {
+        kept = (b .0, w .kept);
+        ran = subst (λ (z : Session). Ran z (madeIn xs)) (b .1) (w .ran);
+        same = w .same ∙ ap (λ (z : Session). outcome z (madeIn xs)) (b .1);
       }

@@ -23,7 +23,7 @@ use Rattle.promise.specs.Promise.{configOf}
 use Rattle.promise.specs.Runs.{Made, callsOf, Ran, outcome}
 use Rattle.parkruns.specs.Steps.{Step, Stepped, madeIn, AllKept, outcomeOf, RanBy, lastOf, warnedAll, writtenAll, numbersAll}
 
--- ---- mark 2
+-- ---- one rule for lost parts throughout, with parkings of ours and of houses with either mark
 pub record TwoKept (kind T : ℕ) (m : List ℕ) (o : Opened) (xs : List Step) : Type 0 where
   -- no parking is refused, nor the taking up
   pub parked : AllKept xs

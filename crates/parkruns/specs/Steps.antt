@@ -23,22 +23,27 @@ use Rattle.session.specs.Answer.{feedCall, finishCall, answerOf, nextOf}
 use Rattle.session.specs.Stand.{partsIn}
 use Rattle.parking.specs.declared.taking.TakenUp.{TakenUp}
 use Rattle.sealing.specs.Sealed.{sealedLength}
-use Rattle.parking.specs.Answer.{Parks, TakesUp}
+use Rattle.parking.specs.Parked.{parkedOf}
+use Rattle.parking.specs.Answer.{Parks, TakesUp, Mark}
 use Rattle.promise.specs.Runs.{Made, fed, finished, resultOf, Met, writtenBy, warnedBy}
 
 -- ---- ours
--- a parking: what was lent and what stood there afterwards, the number of park, and what taking these bytes up answered
+-- a parking: what was lent and what stood there afterwards, the number of park, and what taking these bytes up answered; or the blocks that a house with either
+-- mark stores of this session, and what taking them up answered
 pub data Step : Type 0 where
   call : Made → Step
   parking : (out : List ℕ) → (number : ℕ) → (out′ : List ℕ) → TakenUp → Step
+  handed : (mark : ℕ) → TakenUp → Step
 
 abbrev pub StepMet : Session → Step → Type 0
 StepMet s (call x) = Met s x
 StepMet s (parking out k out′ t) = (sealedLength ≤ length out) × Parks s k out out′ × TakesUp (take sealedLength out′) t
+StepMet s (handed k t) = Mark k × TakesUp (parkedOf k s) t
 
 abbrev pub sessionAfter : Step → Session
 sessionAfter (call x) = resultOf x .session
 sessionAfter (parking out k out′ t) = t .session
+sessionAfter (handed k t) = t .session
 
 abbrev pub Stepped : Session → List Step → Type 0
 Stepped s [] = Unit {0}
@@ -49,12 +54,14 @@ abbrev pub madeIn : List Step → List Made
 madeIn [] = []
 madeIn (call x ∷ xs) = x ∷ madeIn xs
 madeIn (parking out k out′ t ∷ xs) = madeIn xs
+madeIn (handed k t ∷ xs) = madeIn xs
 
 -- every parking was answered 0, and so was every taking up
 abbrev pub AllKept : List Step → Type 0
 AllKept [] = Unit {0}
 AllKept (call x ∷ xs) = AllKept xs
 AllKept (parking out k out′ t ∷ xs) = (k ≡ 0) × (t .number ≡ 0) × AllKept xs
+AllKept (handed k t ∷ xs) = (t .number ≡ 0) × AllKept xs
 
 -- the numbers of the calls in order, the last session, and what the calls wrote, joined
 abbrev pub outcomeOf : Session → List Step → Played Columns
@@ -67,6 +74,7 @@ outcomeOf s (call x ∷ xs) =
       warnings = warnedBy x ++ outcomeOf (resultOf x .session) xs .warnings;
     }
 outcomeOf s (parking out k out′ t ∷ xs) = outcomeOf (t .session) xs
+outcomeOf s (handed k t ∷ xs) = outcomeOf (t .session) xs
 
 -- ---- a house with another rule for a lost part: its calls differ from ours in the warnings alone
 -- the parts that a call says: none where it is refused

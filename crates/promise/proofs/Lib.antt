@@ -12,6 +12,7 @@ pub mod AgainLaws
 pub mod DemandText
 pub mod Examples
 pub mod BoundLaws
+pub mod ForeignRows
 pub mod RunLaws
 pub mod ThePromise
 pub mod Numbers17

@@ -5,5 +5,6 @@ pub mod Whole
 pub mod Again
 pub mod Demand
 pub mod Bounds
+pub mod Foreign
 pub mod Runs
 pub mod Promise

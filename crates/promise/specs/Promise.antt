@@ -48,7 +48,7 @@ PromiseRecords =
     → (cs : List Made) → Proper (flatOf xs) (callsOf cs) → Ran (o .session) cs
     → Demand (configOf kind T) (flatOf xs) (callsOf cs) (outcome (o .session) cs) × AllRight (configOf kind T) xs (saidIn (configOf kind T) (callsOf cs) .parts)
 
--- a sheet and a trim list that are accepted, the map built from them in either direction, and a fresh session of either kind opened with it and the
+-- a sheet and a trim list that are accepted, the map built from them in either direction, and a fresh session of any kind opened with it and the
 -- sheet's T: open answers 0, and the promise is kept
 pub record Holds (sheet list : List ℕ) (direction lent work kind : ℕ) (o : Opened) : Type 0 where
   pub opens : o .number ≡ 0

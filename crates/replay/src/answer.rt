@@ -109,28 +109,28 @@ fn answer_plain(op: u32, head: &[u8], x: &[u8], y: &[u8], z: &[u8]) {
     mapfile::print_number(b"unknown op ", op);
 }
 
-pub fn answer(head: &[u8], x: &[u8], y: &[u8], z: &[u8], all: &mut [u8], notes: &mut [u8]) {
+pub fn answer(head: &[u8], x: &[u8], y: &[u8], z: &[u8]) {
     let op = blocks::word(head, 0);
     let first = blocks::word(head, 1);
     let second = blocks::word(head, 2);
     let third = blocks::word(head, 3);
     let plan = blocks::word(head, 4);
     if op == 3 {
-        through_made(x, y, first, third, second, plan, z, all, notes);
+        through_made(x, y, first, third, second, plan, z);
         return;
     }
     if op == 5 {
-        texts(head, x, y, z, all, notes);
+        texts(head, x, y, z);
         return;
     }
-    if map_texts(head, x, y, all) {
+    if map_texts(head, x, y) {
         return;
     }
     if op < 13 {
         answer_plain(op, head, x, y, z);
         return;
     }
-    if texts(head, x, y, z, all, notes) {
+    if texts(head, x, y, z) {
         return;
     }
     mapfile::print_number(b"unknown op ", op);

@@ -17,14 +17,7 @@ fn print_head(k: u64) {
 }
 
 // One case, of which the head is read; its parts go to the lent slices. `too large` where one does not fit.
-fn run_case(
-    head: &[u8],
-    x: &mut [u8],
-    y: &mut [u8],
-    z: &mut [u8],
-    all: &mut [u8],
-    notes: &mut [u8],
-) {
+fn run_case(head: &[u8], x: &mut [u8], y: &mut [u8], z: &mut [u8]) {
     let n = blocks::word(head, 5) as usize;
     let m = blocks::word(head, 6) as usize;
     let l = blocks::word(head, 7) as usize;
@@ -37,13 +30,11 @@ fn run_case(
         base::front(x, n),
         base::front(y, m),
         base::front(z, l),
-        all,
-        notes,
     );
 }
 
 // Case by case, up to the end of the input.
-fn run_cases(x: &mut [u8], y: &mut [u8], z: &mut [u8], all: &mut [u8], notes: &mut [u8]) {
+fn run_cases(x: &mut [u8], y: &mut [u8], z: &mut [u8]) {
     let mut k: u64 = 0;
     while k < 1099511627776 {
         let mut head = [0u8; 32];
@@ -52,7 +43,7 @@ fn run_cases(x: &mut [u8], y: &mut [u8], z: &mut [u8], all: &mut [u8], notes: &m
             return;
         }
         print_head(k);
-        run_case(&head, x, y, z, all, notes);
+        run_case(&head, x, y, z);
         k += 1;
     }
 }
@@ -61,7 +52,5 @@ fn main() {
     let mut x = [0u8; 300000];
     let mut y = [0u8; 70000];
     let mut z = [0u8; 131072];
-    let mut all = [0u8; 425984];
-    let mut notes = [0u8; 262144];
-    run_cases(&mut x, &mut y, &mut z, &mut all, &mut notes);
+    run_cases(&mut x, &mut y, &mut z);
 }

@@ -26,7 +26,7 @@ fn fill(x: &[u8], n: usize, map: &mut [u64]) {
 }
 
 // Whether the op is about a text or a session; its answer is printed. The map is the one that x has, six numbers to a segment.
-pub fn texts(head: &[u8], x: &[u8], y: &[u8], z: &[u8], all: &mut [u8], notes: &mut [u8]) -> bool {
+pub fn texts(head: &[u8], x: &[u8], y: &[u8], z: &[u8]) -> bool {
     let mut map = [0u64; 8750];
     let n = x.len() / 8;
     fill(x, n, &mut map);
@@ -36,7 +36,7 @@ pub fn texts(head: &[u8], x: &[u8], y: &[u8], z: &[u8], all: &mut [u8], notes: &
     let c = blocks::word(head, 3);
     let d = blocks::word(head, 4);
     let given = base::words_front(&map, n);
-    retimings::answer(op, a, b, c, d, given, x, y, z, all, notes)
+    retimings::answer(op, a, b, c, d, given, x, y, z)
 }
 
 // How many work bytes a case lends: 0 is as many as are always enough, and more do not matter.
@@ -87,7 +87,7 @@ pub fn asks(head: &[u8], x: &[u8], y: &[u8], z: &[u8]) -> bool {
 }
 
 // Whether the op writes the map that x has as JSON, with the path y, or reads the JSON x; its answer is printed.
-pub fn map_texts(head: &[u8], x: &[u8], y: &[u8], room: &mut [u8]) -> bool {
+pub fn map_texts(head: &[u8], x: &[u8], y: &[u8]) -> bool {
     let mut map = [0u64; 8750];
     let n = x.len() / 8;
     fill(x, n, &mut map);
@@ -96,7 +96,7 @@ pub fn map_texts(head: &[u8], x: &[u8], y: &[u8], room: &mut [u8]) -> bool {
     let b = blocks::word(head, 2);
     let c = blocks::word(head, 3);
     let d = blocks::word(head, 4);
-    maptexts::answer(op, a, b, c, d, base::words_front(&map, n), x, y, room)
+    maptexts::answer(op, a, b, c, d, base::words_front(&map, n), x, y)
 }
 
 // A text through the map of a sheet and a list, with so many work bytes.
@@ -108,8 +108,6 @@ pub fn through_made(
     kind: u32,
     plan: u32,
     text: &[u8],
-    all: &mut [u8],
-    notes: &mut [u8],
 ) {
     let mut map = [0u64; 6144];
     let mut work = [0; base::MOST_WORK];
@@ -129,7 +127,5 @@ pub fn through_made(
         b"",
         b"",
         text,
-        all,
-        notes,
     );
 }

@@ -34,17 +34,15 @@ pub fn answer(
     x: &[u8],
     y: &[u8],
     z: &[u8],
-    all: &mut [u8],
-    notes: &mut [u8],
 ) -> bool
     ensures { λ r. ⌜ r ≡ isText op ⌝ }
 {
     if op == 5 {
-        print_retimed(b, a, map, z, plain(d), all, notes);
+        print_retimed(b, a, map, z, plain(d));
         return true;
     }
     if op == 13 {
-        print_retimed(b, a, map, z, with_parkings(d, c, y), all, notes);
+        print_retimed(b, a, map, z, with_parkings(d, c, y));
         return true;
     }
     if op == 14 {
@@ -52,7 +50,7 @@ pub fn answer(
         return true;
     }
     if op == 15 {
-        print_parked(b, a, map, z, d, c, all, notes);
+        print_parked(b, a, map, z, d, c);
         return true;
     }
     false

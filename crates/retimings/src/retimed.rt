@@ -26,22 +26,16 @@ fn run(
 }
 
 // Prints what becomes of the text, or `refused` and the number.
-pub fn print_retimed(
-    kind: u32,
-    timescale: u32,
-    map: &[u64],
-    text: &[u8],
-    plan: Plan,
-    all: &mut [u8],
-    notes: &mut [u8],
-) {
+pub fn print_retimed(kind: u32, timescale: u32, map: &[u64], text: &[u8], plan: Plan) {
+    let mut all = [0u8; 425984];
+    let mut notes = [0u8; 262144];
     let opened = session::open(kind, timescale, map);
     if opened.number != 0 {
         mapfile::print_number(b"refused ", opened.number);
         return;
     }
     let fresh = opened.session;
-    let ran = run(fresh, map, text, plan, all, notes);
+    let ran = run(fresh, map, text, plan, &mut all, &mut notes);
     if ran.number != 0 {
         mapfile::print_number(b"refused ", ran.number);
         return;
@@ -49,6 +43,6 @@ pub fn print_retimed(
     let over = ran.session;
     let counts = over.counts;
     print_counts(counts);
-    io::write_all(STDOUT_FILENO, base::front(notes, ran.noted));
-    print_output(all, ran.written);
+    io::write_all(STDOUT_FILENO, base::front(&notes, ran.noted));
+    print_output(&all, ran.written);
 }

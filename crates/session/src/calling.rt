@@ -127,7 +127,7 @@ fn open_refusal(kind: u32, timescale: u32, map: &[u64]) -> u32
     0
 }
 
-// A session for a text of the kind (0 ASS, 1 SRT), of T ticks a second, through the map.
+// A session for a text of the kind (0 ASS, 1 SRT, 2 WebVTT), of T ticks a second, through the map.
 pub fn open(kind: u32, timescale: u32, map: &[u64]) -> Opened
     ensures { λ r. ⌜ OpenAnswered kind timescale (now (map .entry)) r ⌝ }
 {

@@ -1,3 +1,4 @@
 pub mod TheMap
 pub mod Past
 pub mod Table
+pub mod Blocks

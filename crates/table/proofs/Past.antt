@@ -14,6 +14,6 @@ pub strange-told : decisionCase (decideIn (setting 0) (segment 0 1 0 1 900719925
 unfolding kindBad unitsOf ticksOf coreHolds ticksWithin endBad meetsParts findFrom decideIn
 strange-told = refl
 
-pub limit-told : decisionCase (decideIn (setting 0) (segment 0 1 0 1 4503599627370495 1 ∷ []) 0 1) .number ≡ 0
+pub limit-told : decisionCase (decideIn (setting 0) (segment 0 1 0 1 9007199254740991 1 ∷ []) 0 1) .number ≡ 0
 unfolding kindBad unitsOf ticksOf coreHolds ticksWithin endBad meetsParts findFrom decideIn
 limit-told = refl

@@ -79,7 +79,7 @@ pub record Table (m : List Segment) : Type 0 where
   pub decision-dropped : decisionCase (decideOf (setting 0) m 12 20) ≡ told 0 []
   -- output start + duration above 2^53: 15; at 2^53 it is kept
   pub decision-strange : decisionCase (decideIn (setting 0) (segment 0 1 0 1 9007199254740992 1 ∷ []) 0 1) ≡ told 15 []
-  pub decision-limit : decisionCase (decideIn (setting 0) (segment 0 1 0 1 4503599627370495 1 ∷ []) 0 1) .number ≡ 0
+  pub decision-limit : decisionCase (decideIn (setting 0) (segment 0 1 0 1 9007199254740991 1 ∷ []) 0 1) .number ≡ 0
   -- ---- times
   pub sixty-minutes : timeNumber (timeIn 0 (ascii "0:60:00.00")) ≡ 22
   pub sixty-units : timeUnits (timeIn 0 (ascii "0:60:00.00")) ≡ 0
@@ -101,6 +101,11 @@ pub record Table (m : List Segment) : Type 0 where
   pub empty-section : leaves (lineSays inEvents 0 (lf "[]")) ≡ outside
   pub one-byte : lineSays inEvents 0 (lf "[") ≡ says inEvents (stays (lf "["))
   pub other-section : leaves (lineSays inEvents 0 (lf "[events]")) ≡ outside
+  -- the name is not trimmed, and ends at the last `]`
+  pub space-before : leaves (lineSays outside 0 (lf "[ Events]")) ≡ outside
+  pub space-behind : leaves (lineSays outside 0 (lf "[Events ]")) ≡ outside
+  pub spaces-about : leaves (lineSays inEvents 0 (lf "[ Events ]")) ≡ outside
+  pub two-brackets : leaves (lineSays outside 0 (lf "[[Events]]")) ≡ outside
   -- a lone CR is text: the line does not end there
   pub lone-cr : lineSays inPlace 0 (ascii "a" ++ 13 ∷ ascii "[Events]" ++ 10 ∷ []) ≡ says inPlace (stays (ascii "a" ++ 13 ∷ ascii "[Events]" ++ 10 ∷ []))
   -- `Format:` gives the columns, trimmed: their count, the first Start and the first End
@@ -115,6 +120,11 @@ pub record Table (m : List Segment) : Type 0 where
   pub columns-back : leaves (lineSays (record { events = false; columns = 3; start = 1; «end» = 2 }) 0 (lf "[Events]")) ≡ inPlace
   -- `Dialogue:` and `Comment:`: a column unknown, warning 1; fewer fields than columns, warning 2
   pub unplaced-line : lineSays inEvents 4 (lf "Dialogue:x") ≡ says inEvents (passes unplaced 5 (lf "Dialogue:x"))
+  -- 1 before 2: one column unknown, and too few fields
+  pub unplaced-end : lineSays (record { events = true; columns = 3; start = 1; «end» = 0 }) 4 (lf "Dialogue:x")
+      ≡ says (record { events = true; columns = 3; start = 1; «end» = 0 }) (passes unplaced 5 (lf "Dialogue:x"))
+  pub unplaced-start : lineSays (record { events = true; columns = 3; start = 0; «end» = 1 }) 4 (lf "Dialogue:x")
+      ≡ says (record { events = true; columns = 3; start = 0; «end» = 1 }) (passes unplaced 5 (lf "Dialogue:x"))
   pub short-line : lineSays inPlace 4 (lf "Comment:x,y") ≡ says inPlace (passes short 5 (lf "Comment:x,y"))
   -- a cue: its times and their marks, whether tagged, and the frame around the times; the last field keeps its commas
   pub cue-line : lineSays inPlace 2 (lf "Comment:0:0:0.21,0:0:0.25,{\\k5}a,b")

@@ -20,12 +20,6 @@ slice-aggregate-run-cases-2 c = zeros 70000
 slice-aggregate-run-cases-3 : tie.Need-slice-aggregate-run-cases-3
 slice-aggregate-run-cases-3 c = zeros 131072
 
-slice-aggregate-run-cases-4 : tie.Need-slice-aggregate-run-cases-4
-slice-aggregate-run-cases-4 c = zeros 425984
-
-slice-aggregate-run-cases-5 : tie.Need-slice-aggregate-run-cases-5
-slice-aggregate-run-cases-5 c = zeros 262144
-
 run-cases-requires : tie.Need-run-cases-requires
 run-cases-requires c κs = tt
 
@@ -39,7 +33,5 @@ main-spec =
     slice-aggregate-run-cases
     slice-aggregate-run-cases-2
     slice-aggregate-run-cases-3
-    slice-aggregate-run-cases-4
-    slice-aggregate-run-cases-5
     run-cases-requires
     returns)

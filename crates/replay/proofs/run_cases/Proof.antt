@@ -12,11 +12,10 @@ use Rattle.replay.proofs.print_head.Reads as print-head-reads
 use Rattle.replay.proofs.run_case.Reads as run-case-reads
 
 abbrev Inv-loop : tie.InvT-loop
-Inv-loop x₀ y₀ z₀ all₀ notes₀ k₀ x y z all notes k =
-    (k ≤ 1099511627776) × (length x ≡ length x₀) × (length y ≡ length y₀) × (length z ≡ length z₀) × (length all ≡ length all₀) × (length notes ≡ length notes₀)
+Inv-loop x₀ y₀ z₀ k₀ x y z k = (k ≤ 1099511627776) × (length x ≡ length x₀) × (length y ≡ length y₀) × (length z ≡ length z₀)
 
 abbrev μ-loop : tie.MeasureT-loop
-μ-loop x₀ y₀ z₀ all₀ notes₀ k₀ x y z all notes k = 1099511627776 - k
+μ-loop x₀ y₀ z₀ k₀ x y z k = 1099511627776 - k
 
 loop-holds : tie.Need-loop-holds Inv-loop μ-loop
 loop-holds c = search needs
@@ -66,18 +65,6 @@ loop-again c = search needs
 same-length-6 : tie.Need-same-length-6 Inv-loop μ-loop
 same-length-6 c = search needs
 
-same-length-7 : tie.Need-same-length-7 Inv-loop μ-loop
-same-length-7 c = search needs
-
-same-length-8 : tie.Need-same-length-8 Inv-loop μ-loop
-same-length-8 c = search needs
-
-same-length-9 : tie.Need-same-length-9 Inv-loop μ-loop
-same-length-9 c = search needs
-
-same-length-10 : tie.Need-same-length-10 Inv-loop μ-loop
-same-length-10 c = search needs
-
 returns-2 : tie.Need-returns-2 Inv-loop μ-loop
 returns-2 c = search needs
 
@@ -93,8 +80,6 @@ run-cases-spec =
     same-length
     same-length-2
     same-length-3
-    same-length-4
-    same-length-5
     returns
     print-head-requires
     slice-aggregate-run-case
@@ -102,9 +87,7 @@ run-cases-spec =
     add-k
     loop-less
     loop-again
+    same-length-4
+    same-length-5
     same-length-6
-    same-length-7
-    same-length-8
-    same-length-9
-    same-length-10
     returns-2)

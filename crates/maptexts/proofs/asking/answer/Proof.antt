@@ -7,9 +7,6 @@ use Rattle.maptexts.proofs.asking.answer.Tie as tie
 print-written-requires : tie.Need-print-written-requires
 print-written-requires c κs = search needs
 
-same-length : tie.Need-same-length
-same-length c = search needs
-
 returns : tie.Need-returns
 unfolding isTextQuery
 returns c = search chain depth 12
@@ -28,4 +25,4 @@ returns-3 c = search chain depth 12
 pub answer-spec : {M : Type 1} → statement M
 answer-spec =
     tie.close
-    (tie.spec print-written-requires same-length returns print-read-requires returns-2 returns-3)
+    (tie.spec print-written-requires returns print-read-requires returns-2 returns-3)

@@ -50,12 +50,6 @@ slice-aggregate-answer-2 c = search needs
 answer-requires : tie.Need-answer-requires
 answer-requires c κs = search needs
 
-same-length : tie.Need-same-length
-same-length c = search needs
-
-same-length-2 : tie.Need-same-length-2
-same-length-2 c = search needs
-
 returns-2 : tie.Need-returns-2
 returns-2 c = search needs
 
@@ -76,6 +70,4 @@ through-made-spec =
     slice-aggregate-answer
     slice-aggregate-answer-2
     answer-requires
-    same-length
-    same-length-2
     returns-2)

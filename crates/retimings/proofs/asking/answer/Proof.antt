@@ -9,12 +9,6 @@ plain-requires c κs = search needs
 print-retimed-requires : tie.Need-print-retimed-requires
 print-retimed-requires c κs = search needs
 
-same-length : tie.Need-same-length
-same-length c = search needs
-
-same-length-2 : tie.Need-same-length-2
-same-length-2 c = search needs
-
 returns : tie.Need-returns
 returns c = search text-5
 
@@ -23,12 +17,6 @@ with-parkings-requires c κs = search needs
 
 print-retimed-requires-2 : tie.Need-print-retimed-requires-2
 print-retimed-requires-2 c κs = search needs
-
-same-length-3 : tie.Need-same-length-3
-same-length-3 c = search needs
-
-same-length-4 : tie.Need-same-length-4
-same-length-4 c = search needs
 
 returns-2 : tie.Need-returns-2
 returns-2 c = search text-13
@@ -42,12 +30,6 @@ returns-3 c = search text-14
 print-parked-requires : tie.Need-print-parked-requires
 print-parked-requires c κs = search needs
 
-same-length-5 : tie.Need-same-length-5
-same-length-5 c = search needs
-
-same-length-6 : tie.Need-same-length-6
-same-length-6 c = search needs
-
 returns-4 : tie.Need-returns-4
 returns-4 c = search text-15
 
@@ -60,18 +42,12 @@ answer-spec =
     (tie.spec
     plain-requires
     print-retimed-requires
-    same-length
-    same-length-2
     returns
     with-parkings-requires
     print-retimed-requires-2
-    same-length-3
-    same-length-4
     returns-2
     print-taken-requires
     returns-3
     print-parked-requires
-    same-length-5
-    same-length-6
     returns-4
     returns-5)
