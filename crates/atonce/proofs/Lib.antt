@@ -1,3 +1,5 @@
+pub mod LineLaws
 pub mod StandLaws
 pub mod TextLaws
 pub mod ToldLaws
+pub mod HandLaws

@@ -205,7 +205,7 @@ module _ (s : Session) (m : List ℕ) (e : openOf (s .config .kind) (s .config .
   pub opens-well : Opened own m
   opens-well = opened kit own m number-zero
 
-  is-fresh : view s ≡ fresh kit own
+  pub is-fresh : view s ≡ fresh kit own
   is-fresh =
       open-view (s .config .kind) (s .config .timescale) m O answered
       ∙ ap (λ (a : model.Answer Columns). a .session) (opens-fresh kit own m opens-well)

@@ -1,4 +1,4 @@
--- The loop over the pieces of a text: its start, its turn, and both of its ends.
+-- The loop over the pieces of a text: its turn, and both of its ends.
 use mathlib.Core.Path.{_≡_, refl, sym, ap, subst, _∙_}
 use mathlib.Core.Bool.{Bool, true, false, cond}
 use mathlib.Core.List.{List, [], _++_}
@@ -29,8 +29,8 @@ use Rattle.promise.specs.Plain.{plainRead}
 use Rattle.promise.specs.Promise.{configOf}
 use Rattle.atonce.specs.declared.running.Ran.{Ran}
 use Rattle.atonce.specs.Text.{outputFor, placesFor, emitsFor}
-use Rattle.atonce.specs.Ran.{pieceEnd, Ready, RanText}
-use Rattle.atonce.proofs.StandLaws.{Stands, Over, stands-room, partsBehind, led-turn, led-fault, led-end, wrote-behind, opens-well, led-start, over-plain}
+use Rattle.atonce.specs.Ran.{pieceEnd, RanText}
+use Rattle.atonce.proofs.StandLaws.{Stands, Over, stands-room, partsBehind, led-turn, led-fault, led-end, wrote-behind, over-plain}
 
 -- ---- where a piece ends
 pub end-last : (i n : ℕ) → n < i + 1024 → n ≡ pieceEnd i n
@@ -83,23 +83,12 @@ pub record At (c : Config) (m text : List ℕ) (i : ℕ) (s : Session) (o w : �
   pub stands : Stands c m opens (take i text) s o w out₀ out places₀ places
 
 -- ---- the start
-none-wrote : (c : Config) (m out places : List ℕ) → Wrote c m [] 0 0 out out places places
+pub none-wrote : (c : Config) (m out places : List ℕ) → Wrote c m [] 0 0 out out places places
 unfolding emitsOf outputOf warningsOf placesOf
 none-wrote c m out places = record { written = refl; warned = refl; text = sym (put-nil out); warnings = sym (put-nil places) }
 
 abbrev pub ownOf : Session → Config
 ownOf s = configOf (s .config .kind) (s .config .timescale)
-
-pub at-start : (s : Session) (m text out places : List ℕ) → Ready s m (length text) (length out) (length places) → At (ownOf s) m text 0 s 0 0 out out places places
-at-start s m text out places h =
-    record {
-      opens = opens-well s m (h .opens) (h .session);
-      within = omega arith;
-      short = h .short;
-      output = h .output;
-      warned = h .placed;
-      stands = record { parts = []; led = led-start s m (h .opens) (h .session); wrote = none-wrote (ownOf s) m out places };
-    }
 
 -- ---- the text has ended
 pub record Ended (c : Config) (m text : List ℕ) (number : ℕ) (s : Session) (o w : ℕ) (out₀ out places₀ places : List ℕ) : Type 0 where
@@ -239,13 +228,6 @@ module _ (c : Config) (m text : List ℕ) (k : ℕ) (s : Session) (o w : ℕ) (o
       }
 
 module _ (b : Session) (m text : List ℕ) (i : ℕ) (s : Session) (o w : ℕ) (out₀ out places₀ places : List ℕ) (A : At (ownOf b) m text i s o w out₀ out places₀ places) where
-  pub text-turn : (e : ℕ) → e ≡ pieceEnd i (length text) → i < length text
-      → (f : Fed) (y z : List ℕ) → Answered s (feedCall m (take (e - i) (drop i text)) (length (lent o out)) (length (lent w places))) f (lent o out) y (lent w places) z
-      → f .number ≡ 0 → At (ownOf b) m text e (f .session) (o + f .written) (w + f .warned) out₀ (back o out y) places₀ (back w places z)
-  text-turn e q h f y z a n =
-      let E = end-of i (length text) e q h in
-      at-turn (ownOf b) m text i s o w out₀ out places₀ places A e E f y z a n
-
   pub text-fault : (e : ℕ) → e ≡ pieceEnd i (length text) → i < length text
       → (f : Fed) (y z : List ℕ) → Answered s (feedCall m (take (e - i) (drop i text)) (length (lent o out)) (length (lent w places))) f (lent o out) y (lent w places) z
       → (f .number ≡ 0 → ⊥) → (r : Ran) → Hands r (f .number) (o + f .written) (w + f .warned) (f .session)

@@ -1,3 +1,4 @@
 -- A whole text retimed at once.
 pub mod Text
 pub mod Ran
+pub mod Lined

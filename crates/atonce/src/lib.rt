@@ -1,4 +1,5 @@
 // A whole text retimed at once. No exported function has a `requires`.
+mod lining;
 mod running;
 mod telling;
 

@@ -1,4 +1,7 @@
-// A whole text fed in pieces and finished.
+// A whole text: its lines where they stand, then what is left in pieces, and the finish.
+use crate::lining::begun;
+use crate::lining::resumed;
+use crate::lining::run_lines;
 use foreign::Session;
 use machine::Counts;
 use session::Fed;
@@ -41,7 +44,7 @@ fn ended(last: Fed, written: usize, warned: usize) -> Ran
     }
 }
 
-// The pieces of the text, up to a fault; then the finish.
+// The lines of the text; from the first that is too long, at fault or without LF, the pieces, up to a fault; then the finish.
 pub fn run_text(
     session: Session,
     map: &[u64],
@@ -52,10 +55,12 @@ pub fn run_text(
     requires { ⌜ Ready session (now map) (length (now text)) (length (now out)) (length (now warnings)) ⌝ }
     ensures { λ r. ⌜ RanText (session .config) (now (map .entry)) (now (text .entry)) r (now (out .entry)) (now (out .exit)) (now (warnings .entry)) (now (warnings .exit)) ⌝ }
 {
-    let mut at = session;
-    let mut i = 0;
-    let mut o = 0;
-    let mut w = 0;
+    let config = session.config;
+    let lined = run_lines(config, map, begun(session), text, out, warnings);
+    let mut at = resumed(session, lined, text);
+    let mut i = lined.place;
+    let mut o = lined.written;
+    let mut w = lined.warned;
     while i < text.len() {
         let e = piece_end(i, text.len());
         let fed = session::feed(at, map, &text[i..e], &mut out[o..], &mut warnings[w..]);

@@ -1,5 +1,5 @@
 -- Laws of the blocks' readers.
-use Prim.Native.Nat.{ℕ, zero, suc, _+_, _-_, _*_, _≤_, _<_}
+use Prim.Native.Nat.{ℕ, zero, suc, _+_, _-_, _*_, _≤_, _<_, max}
 use mathlib.Core.Path.{_≡_, refl, ap, sym, _∙_}
 use mathlib.Core.Bool.{Bool, true, false, _&&_, cond}
 use mathlib.Core.List.{List, [], _∷_, _++_, append-nil, append-assoc}
@@ -33,7 +33,7 @@ pub hold-all : (s : List ℕ) (b : ℕ) → b ≤ 18 → 18 ≤ b → allHold s 
 unfolding allHold
 hold-all s b h k inv = let z : 0 ≡ 18 - b = omega arith in ap (allHold s b) z ∙ inv
 
--- ---- zeros, by their sum
+-- ---- zeros, by the largest byte
 and-assoc : (a b c : Bool) → (a && (b && c)) ≡ ((a && b) && c)
 and-assoc true b c = refl
 and-assoc false b c = refl
@@ -46,22 +46,22 @@ and-true : (a : Bool) → (a && true) ≡ a
 and-true true = refl
 and-true false = refl
 
-sum-zero : (a b : ℕ) → eqb (a + b) 0 ≡ (eqb a 0 && eqb b 0)
-sum-zero a b = go (eqb a 0) (eqb b 0) refl refl
+max-zero : (a b : ℕ) → eqb (max a b) 0 ≡ (eqb a 0 && eqb b 0)
+max-zero a b = go (eqb a 0) (eqb b 0) refl refl
   where
-    go : (t u : Bool) → eqb a 0 ≡ t → eqb b 0 ≡ u → eqb (a + b) 0 ≡ (t && u)
-    go true true p q = eq-eqb (a + b) 0 (omega (arith, eqb-true a 0 p, eqb-true b 0 q))
-    go true false p q = ne-eqb (a + b) 0 (λ z. eqb-false b 0 q (omega arith))
-    go false u p q = ne-eqb (a + b) 0 (λ z. eqb-false a 0 p (omega arith))
+    go : (t u : Bool) → eqb a 0 ≡ t → eqb b 0 ≡ u → eqb (max a b) 0 ≡ (t && u)
+    go true true p q = eq-eqb (max a b) 0 (omega (arith, eqb-true a 0 p, eqb-true b 0 q))
+    go true false p q = ne-eqb (max a b) 0 (λ z. eqb-false b 0 q (omega arith))
+    go false u p q = ne-eqb (max a b) 0 (λ z. eqb-false a 0 p (omega arith))
 
-pub zero-more : (s : List ℕ) (i total w : ℕ) → i < length s → w ≡ getD s i 0 → allZero s ≡ (eqb total 0 && allZero (drop i s)) → allZero s ≡ (eqb (total + w) 0 && allZero (drop (i + 1) s))
+pub zero-more : (s : List ℕ) (i total w : ℕ) → i < length s → w ≡ max total (getD s i 0) → allZero s ≡ (eqb total 0 && allZero (drop i s)) → allZero s ≡ (eqb w 0 && allZero (drop (i + 1) s))
 unfolding allZero
 zero-more s i total w h e inv =
     let y : suc i ≡ i + 1 = omega arith in
     let x = getD s i 0 in
     inv ∙ ap (λ (l : List ℕ). eqb total 0 && allZero l) (drop-cons s i 0 h ∙ ap (λ (j : ℕ). x ∷ drop j s) y)
     ∙ and-assoc (eqb total 0) (eqb x 0) (allZero (drop (i + 1) s))
-    ∙ ap (λ (t : Bool). t && allZero (drop (i + 1) s)) (sym (sum-zero total x) ∙ ap (λ (n : ℕ). eqb (total + n) 0) (sym e))
+    ∙ ap (λ (t : Bool). t && allZero (drop (i + 1) s)) (sym (max-zero total x) ∙ ap (λ (n : ℕ). eqb n 0) (sym e))
 
 pub zero-all : (s : List ℕ) (i total : ℕ) → length s ≤ i → allZero s ≡ (eqb total 0 && allZero (drop i s)) → eqb total 0 ≡ allZero s
 unfolding allZero
@@ -147,28 +147,3 @@ unseal-yes s room t h e f = λ i. (sym f ∙ e) i && sym (le-leb roomLength (len
 
 pub none-copied : (s room : List ℕ) → room ≡ put (cond false (roomOf s) []) room
 none-copied s room = sym (put-nil room)
-
--- ---- zeros in parts
-zero-append : (a b : List ℕ) → allZero (a ++ b) ≡ (allZero a && allZero b)
-unfolding allZero
-zero-append [] b = refl
-zero-append (x ∷ a) b = ap (λ (t : Bool). eqb x 0 && t) (zero-append a b) ∙ and-assoc (eqb x 0) (allZero a) (allZero b)
-
-module _ (s t p u : List ℕ) (z : Bool) (inv : allZero s ≡ allZero t) (e : p ≡ take roomLength t) (f : z ≡ allZero p) where
-  halves : allZero s ≡ (allZero (take roomLength t) && allZero (drop roomLength t))
-  halves = inv ∙ ap allZero (sym (take-append-drop roomLength t)) ∙ zero-append (take roomLength t) (drop roomLength t)
-
-  pub zeros-on : z ≡ true → u ≡ drop roomLength t → allZero s ≡ allZero u
-  zeros-on g h = halves ∙ ap (λ (b : Bool). b && allZero (drop roomLength t)) (ap allZero (sym e) ∙ sym f ∙ g) ∙ ap allZero (sym h)
-
-  pub zeros-no : z ≡ false → false ≡ allZero s
-  zeros-no g = sym (halves ∙ ap (λ (b : Bool). b && allZero (drop roomLength t)) (ap allZero (sym e) ∙ sym f ∙ g))
-
-pub zeros-last : (s t : List ℕ) (z : Bool) → allZero s ≡ allZero t → z ≡ allZero t → z ≡ allZero s
-zeros-last s t z inv f = f ∙ sym inv
-
-pub front-small : (t p : List ℕ) → p ≡ take roomLength t → length p ≤ roomLength
-front-small t p e = omega (arith, ap length e, length-take roomLength t)
-
-pub rest-less : (t u : List ℕ) → roomLength < length t → u ≡ drop roomLength t → length u < length t
-rest-less t u h e = omega (arith, ap length e, length-drop roomLength t)

@@ -1,42 +1,24 @@
 // Bytes that are all zero.
 ghost use mathlib.Core.Path.{_≡_};
-ghost use Prim.Native.Nat.{_≤_};
-ghost use lib.ListN.{length};
-ghost use Rattle.sealing.specs.Sealed.{roomLength, allZero};
+ghost use Prim.Native.Nat.{max};
+ghost use Rattle.sealing.specs.Sealed.{allZero};
 
-// A byte as a word.
-fn wide(b: u8) -> u32
-    ensures { λ r. ⌜ (r ≡ b) × (r ≤ 255) ⌝ }
+// The larger of two bytes.
+fn top(a: u8, b: u8) -> u8
+    ensures { λ r. ⌜ r ≡ max a b ⌝ }
 {
-    b as u32
+    if a < b { b } else { a }
 }
 
-// Whether all bytes are zero: their sum is.
-fn part_zero(s: &[u8]) -> bool
-    requires { ⌜ length (now s) ≤ roomLength ⌝ }
-    ensures { λ r. ⌜ r ≡ allZero (now (s .entry)) ⌝ }
-{
-    let mut total: u32 = 0;
-    let mut i: usize = 0;
-    while i < s.len() {
-        total += wide(s[i]);
-        i += 1;
-    }
-    total == 0
-}
-
-// Whether all bytes are zero.
+// Whether all bytes are zero: the largest is.
 pub fn all_zero(s: &[u8]) -> bool
     ensures { λ r. ⌜ r ≡ allZero (now (s .entry)) ⌝ }
 {
-    let mut t = s;
-    while t.len() > 8568 {
-        if part_zero(base::front(t, 8568)) {
-            let u = base::rest(t, 8568);
-            t = u;
-        } else {
-            return false;
-        }
+    let mut most: u8 = 0;
+    let mut i: usize = 0;
+    while i < s.len() {
+        most = top(most, s[i]);
+        i += 1;
     }
-    part_zero(t)
+    most == 0
 }

@@ -1,5 +1,8 @@
 // UTF-8 (RFC 3629).
 ghost use mathlib.Core.Path.{_≡_};
+ghost use mathlib.Core.Bool.{true};
+ghost use Prim.Native.Nat.{_≤_, _+_, max};
+ghost use lib.ListN.{length, drop};
 ghost use Rattle.utf8.specs.Utf8.{asciiRun, leadLen, secondLow, secondHigh, tail, widthBy, charWidth, utf8, codeBy, codeHead};
 
 fn lead_len(a: u8) -> usize
@@ -101,11 +104,39 @@ pub fn char_width(s: &[u8]) -> usize
     )
 }
 
+// The larger of two bytes.
+fn top(a: u8, b: u8) -> u8
+    ensures { λ r. ⌜ r ≡ max a b ⌝ }
+{
+    if a < b { b } else { a }
+}
+
+// Whether the 32 bytes from i on are below 80: the largest is.
+fn plain(s: &[u8], i: usize) -> bool
+    requires { ⌜ i + 32 ≤ length (now s) ⌝ }
+    ensures { λ r. ⌜ (r ≡ true → asciiRun (drop i (now (s .entry))) ≡ 32 + asciiRun (drop (i + 32) (now (s .entry)))) ⌝ }
+{
+    let mut most: u8 = 0;
+    let mut k: usize = 0;
+    while k < 32 {
+        most = top(most, s[i + k]);
+        k += 1;
+    }
+    most < 0x80
+}
+
 // How many bytes below 80 `s` begins with.
 fn ascii_run(s: &[u8]) -> usize
     ensures { λ r. ⌜ r ≡ asciiRun (now (s .entry)) ⌝ }
 {
     let mut i = 0;
+    while 32 <= s.len() - i {
+        if plain(s, i) {
+            i += 32;
+        } else {
+            break;
+        }
+    }
     while i < s.len() {
         if s[i] >= 0x80 {
             return i;
@@ -115,22 +146,53 @@ fn ascii_run(s: &[u8]) -> usize
     i
 }
 
+// Whether these are a character of three bytes whose first is E1 to EC.
+fn three(a: u8, b: u8, c: u8) -> bool
+    ensures { λ r. ⌜ (r ≡ true → (0xE1 ≤ a) × (a ≤ 0xEC) × (0x80 ≤ b) × (b ≤ 0xBF) × (0x80 ≤ c) × (c ≤ 0xBF)) ⌝ }
+{
+    if a < 0xE1 {
+        return false;
+    }
+    if 0xEC < a {
+        return false;
+    }
+    if b < 0x80 {
+        return false;
+    }
+    if 0xBF < b {
+        return false;
+    }
+    if c < 0x80 {
+        return false;
+    }
+    c <= 0xBF
+}
+
 // Whether `s` is well-formed UTF-8.
 pub fn is_utf8(s: &[u8]) -> bool
     ensures { λ r. ⌜ r ≡ utf8 (now (s .entry)) ⌝ }
 {
     let mut t = s;
     while t.len() > 0 {
-        let n = ascii_run(t);
-        let v = base::rest(t, n);
-        if v.len() == 0 {
-            return true;
+        let a = t[0];
+        if a < 0x80 {
+            let n = ascii_run(t);
+            let v = base::rest(t, n);
+            t = v;
+            continue;
         }
-        let w = char_width(v);
+        if 3 <= t.len() {
+            if three(a, t[1], t[2]) {
+                let x = base::rest(t, 3);
+                t = x;
+                continue;
+            }
+        }
+        let w = char_width(t);
         if w == 0 {
             return false;
         }
-        let u = base::rest(v, w);
+        let u = base::rest(t, w);
         t = u;
     }
     true

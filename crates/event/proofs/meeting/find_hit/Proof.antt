@@ -1,12 +1,11 @@
-use Rattle.event.proofs.HitLaws.{hit-place}
-use mathlib.Core.Path.{_≡_, refl}
-use Prim.Native.Nat.{_+_, _*_, _≤_}
-use lib.ListN.{length}
 use native.Mathlib.Omega.{arith}
+use mathlib.Core.Path.{_≡_}
+use Prim.Native.Nat.{_+_, _≤_}
+use lib.ListN.{length}
 use Rattle.segment.specs.Segment.{segmentsOf}
 use Rattle.segment.proofs.SegmentLaws.{six-less}
 use Rattle.event.specs.Hit.{findHit, findFrom}
-use Rattle.event.proofs.HitLaws.{hit-found, hit-again, hit-none}
+use Rattle.event.proofs.HitLaws.{hit-start, hit-place, hit-found, hit-again, hit-none}
 use borrow.Author.Needs.{needs}
 use Rattle.event.proofs.meeting.find_hit.Statement.{statement}
 use Rattle.event.proofs.meeting.find_hit.Tie as tie
@@ -16,15 +15,25 @@ use Rattle.base.proofs.word.Reads as word-reads
 use Rattle.base.proofs.words_rest.Reads as words-rest-reads
 use Rattle.event.proofs.meeting.meets.Reads as meets-reads
 use Rattle.event.proofs.meeting.met_at.Reads as met-at-reads
+use Rattle.event.proofs.meeting.passed.Reads as passed-reads
 
 abbrev Inv-loop : tie.InvT-loop
-Inv-loop map a b t₀ place₀ t place = (findHit (segmentsOf map) a b ≡ findFrom place (segmentsOf t) a b) × (place + length t ≤ length map)
+Inv-loop map a b place₀ t₀ place t = (findHit (segmentsOf map) a b ≡ findFrom place (segmentsOf t) a b) × (place + length t ≤ length map)
 
 abbrev μ-loop : tie.MeasureT-loop
-μ-loop map a b t₀ place₀ t place = length t
+μ-loop map a b place₀ t₀ place t = length t
+
+passed-requires : tie.Need-passed-requires Inv-loop μ-loop
+passed-requires c κs = search needs
+
+mul-words-rest : tie.Need-mul-words-rest Inv-loop μ-loop
+mul-words-rest c = omega (arith, c .passed .ensures .within)
+
+words-rest-requires : tie.Need-words-rest-requires Inv-loop μ-loop
+words-rest-requires c κs = search needs
 
 loop-holds : tie.Need-loop-holds Inv-loop μ-loop
-loop-holds c = (refl, omega arith)
+loop-holds c = hit-start _ _ _ _ _ (c .before .passed .ensures) (c .words-rest .ensures)
 
 word-requires : tie.Need-word-requires Inv-loop μ-loop
 word-requires c κs = search needs
@@ -41,8 +50,8 @@ met-at-requires c κs = search needs
 returns : tie.Need-returns Inv-loop μ-loop
 returns c = search hit-found depth 12
 
-words-rest-requires : tie.Need-words-rest-requires Inv-loop μ-loop
-words-rest-requires c κs = search needs
+words-rest-requires-2 : tie.Need-words-rest-requires-2 Inv-loop μ-loop
+words-rest-requires-2 c κs = search needs
 
 add-place : tie.Need-add-place Inv-loop μ-loop
 add-place c = search needs
@@ -62,13 +71,16 @@ find-hit-spec =
     (tie.spec
     Inv-loop
     μ-loop
+    passed-requires
+    mul-words-rest
+    words-rest-requires
     loop-holds
     word-requires
     word-requires-2
     meets-requires
     met-at-requires
     returns
-    words-rest-requires
+    words-rest-requires-2
     add-place
     loop-less
     loop-again

@@ -1,43 +1,41 @@
+use Rattle.sealing.proofs.ReadLaws.{zero-more, zero-all}
+use native.Mathlib.Omega.{arith}
 use mathlib.Core.Path.{_≡_, refl}
-use lib.ListN.{length}
+use Prim.Native.Nat.{_≤_, _-_}
+use lib.ListN.{length, drop}
+use lib.Dec.{eqb}
+use mathlib.Core.Bool.{_&&_}
 use Rattle.sealing.specs.Sealed.{allZero}
-use Rattle.sealing.proofs.ReadLaws.{front-small, zeros-on, zeros-no, zeros-last, rest-less}
 use borrow.Author.Needs.{needs}
 use Rattle.sealing.proofs.zeros.all_zero.Statement.{statement}
 use Rattle.sealing.proofs.zeros.all_zero.Tie as tie
 
 abbrev Inv-loop : tie.InvT-loop
-Inv-loop s t₀ t = allZero s ≡ allZero t
+Inv-loop s most₀ i₀ most i = (i ≤ length s) × (allZero s ≡ (eqb most 0 && allZero (drop i s)))
 
 abbrev μ-loop : tie.MeasureT-loop
-μ-loop s t₀ t = length t
+μ-loop s most₀ i₀ most i = length s - i
 
 loop-holds : tie.Need-loop-holds Inv-loop μ-loop
-loop-holds c = refl
+loop-holds c = (omega arith, refl)
 
-front-requires : tie.Need-front-requires Inv-loop μ-loop
-front-requires c κs = search needs
+shared-slice-read-top : tie.Need-shared-slice-read-top Inv-loop μ-loop
+shared-slice-read-top c = search needs
 
-part-zero-requires : tie.Need-part-zero-requires Inv-loop μ-loop
-part-zero-requires c κs = search front-small
+top-requires : tie.Need-top-requires Inv-loop μ-loop
+top-requires c κs = search needs
 
-rest-requires : tie.Need-rest-requires Inv-loop μ-loop
-rest-requires c κs = search needs
+add-i : tie.Need-add-i Inv-loop μ-loop
+add-i c = search needs
 
 loop-less : tie.Need-loop-less Inv-loop μ-loop
-loop-less c = search rest-less
+loop-less c = search needs
 
 loop-again : tie.Need-loop-again Inv-loop μ-loop
-loop-again c = search zeros-on
+loop-again c = (omega arith, search zero-more)
 
 returns : tie.Need-returns Inv-loop μ-loop
-returns c = search zeros-no
-
-part-zero-requires-2 : tie.Need-part-zero-requires-2 Inv-loop μ-loop
-part-zero-requires-2 c κs = search needs
-
-returns-2 : tie.Need-returns-2 Inv-loop μ-loop
-returns-2 c = search zeros-last
+returns c = search zero-all
 
 pub all-zero-spec : {M : Type 1} → statement M
 all-zero-spec =
@@ -46,11 +44,9 @@ all-zero-spec =
     Inv-loop
     μ-loop
     loop-holds
-    front-requires
-    part-zero-requires
-    rest-requires
+    shared-slice-read-top
+    top-requires
+    add-i
     loop-less
     loop-again
-    returns
-    part-zero-requires-2
-    returns-2)
+    returns)

@@ -1,7 +1,8 @@
 use borrow.Author.Needs.{needs}
+use native.Mathlib.Omega.{arith}
 use mathlib.Core.Path.{_≡_, refl}
 use lib.ListN.{length}
-use Rattle.utf8.proofs.Laws.{drop-less-2, utf8-again, utf8-refused, utf8-plain, utf8-passed}
+use Rattle.utf8.proofs.Laws.{ascii-less, ascii-again, three-less, three-on, char-less, char-again, char-refused, utf8-passed}
 use Rattle.utf8.specs.Utf8.{utf8}
 use Rattle.utf8.proofs.utf8.is_utf8.Statement.{statement}
 use Rattle.utf8.proofs.utf8.is_utf8.Tie as tie
@@ -15,32 +16,56 @@ abbrev μ-loop : tie.MeasureT-loop
 loop-holds : tie.Need-loop-holds Inv-loop μ-loop
 loop-holds c = refl
 
+shared-slice-read-a : tie.Need-shared-slice-read-a Inv-loop μ-loop
+shared-slice-read-a c = search needs
+
 ascii-run-requires : tie.Need-ascii-run-requires Inv-loop μ-loop
 ascii-run-requires c κs = search needs
 
 rest-requires : tie.Need-rest-requires Inv-loop μ-loop
 rest-requires c κs = search needs
 
-returns : tie.Need-returns Inv-loop μ-loop
-returns c = search utf8-plain
+loop-less : tie.Need-loop-less Inv-loop μ-loop
+loop-less c = search ascii-less
 
-char-width-requires : tie.Need-char-width-requires Inv-loop μ-loop
-char-width-requires c κs = search needs
+loop-again : tie.Need-loop-again Inv-loop μ-loop
+loop-again c = search ascii-again
 
-returns-2 : tie.Need-returns-2 Inv-loop μ-loop
-returns-2 c = search utf8-refused
+shared-slice-read-three : tie.Need-shared-slice-read-three Inv-loop μ-loop
+shared-slice-read-three c = omega arith
+
+shared-slice-read-three-2 : tie.Need-shared-slice-read-three-2 Inv-loop μ-loop
+shared-slice-read-three-2 c = omega arith
+
+three-requires : tie.Need-three-requires Inv-loop μ-loop
+three-requires c κs = search needs
 
 rest-requires-2 : tie.Need-rest-requires-2 Inv-loop μ-loop
 rest-requires-2 c κs = search needs
 
-loop-less : tie.Need-loop-less Inv-loop μ-loop
-loop-less c = search drop-less-2
+loop-less-2 : tie.Need-loop-less-2 Inv-loop μ-loop
+loop-less-2 c = search three-less
 
-loop-again : tie.Need-loop-again Inv-loop μ-loop
-loop-again c = search utf8-again
+loop-again-2 : tie.Need-loop-again-2 Inv-loop μ-loop
+loop-again-2 c = search (three-on, c .before .before .three .ensures)
 
-returns-3 : tie.Need-returns-3 Inv-loop μ-loop
-returns-3 c = search utf8-passed
+char-width-requires : tie.Need-char-width-requires Inv-loop μ-loop
+char-width-requires c κs = search needs
+
+returns : tie.Need-returns Inv-loop μ-loop
+returns c = search char-refused
+
+rest-requires-3 : tie.Need-rest-requires-3 Inv-loop μ-loop
+rest-requires-3 c κs = search needs
+
+loop-less-3 : tie.Need-loop-less-3 Inv-loop μ-loop
+loop-less-3 c = search char-less
+
+loop-again-3 : tie.Need-loop-again-3 Inv-loop μ-loop
+loop-again-3 c = search char-again
+
+returns-2 : tie.Need-returns-2 Inv-loop μ-loop
+returns-2 c = search utf8-passed
 
 pub is-utf8-spec : {M : Type 1} → statement M
 is-utf8-spec =
@@ -49,12 +74,20 @@ is-utf8-spec =
     Inv-loop
     μ-loop
     loop-holds
+    shared-slice-read-a
     ascii-run-requires
     rest-requires
-    returns
-    char-width-requires
-    returns-2
-    rest-requires-2
     loop-less
     loop-again
-    returns-3)
+    shared-slice-read-three
+    shared-slice-read-three-2
+    three-requires
+    rest-requires-2
+    loop-less-2
+    loop-again-2
+    char-width-requires
+    returns
+    rest-requires-3
+    loop-less-3
+    loop-again-3
+    returns-2)

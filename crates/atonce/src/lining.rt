@@ -1,0 +1,151 @@
+// The lines of a text, taken where they stand in it.
+use columns::Columns;
+use event::Config;
+use foreign::Session;
+use machine::Counts;
+ghost use mathlib.Core.Path.{_≡_};
+ghost use mathlib.Core.Bool.{cond};
+ghost use lib.ListN.{length};
+ghost use Rattle.atonce.specs.Lined.{Closed, begunOf, linedOf, Lining, Resumes, Sized};
+
+// How far the lines have led: `place` bytes are taken, the open block begins at `begin`.
+pub struct Lined {
+    pub lines: u32,
+    pub counts: Counts,
+    pub columns: Columns,
+    pub begin: usize,
+    pub place: usize,
+    pub written: usize,
+    pub warned: usize,
+}
+
+// Where the line that begins at i ends, behind its LF; 0 where no LF ends it within 4,096 bytes.
+fn line_end(text: &[u8], i: usize) -> usize
+    ensures { λ r. ⌜ ((r ≡ 0 → ⊥) → Closed (now (text .entry)) i r) ⌝ }
+{
+    let line = base::front(base::rest(text, i), base::MOST_LINE);
+    let k = text::line_length(line);
+    if k == 0 {
+        return 0;
+    }
+    if line[k - 1] == 10 {
+        return i + k;
+    }
+    0
+}
+
+// Where the open block begins after a line: at b where the line joins it, else at e.
+fn block_begin(added: bool, b: usize, e: usize) -> usize
+    ensures { λ r. ⌜ r ≡ cond added b e ⌝ }
+{
+    if added {
+        return b;
+    }
+    e
+}
+
+// How far the lines have led, of its numbers.
+fn led_to(n: u32, counts: Counts, columns: Columns, b: usize, i: usize, o: usize, w: usize) -> Lined
+    ensures { λ r. ⌜ r ≡ linedOf n counts columns b i o w ⌝ }
+{
+    Lined {
+        lines: n,
+        counts,
+        columns,
+        begin: b,
+        place: i,
+        written: o,
+        warned: w,
+    }
+}
+
+// The lines that end with LF, up to one that is too long or at fault.
+pub fn run_lines(
+    config: Config,
+    map: &[u64],
+    start: Lined,
+    text: &[u8],
+    out: &mut [u8],
+    warnings: &mut [u64],
+) -> Lined
+    requires { ⌜ Lining config (now map) (now text) start (now out) (now out) (now warnings) (now warnings) ⌝ }
+    ensures { λ r. ⌜ Lining config (now (map .entry)) (now (text .entry)) r (now (out .entry)) (now (out .exit)) (now (warnings .entry)) (now (warnings .exit)) ⌝ }
+{
+    let mut counts = start.counts;
+    let mut columns = start.columns;
+    let mut n = start.lines;
+    let mut b = start.begin;
+    let mut i = start.place;
+    let mut o = start.written;
+    let mut w = start.warned;
+    while i < text.len() {
+        let e = line_end(text, i);
+        if e == 0 {
+            return led_to(n, counts, columns, b, i, o, w);
+        }
+        let told = lines::take_line(
+            config,
+            map,
+            n,
+            counts,
+            columns,
+            &text[b..e],
+            i - b,
+            &mut out[o..],
+            &mut warnings[w..],
+        );
+        if told.number != 0 {
+            return led_to(n, counts, columns, b, i, o, w);
+        }
+        b = block_begin(told.added, b + told.skip, e);
+        counts = told.counts;
+        columns = told.columns;
+        o += told.written;
+        w += told.warned;
+        n += 1;
+        i = e;
+    }
+    led_to(n, counts, columns, b, i, o, w)
+}
+
+// Before the first line.
+pub fn begun(session: Session) -> Lined
+    ensures { λ r. ⌜ r ≡ begunOf session ⌝ }
+{
+    let counts = session.counts;
+    let columns = session.columns;
+    Lined {
+        lines: 0,
+        counts,
+        columns,
+        begin: 0,
+        place: 0,
+        written: 0,
+        warned: 0,
+    }
+}
+
+// The session that has taken these lines.
+pub fn resumed(session: Session, at: Lined, text: &[u8]) -> Session
+    requires { ⌜ Sized at (length (now text)) ⌝ }
+    ensures { λ r. ⌜ Resumes session at (now (text .entry)) r ⌝ }
+{
+    let config = session.config;
+    let counts = at.counts;
+    let columns = at.columns;
+    let mut held = session.held;
+    let b = at.begin;
+    let i = at.place;
+    let n = base::bytes(&mut held, &text[b..i]);
+    Session {
+        config,
+        ended: false,
+        outcome: 0,
+        taken: at.place as u32,
+        lines: at.lines,
+        counts,
+        columns,
+        held_len: n,
+        held,
+    }
+}
