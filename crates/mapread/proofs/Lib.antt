@@ -1,6 +1,5 @@
-pub mod WalkLaws
 pub mod NumberLaws
-pub mod IntoLaws
-pub mod AskLaws
-pub mod GiveLaws
+pub mod ListLaws
 pub mod PartLaws
+pub mod SlotLaws
+pub mod GiveLaws

@@ -1,6 +1,6 @@
 -- The numbers of a text's fields as the reader gathers them.
 use Prim.Native.Nat.{ℕ}
-use mathlib.Core.Bool.{_&&_, cond}
+use mathlib.Core.Bool.{Bool, cond}
 use mathlib.Core.List.{List}
 use Rattle.base.specs.Limits.{mostFrame}
 use Rattle.text.specs.Number.{valueFrom}
@@ -8,9 +8,11 @@ use Rattle.json.specs.Num.{isPlain}
 use Rattle.json.specs.Member.{Member, fieldOf}
 use Rattle.mapjson.specs.Names.{firstName, lastName, sourceName, countName, outputName, durationName, mostWord}
 use Rattle.mapjson.specs.Reads.{segmentFields, segmentSaid}
-use Rattle.mapread.specs.declared.number.Digits.{Digits}
 use Rattle.mapread.specs.declared.number.Numbers.{Numbers}
-use Rattle.mapread.specs.declared.number.Three.{Three}
+
+pub record Digits : Type 0 where
+  pub good : Bool
+  pub value : ℕ
 
 -- what a field's value says as digits, and 0 where it is no such number
 abbrev pub fieldIs : (most : ℕ) → List ℕ → Digits
@@ -18,16 +20,6 @@ fieldIs most v = record { good = isPlain most v; value = cond (isPlain most v) (
 
 abbrev pub fieldIn : (name : List ℕ) → (most : ℕ) → List Member → Digits
 fieldIn n most ms = fieldIs most (fieldOf n ms)
-
--- three and three numbers of a segment
-abbrev pub threeOf : (a b c : Digits) → Three
-threeOf a b c = record { good = a .good && (b .good && c .good); a = a .value; b = b .value; c = c .value }
-
-abbrev pub framesOf : List Member → Three
-framesOf ms = threeOf (fieldIn firstName mostFrame ms) (fieldIn lastName mostFrame ms) (fieldIn sourceName mostWord ms)
-
-abbrev pub countOf : List Member → Three
-countOf ms = threeOf (fieldIn countName mostFrame ms) (fieldIn outputName mostWord ms) (fieldIn durationName mostWord ms)
 
 -- the six numbers of a segment
 unfoldable pub sixOf : List ℕ → Numbers

@@ -1,32 +1,65 @@
--- What the parts of the reader answer: the numbers of a list, the number of a map's text, and what is written of it.
+-- What the parts of the reader answer: the object of a text, its numbers, the numbers of its list, its number, and what is written of it.
 use mathlib.Core.Path.{_≡_}
-use mathlib.Core.Bool.{Bool, false, not}
-use mathlib.Core.List.{List}
+use mathlib.Core.Bool.{Bool, true, _&&_, not, cond}
+use mathlib.Core.List.{List, []}
 use Prim.Native.Nat.{ℕ, _*_, _≤_}
-use lib.Dec.{leb}
-use lib.ListN.{length}
-use Rattle.base.specs.Limits.{mostSegments}
+use lib.Dec.{eqb, leb, ltb}
+use lib.ListN.{length, take, getD}
+use Rattle.base.specs.Limits.{mostFrame, mostSegments}
 use Rattle.base.specs.Refusal.{_orElse_, faultUnless}
-use Rattle.base.specs.Put.{put}
+use Rattle.base.specs.Put.{put, placed, placedLength}
+use Rattle.utf8.specs.Utf8.{utf8}
 use Rattle.time.specs.Convert.{timescaleBad}
-use Rattle.segment.specs.declared.segment.Segment.{Segment}
 use Rattle.segment.specs.Segment.{flatOf, mapBad}
+use Rattle.json.specs.Space.{padded}
 use Rattle.json.specs.Str.{stringBytes}
-use Rattle.json.specs.Member.{Member, elementsOf, fieldOf}
+use Rattle.json.specs.Value.{valueWidth}
+use Rattle.json.specs.Member.{Member, bare, elementsOf, fieldOf}
 use Rattle.mapjson.specs.Names.{timescaleName, rateNumName, rateDenName, inputName, framesName, segmentsName, mostPath}
-use Rattle.mapjson.specs.Reads.{numberOf, segmentsFrom}
+use Rattle.mapjson.specs.Reads.{short, numberOf, shallow, segmentsFrom, pathSaid, listSaid, fieldsSaid}
+use Rattle.mapread.specs.declared.fields.Heads.{Heads}
+use Rattle.mapread.specs.declared.fields.HeadSlots.{HeadSlots}
+use Rattle.mapread.specs.declared.reading.Parts.{Parts}
 use Rattle.mapread.specs.declared.reading.Taken.{Taken}
+use Rattle.mapread.specs.Fields.{fieldIn}
+use Rattle.mapread.specs.Slots.{headsIn}
 
--- a list's numbers stand in the room where they keep the limits of maps
-pub record Roomed (xs : List Segment) (bad : Bool) (places : ℕ) (room room′ : List ℕ) : Type 0 where
-  pub limits : bad ≡ mapBad (flatOf xs)
-  pub count : bad ≡ false → places ≡ length (flatOf xs)
-  pub fits : bad ≡ false → places ≤ 6 * mostSegments
-  pub numbers : bad ≡ false → room′ ≡ put (flatOf xs) room
+-- the object that a text is; nothing where it is none
+unfoldable pub objectOf : List ℕ → List ℕ
+objectOf s = cond (utf8 s && (eqb (padded (valueWidth 11) s) (length s) && eqb (getD (bare 11 s) 0 0) 0x7B)) (bare 11 s) []
+
+pub record HeadsOf (ms : List Member) (h : Heads) : Type 0 where
+  pub good-is : h .good ≡ ((short timescaleName ms && (short rateNumName ms && short rateDenName ms)) && (short framesName ms && shallow ms))
+  pub scale-is : h .timescale ≡ fieldIn timescaleName mostFrame ms .value
+  pub num-is : h .«rate_num» ≡ fieldIn rateNumName mostFrame ms .value
+  pub den-is : h .«rate_den» ≡ fieldIn rateDenName mostFrame ms .value
+  pub frames-are : h .frames ≡ fieldIn framesName mostFrame ms .value
+
+-- a list read: the numbers of its segments stand in the room where it has at most 1,024
+pub record ListRead (said : Bool) (es : List (List ℕ)) (good : Bool) (count : ℕ) (room room′ : List ℕ) : Type 0 where
+  pub good-is : good ≡ said
+  pub count-is : good ≡ true → count ≡ length es
+  pub numbers : good ≡ true → count ≤ mostSegments → room′ ≡ put (flatOf (segmentsFrom es)) room
 
 -- the numbers of the list of an object
 abbrev pub flatIn : List Member → List ℕ
 flatIn ms = flatOf (segmentsFrom (elementsOf 9 (fieldOf segmentsName ms)))
+
+pub record Gathered (x : HeadSlots) (input list : List ℕ) (p : Parts) (room room′ said said′ : List ℕ) : Type 0 where
+  pub good-is : p .good ≡ (p .heads .good && (pathSaid input && listSaid list))
+  pub heads-are : p .heads ≡ headsIn x
+  pub count-is : p .good ≡ true → p .count ≡ length (elementsOf 9 list)
+  pub numbers : p .good ≡ true → p .count ≤ mostSegments → room′ ≡ put (flatOf (segmentsFrom (elementsOf 9 list))) room
+  pub path-length : p .«path_len» ≡ placedLength (stringBytes input) said
+  pub path-bytes : said′ ≡ placed (stringBytes input) said
+
+pub record PartsOf (ms : List Member) (p : Parts) (room room′ said said′ : List ℕ) : Type 0 where
+  pub good-is : p .good ≡ fieldsSaid ms
+  pub heads-are : HeadsOf ms (p .heads)
+  pub count-is : p .good ≡ true → p .count ≡ length (elementsOf 9 (fieldOf segmentsName ms))
+  pub numbers : p .good ≡ true → p .count ≤ mostSegments → room′ ≡ put (flatIn ms) room
+  pub path-length : p .good ≡ true → p .«path_len» ≡ length (stringBytes (fieldOf inputName ms))
+  pub path-bytes : p .good ≡ true → said′ ≡ put (stringBytes (fieldOf inputName ms)) said
 
 abbrev pub saidNumber : List Member → (places bytes : ℕ) → ℕ
 saidNumber ms places bytes =
@@ -35,27 +68,30 @@ saidNumber ms places bytes =
     faultUnless (leb (6 * mostSegments) places) 16 orElse
     faultUnless (leb mostPath bytes) 16
 
-pub record AskedBy (ms : List Member) (places bytes number count : ℕ) (room room′ : List ℕ) : Type 0 where
-  pub is-number : number ≡ saidNumber ms places bytes
-  pub count-is : number ≡ 0 → count ≡ length (flatIn ms)
-  pub fits : number ≡ 0 → count ≤ 6 * mostSegments
+-- the same of what the reader has gathered
+unfoldable pub listBad : (count : ℕ) → (room : List ℕ) → Bool
+listBad n room = cond (ltb mostSegments n) true (mapBad (take (6 * n) room))
+
+abbrev pub askNumber : (timescale count : ℕ) → (room : List ℕ) → (places bytes : ℕ) → ℕ
+askNumber d n room places bytes =
+    faultUnless (not (timescaleBad d)) 15 orElse
+    faultUnless (not (listBad n room)) 15 orElse
+    faultUnless (leb (6 * mostSegments) places) 16 orElse
+    faultUnless (leb mostPath bytes) 16
+
+pub record Asked (p : Parts) (places bytes : ℕ) (room : List ℕ) (number : ℕ) : Type 0 where
+  pub is-number : number ≡ askNumber (p .heads .timescale) (p .count) room places bytes
+  pub count-fits : number ≡ 0 → p .count ≤ mostSegments
   pub map-lent : number ≡ 0 → 6 * mostSegments ≤ places
   pub path-lent : number ≡ 0 → mostPath ≤ bytes
-  pub numbers : number ≡ 0 → room′ ≡ put (flatIn ms) room
 
-pub record HeadsOf (ms : List Member) (timescale rateNum rateDen frames : ℕ) : Type 0 where
-  pub scale-is : timescale ≡ numberOf timescaleName ms
-  pub num-is : rateNum ≡ numberOf rateNumName ms
-  pub den-is : rateDen ≡ numberOf rateDenName ms
-  pub frames-are : frames ≡ numberOf framesName ms
-
-pub record Gives (ms : List Member) (flat : List ℕ) (r : Taken) (map map′ path path′ : List ℕ) : Type 0 where
+pub record Gives (h : Heads) (said flat : List ℕ) (r : Taken) (map map′ path path′ : List ℕ) : Type 0 where
   pub number : r .number ≡ 0
-  pub timescale : r .timescale ≡ numberOf timescaleName ms
-  pub rate-num : r .«rate_num» ≡ numberOf rateNumName ms
-  pub rate-den : r .«rate_den» ≡ numberOf rateDenName ms
-  pub frames : r .frames ≡ numberOf framesName ms
+  pub timescale : r .timescale ≡ h .timescale
+  pub rate-num : r .«rate_num» ≡ h .«rate_num»
+  pub rate-den : r .«rate_den» ≡ h .«rate_den»
+  pub frames : r .frames ≡ h .frames
   pub places : r .places ≡ length flat
   pub numbers : map′ ≡ put flat map
-  pub path-length : r .«path_len» ≡ length (stringBytes (fieldOf inputName ms))
-  pub path-bytes : path′ ≡ put (stringBytes (fieldOf inputName ms)) path
+  pub path-length : r .«path_len» ≡ length said
+  pub path-bytes : path′ ≡ put said path

@@ -1,14 +1,18 @@
-// Whether a text is a map's: its fields, and the depth of the others.
-use crate::list::list_good;
+// The fields of a map's text, and the depth of the others.
+use crate::number::Slot;
+use crate::number::all_three;
 use crate::number::both;
-use crate::number::number_of;
+use crate::number::has_number;
+use crate::number::no_slot;
 use crate::number::opens;
+use crate::number::slot_after;
 ghost use mathlib.Core.Path.{_≡_};
-ghost use mathlib.Core.Bool.{_||_, _&&_};
+ghost use mathlib.Core.Bool.{_||_};
 ghost use Rattle.json.specs.Value.{isValue};
-ghost use Rattle.json.specs.Member.{nameOf, valueOf, membersOf, fieldOf};
-ghost use Rattle.mapjson.specs.Names.{timescaleName, rateNumName, rateDenName, inputName, framesName, segmentsName};
-ghost use Rattle.mapjson.specs.Reads.{isKnown, shallow, short, pathSaid, listSaid, fieldsSaid, isMapText};
+ghost use Rattle.json.specs.Member.{nameOf, valueOf, memberOf};
+ghost use Rattle.mapjson.specs.Reads.{isKnown, pathSaid};
+ghost use Rattle.mapread.specs.Slots.{noHeads, seenAfter, keptAfter, headsAfter, wordOf, headsIn};
+ghost use Rattle.mapread.specs.Steps.{objectOf};
 
 // Whether a member has one of the six names.
 fn is_known(i: &[u8]) -> bool
@@ -53,27 +57,8 @@ fn fits_eight(i: &[u8]) -> bool
     is_value(8, json::member_value(10, i))
 }
 
-// Whether all members of the object `s` are such.
-fn shallow(s: &[u8]) -> bool
-    ensures { λ r. ⌜ r ≡ shallow (membersOf 10 (now (s .entry))) ⌝ }
-{
-    let mut t = json::row_in(0x7B, s);
-    while 0 < t.len() {
-        let k = json::item_width(10, 0x7B, t);
-        if k == 0 {
-            return true;
-        }
-        if !fits_eight(base::front(t, k)) {
-            return false;
-        }
-        let u = json::next_row(t, k);
-        t = u;
-    }
-    true
-}
-
 // A path of at most 1,024 bytes.
-fn path_good(v: &[u8]) -> bool
+pub fn path_good(v: &[u8]) -> bool
     ensures { λ r. ⌜ r ≡ pathSaid (now (v .entry)) ⌝ }
 {
     if !opens(v, 0x22) {
@@ -85,46 +70,120 @@ fn path_good(v: &[u8]) -> bool
     false
 }
 
-// The path and the list of the object `s`, and its other members.
-fn parts_good(s: &[u8]) -> bool
-    ensures { λ r. ⌜ r ≡ (pathSaid (fieldOf inputName (membersOf 10 (now (s .entry)))) && (short framesName (membersOf 10 (now (s .entry))) && (listSaid (fieldOf segmentsName (membersOf 10 (now (s .entry)))) && shallow (membersOf 10 (now (s .entry)))))) ⌝ }
-{
-    if !path_good(json::field(10, s, b"input")) {
-        return false;
-    }
-    let a = number_of(10, s, b"total_frames", 4294967295);
-    if !a.good {
-        return false;
-    }
-    if !list_good(json::field(10, s, b"segments")) {
-        return false;
-    }
-    shallow(s)
+// The slots of a map's numbers, whether its path and its list were seen (0: not), and whether the members so far are known or at most 8 deep.
+pub struct HeadSlots {
+    pub timescale: Slot,
+    pub rate_num: Slot,
+    pub rate_den: Slot,
+    pub frames: Slot,
+    pub path: u64,
+    pub list: u64,
+    pub shallow: bool,
 }
 
-// Whether the object `s` has a map's fields.
-fn fields_good(s: &[u8]) -> bool
-    ensures { λ r. ⌜ r ≡ fieldsSaid (membersOf 10 (now (s .entry))) ⌝ }
+pub fn no_heads() -> HeadSlots
+    ensures { λ r. ⌜ r ≡ noHeads ⌝ }
 {
-    let a = number_of(10, s, b"video_timescale", 4294967295);
-    let b = number_of(10, s, b"frame_rate_num", 4294967295);
-    let c = number_of(10, s, b"frame_rate_den", 4294967295);
-    both(a.good, both(b.good, both(c.good, parts_good(s))))
+    HeadSlots {
+        timescale: no_slot(),
+        rate_num: no_slot(),
+        rate_den: no_slot(),
+        frames: no_slot(),
+        path: 0,
+        list: 0,
+        shallow: true,
+    }
 }
 
-// Whether the text is a map's; 23 where it is not.
-pub fn is_map_text(s: &[u8]) -> bool
-    ensures { λ r. ⌜ r ≡ isMapText (now (s .entry)) ⌝ }
+// Whether a field was seen, behind the member `i`.
+fn seen_after(n: u64, i: &[u8], name: &[u8]) -> u64
+    ensures { λ r. ⌜ r ≡ seenAfter (now (name .entry)) n (memberOf 10 (now (i .entry))) ⌝ }
+{
+    if json::member_is(i, name) {
+        return 1;
+    }
+    n
+}
+
+// The value `v` of a field that was seen `n` times, behind the member `i`: the first value, and nothing behind a second.
+pub fn kept<'a>(n: u64, v: &'a [u8], i: &'a [u8], name: &[u8]) -> &'a [u8]
+    ensures { λ r. ⌜ now r ≡ keptAfter (now (name .entry)) n (now (v .entry)) (memberOf 10 (now (i .entry))) ⌝ }
+{
+    if json::member_is(i, name) {
+        if n == 0 {
+            return json::member_value(10, i);
+        }
+        return base::front(i, 0);
+    }
+    v
+}
+
+// The slots behind the member `i`.
+pub fn heads_after(x: HeadSlots, i: &[u8]) -> HeadSlots
+    ensures { λ r. ⌜ r ≡ headsAfter x (memberOf 10 (now (i .entry))) ⌝ }
+{
+    HeadSlots {
+        timescale: slot_after(x.timescale, 10, i, b"video_timescale", 4294967295),
+        rate_num: slot_after(x.rate_num, 10, i, b"frame_rate_num", 4294967295),
+        rate_den: slot_after(x.rate_den, 10, i, b"frame_rate_den", 4294967295),
+        frames: slot_after(x.frames, 10, i, b"total_frames", 4294967295),
+        path: seen_after(x.path, i, b"input"),
+        list: seen_after(x.list, i, b"segments"),
+        shallow: both(x.shallow, fits_eight(i)),
+    }
+}
+
+// The numbers of a map that are no segment's, and whether all are good and no other member is too deep.
+pub struct Heads {
+    pub good: bool,
+    pub timescale: u32,
+    pub rate_num: u32,
+    pub rate_den: u32,
+    pub frames: u32,
+}
+
+// A number of 32 bits; 0 where it is larger.
+fn word(x: Slot) -> u32
+    ensures { λ r. ⌜ r ≡ wordOf (x .value) ⌝ }
+{
+    if 4294967295 < x.value {
+        return 0;
+    }
+    x.value as u32
+}
+
+pub fn heads_of(x: HeadSlots) -> Heads
+    ensures { λ r. ⌜ r ≡ headsIn x ⌝ }
+{
+    let front = all_three(x.timescale, x.rate_num, x.rate_den);
+    Heads {
+        good: both(front, both(has_number(x.frames), x.shallow)),
+        timescale: word(x.timescale),
+        rate_num: word(x.rate_num),
+        rate_den: word(x.rate_den),
+        frames: word(x.frames),
+    }
+}
+
+// The object that a text is; nothing where it is none.
+pub fn map_object(s: &[u8]) -> &[u8]
+    ensures { λ r. ⌜ now r ≡ objectOf (now (s .entry)) ⌝ }
 {
     if !utf8::is_utf8(s) {
-        return false;
+        return base::front(s, 0);
     }
-    if json::item_width(11, 0x5B, s) != s.len() {
-        return false;
+    let t = base::rest(s, json::spaces(s));
+    let w = json::value_width(11, t);
+    if w == 0 {
+        return base::front(s, 0);
     }
-    let t = json::bare(11, s);
-    if !opens(t, 0x7B) {
-        return false;
+    let u = base::rest(t, w);
+    if json::spaces(u) != u.len() {
+        return base::front(s, 0);
     }
-    fields_good(t)
+    let o = base::front(t, w);
+    if !opens(o, 0x7B) {
+        return base::front(s, 0);
+    }
+    o
 }

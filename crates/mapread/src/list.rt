@@ -3,62 +3,16 @@ use crate::number::Numbers;
 use crate::number::opens;
 use crate::number::six;
 ghost use mathlib.Core.Path.{_≡_};
-ghost use mathlib.Core.Bool.{true};
+ghost use mathlib.Core.Bool.{cond};
 ghost use mathlib.Core.List.{[], _∷_};
 ghost use Prim.Native.Nat.{_+_, _*_, _≤_};
+ghost use lib.Dec.{ltb};
 ghost use lib.ListN.{length};
-ghost use Rattle.base.specs.Put.{put, putAt};
-ghost use Rattle.segment.specs.Segment.{flatOf};
+ghost use Rattle.base.specs.Limits.{mostSegments};
+ghost use Rattle.base.specs.Put.{putAt};
 ghost use Rattle.json.specs.Member.{elementsOf};
-ghost use Rattle.mapjson.specs.Reads.{segmentsSaid, segmentsFrom, listSaid};
-
-// Whether each element of the array `s` is a segment.
-fn segments_good(s: &[u8]) -> bool
-    ensures { λ r. ⌜ r ≡ segmentsSaid (elementsOf 9 (now (s .entry))) ⌝ }
-{
-    let mut t = json::row_in(0x5B, s);
-    while 0 < t.len() {
-        let k = json::item_width(9, 0x5B, t);
-        if k == 0 {
-            return true;
-        }
-        let x = six(json::bare(9, base::front(t, k)));
-        if !x.good {
-            return false;
-        }
-        let u = json::next_row(t, k);
-        t = u;
-    }
-    true
-}
-
-// Whether `v` is an array of segments.
-pub fn list_good(v: &[u8]) -> bool
-    ensures { λ r. ⌜ r ≡ listSaid (now (v .entry)) ⌝ }
-{
-    if !opens(v, 0x5B) {
-        return false;
-    }
-    segments_good(v)
-}
-
-// How many elements the array `s` has.
-pub fn list_count(s: &[u8]) -> usize
-    ensures { λ r. ⌜ r ≡ length (elementsOf 9 (now (s .entry))) ⌝ }
-{
-    let mut t = json::row_in(0x5B, s);
-    let mut n: usize = 0;
-    while 0 < t.len() {
-        let k = json::item_width(9, 0x5B, t);
-        if k == 0 {
-            return n;
-        }
-        n += 1;
-        let u = json::next_row(t, k);
-        t = u;
-    }
-    n
-}
+ghost use Rattle.mapjson.specs.Reads.{segmentsSaid, listSaid};
+ghost use Rattle.mapread.specs.Steps.{ListRead};
 
 // Writes six numbers from the place `at` on.
 fn six_at(map: &mut [u64], at: usize, x: Numbers)
@@ -70,21 +24,60 @@ fn six_at(map: &mut [u64], at: usize, x: Numbers)
     base::pair_at(map, at + 4, x.output, x.duration);
 }
 
-// Writes the numbers of the segments of the array `s`, six to each.
-pub fn list_into(s: &[u8], map: &mut [u64])
-    requires { ⌜ (segmentsSaid (elementsOf 9 (now s)) ≡ true) × (6 * length (elementsOf 9 (now s)) ≤ length (now map)) ⌝ }
-    ensures { λ _. ⌜ now (map .exit) ≡ put (flatOf (segmentsFrom (elementsOf 9 (now (s .entry))))) (now (map .entry)) ⌝ }
+// Writes the numbers of the segment `n`, where there is room for it.
+fn segment_at(map: &mut [u64], n: usize, x: Numbers)
+    requires { ⌜ length (now map) ≡ 6 * mostSegments ⌝ }
+    ensures { λ _. ⌜ now (map .exit) ≡ cond (ltb n 1024) (putAt (6 * n) (x .first ∷ x .last ∷ x .source ∷ x .frames ∷ x .output ∷ x .duration ∷ []) (now (map .entry))) (now (map .entry)) ⌝ }
+{
+    if n < 1024 {
+        six_at(map, 6 * n, x);
+        return;
+    }
+}
+
+// A list read: whether it is one of segments, and how many it has.
+pub struct Listed {
+    pub good: bool,
+    pub count: usize,
+}
+
+fn answer(good: bool, count: usize) -> Listed
+    ensures { λ r. ⌜ (r .good ≡ good) × (r .count ≡ count) ⌝ }
+{
+    Listed { good, count }
+}
+
+// The numbers of the segments of the array `s` go to `map`, six to each, as many as there is room for.
+fn segments_into(s: &[u8], map: &mut [u64]) -> Listed
+    requires { ⌜ length (now map) ≡ 6 * mostSegments ⌝ }
+    ensures { λ r. ⌜ ListRead (segmentsSaid (elementsOf 9 (now (s .entry)))) (elementsOf 9 (now (s .entry))) (r .good) (r .count) (now (map .entry)) (now (map .exit)) ⌝ }
 {
     let mut t = json::row_in(0x5B, s);
-    let mut at: usize = 0;
+    let mut n: usize = 0;
     while 0 < t.len() {
         let k = json::item_width(9, 0x5B, t);
         if k == 0 {
-            return;
+            return answer(true, n);
         }
-        six_at(map, at, six(json::bare(9, base::front(t, k))));
-        at += 6;
+        let x = six(json::bare(9, base::front(t, k)));
+        if !x.good {
+            return answer(false, 0);
+        }
+        segment_at(map, n, x);
+        n += 1;
         let u = json::next_row(t, k);
         t = u;
     }
+    answer(true, n)
+}
+
+// The same of a value that may be no array.
+pub fn list_into(v: &[u8], map: &mut [u64]) -> Listed
+    requires { ⌜ length (now map) ≡ 6 * mostSegments ⌝ }
+    ensures { λ r. ⌜ ListRead (listSaid (now (v .entry))) (elementsOf 9 (now (v .entry))) (r .good) (r .count) (now (map .entry)) (now (map .exit)) ⌝ }
+{
+    if !opens(v, 0x5B) {
+        return answer(false, 0);
+    }
+    segments_into(v, map)
 }

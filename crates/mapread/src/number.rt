@@ -4,18 +4,12 @@ ghost use mathlib.Core.Path.{_≡_};
 ghost use mathlib.Core.Bool.{_&&_};
 ghost use lib.Dec.{eqb};
 ghost use lib.ListN.{getD};
-ghost use Rattle.json.specs.Member.{membersOf};
-ghost use Rattle.mapjson.specs.Reads.{segmentFields};
-ghost use Rattle.mapread.specs.Fields.{fieldIn, framesOf, countOf, sixOf};
+ghost use Rattle.json.specs.Member.{memberOf, membersOf};
+ghost use Rattle.mapread.specs.Fields.{sixOf};
+ghost use Rattle.mapread.specs.Slots.{noSlot, noSlots, slotWith, slotAfter, slotsAfter, slotsFrom};
 
-// The largest numbers of 32 and of 64 bits.
+// The largest number of 64 bits.
 pub const MOST_WORD: u64 = 18446744073709551615;
-
-// A field's number; 0 where it has none.
-pub struct Digits {
-    pub good: bool,
-    pub value: u64,
-}
 
 // The numbers of a segment, where all are good.
 pub struct Numbers {
@@ -26,22 +20,6 @@ pub struct Numbers {
     pub frames: u64,
     pub output: u64,
     pub duration: u64,
-}
-
-// The only field of this name in the object `s`, as digits.
-pub fn number_of(depth: usize, s: &[u8], name: &[u8], most: u64) -> Digits
-    ensures { λ r. ⌜ r ≡ fieldIn (now (name .entry)) most (membersOf depth (now (s .entry))) ⌝ }
-{
-    match json::plain_value(json::field(depth, s, name), most) {
-        Plain::Value(v) => Digits {
-            good: true,
-            value: v,
-        },
-        Plain::Bad => Digits {
-            good: false,
-            value: 0,
-        },
-    }
 }
 
 pub fn both(a: bool, b: bool) -> bool
@@ -63,55 +41,130 @@ pub fn opens(s: &[u8], b: u8) -> bool
     false
 }
 
-// Three numbers of a segment, where all are good.
-pub struct Three {
-    pub good: bool,
-    pub a: u64,
-    pub b: u64,
-    pub c: u64,
+// What stands of a field so far: 0 nothing, 1 a number, 2 no number or more than one value.
+pub struct Slot {
+    pub state: u64,
+    pub value: u64,
 }
 
-fn frames_and_source(v: &[u8]) -> Three
-    ensures { λ r. ⌜ r ≡ framesOf (segmentFields (now (v .entry))) ⌝ }
+// A field's slot, with one value more.
+fn slot_with(x: Slot, v: &[u8], most: u64) -> Slot
+    ensures { λ r. ⌜ r ≡ slotWith most x (now (v .entry)) ⌝ }
 {
-    let a = number_of(8, v, b"source_start_frame", 4294967295);
-    let b = number_of(8, v, b"source_end_frame", 4294967295);
-    let c = number_of(8, v, b"source_start_dts", MOST_WORD);
-    Three {
-        good: both(a.good, both(b.good, c.good)),
-        a: a.value,
-        b: b.value,
-        c: c.value,
+    if x.state != 0 {
+        return Slot { state: 2, value: 0 };
+    }
+    match json::plain_value(v, most) {
+        Plain::Value(n) => Slot { state: 1, value: n },
+        Plain::Bad => Slot { state: 2, value: 0 },
     }
 }
 
-fn count_and_output(v: &[u8]) -> Three
-    ensures { λ r. ⌜ r ≡ countOf (segmentFields (now (v .entry))) ⌝ }
+// A field's slot behind the member `i`.
+pub fn slot_after(x: Slot, depth: usize, i: &[u8], name: &[u8], most: u64) -> Slot
+    ensures { λ r. ⌜ r ≡ slotAfter (now (name .entry)) most x (memberOf depth (now (i .entry))) ⌝ }
 {
-    let a = number_of(8, v, b"frame_count", 4294967295);
-    let b = number_of(8, v, b"output_start", MOST_WORD);
-    let c = number_of(8, v, b"duration", MOST_WORD);
-    Three {
-        good: both(a.good, both(b.good, c.good)),
-        a: a.value,
-        b: b.value,
-        c: c.value,
+    if json::member_is(i, name) {
+        return slot_with(x, json::member_value(depth, i), most);
     }
+    x
+}
+
+// The slots of a segment's fields.
+pub struct Slots {
+    pub first: Slot,
+    pub last: Slot,
+    pub source: Slot,
+    pub frames: Slot,
+    pub output: Slot,
+    pub duration: Slot,
+}
+
+pub fn no_slot() -> Slot
+    ensures { λ r. ⌜ r ≡ noSlot ⌝ }
+{
+    Slot { state: 0, value: 0 }
+}
+
+fn no_slots() -> Slots
+    ensures { λ r. ⌜ r ≡ noSlots ⌝ }
+{
+    Slots {
+        first: no_slot(),
+        last: no_slot(),
+        source: no_slot(),
+        frames: no_slot(),
+        output: no_slot(),
+        duration: no_slot(),
+    }
+}
+
+// A segment's slots behind the member `i`.
+fn slots_after(x: Slots, i: &[u8]) -> Slots
+    ensures { λ r. ⌜ r ≡ slotsAfter x (memberOf 8 (now (i .entry))) ⌝ }
+{
+    Slots {
+        first: slot_after(x.first, 8, i, b"source_start_frame", 4294967295),
+        last: slot_after(x.last, 8, i, b"source_end_frame", 4294967295),
+        source: slot_after(x.source, 8, i, b"source_start_dts", MOST_WORD),
+        frames: slot_after(x.frames, 8, i, b"frame_count", 4294967295),
+        output: slot_after(x.output, 8, i, b"output_start", MOST_WORD),
+        duration: slot_after(x.duration, 8, i, b"duration", MOST_WORD),
+    }
+}
+
+// The slots of the object `v`, in one walk.
+fn slots_of(v: &[u8]) -> Slots
+    ensures { λ r. ⌜ r ≡ slotsFrom noSlots (membersOf 8 (now (v .entry))) ⌝ }
+{
+    let mut x = no_slots();
+    let mut t = json::row_in(0x7B, v);
+    while 0 < t.len() {
+        let k = json::item_width(8, 0x7B, t);
+        if k == 0 {
+            return x;
+        }
+        let y = slots_after(x, base::front(t, k));
+        x = y;
+        let u = json::next_row(t, k);
+        t = u;
+    }
+    x
+}
+
+// Whether a slot has a number.
+pub fn has_number(x: Slot) -> bool
+    ensures { λ r. ⌜ r ≡ eqb (x .state) 1 ⌝ }
+{
+    x.state == 1
+}
+
+pub fn all_three(a: Slot, b: Slot, c: Slot) -> bool
+    ensures { λ r. ⌜ r ≡ (eqb (a .state) 1 && (eqb (b .state) 1 && eqb (c .state) 1)) ⌝ }
+{
+    both(has_number(a), both(has_number(b), has_number(c)))
 }
 
 // A segment's numbers.
 pub fn six(v: &[u8]) -> Numbers
     ensures { λ r. ⌜ r ≡ sixOf (now (v .entry)) ⌝ }
 {
-    let x = frames_and_source(v);
-    let y = count_and_output(v);
+    let x = slots_of(v);
+    let front = all_three(x.first, x.last, x.source);
+    let back = all_three(x.frames, x.output, x.duration);
+    let a = x.first;
+    let b = x.last;
+    let c = x.source;
+    let d = x.frames;
+    let e = x.output;
+    let f = x.duration;
     Numbers {
-        good: both(opens(v, 0x7B), both(x.good, y.good)),
-        first: x.a,
-        last: x.b,
-        source: x.c,
-        frames: y.a,
-        output: y.b,
-        duration: y.c,
+        good: both(opens(v, 0x7B), both(front, back)),
+        first: a.value,
+        last: b.value,
+        source: c.value,
+        frames: d.value,
+        output: e.value,
+        duration: f.value,
     }
 }

@@ -1,19 +1,23 @@
 // A map read.
-use crate::fields::is_map_text;
-use crate::list::list_count;
+use crate::fields::HeadSlots;
+use crate::fields::Heads;
+use crate::fields::heads_after;
+use crate::fields::heads_of;
+use crate::fields::kept;
+use crate::fields::map_object;
+use crate::fields::no_heads;
+use crate::fields::path_good;
 use crate::list::list_into;
-use crate::number::number_of;
+use crate::number::both;
 ghost use mathlib.Core.Path.{_≡_};
-ghost use mathlib.Core.Bool.{true};
 ghost use Prim.Native.Nat.{_*_, _≤_};
 ghost use lib.ListN.{length, take};
 ghost use Rattle.base.specs.Limits.{mostSegments};
-ghost use Rattle.base.specs.Put.{put};
-ghost use Rattle.json.specs.Member.{elementsOf, membersOf};
+ghost use Rattle.base.specs.Put.{placed, placedLength};
+ghost use Rattle.json.specs.Member.{membersOf};
 ghost use Rattle.mapjson.specs.Names.{mostPath};
-ghost use Rattle.mapjson.specs.Reads.{short, numberOf, segmentsSaid, segmentsFrom, fieldsSaid};
 ghost use Rattle.mapread.specs.Answer.{noneTaken, Reads};
-ghost use Rattle.mapread.specs.Steps.{Roomed, AskedBy, HeadsOf, Gives};
+ghost use Rattle.mapread.specs.Steps.{Gathered, PartsOf, listBad, Asked, Gives};
 
 // A map read: `places` are the numbers written, six to a segment.
 pub struct Taken {
@@ -40,112 +44,115 @@ fn refused(number: u32) -> Taken
     }
 }
 
-// A list's numbers: how many, and whether they break a limit of maps.
-struct Listed {
-    bad: bool,
-    places: usize,
+// What the object of a map says: whether it is one, the numbers that are no segment's, how many segments it has and how long its path is.
+pub struct Parts {
+    pub good: bool,
+    pub heads: Heads,
+    pub count: usize,
+    pub path_len: usize,
 }
 
-// The numbers of an array of segments go to `room`, where they keep the limits.
-fn list_room(list: &[u8], room: &mut [u64]) -> Listed
-    requires { ⌜ (segmentsSaid (elementsOf 9 (now list)) ≡ true) × (length (now room) ≡ 6 * mostSegments) ⌝ }
-    ensures { λ r. ⌜ Roomed (segmentsFrom (elementsOf 9 (now (list .entry)))) (r .bad) (r .places) (now (room .entry)) (now (room .exit)) ⌝ }
+// They, of a map's slots, its path's field and its list; the numbers of the segments go to `room`, and the path to `said`.
+fn gather(x: HeadSlots, input: &[u8], list: &[u8], room: &mut [u64], said: &mut [u8]) -> Parts
+    requires { ⌜ length (now room) ≡ 6 * mostSegments ⌝ }
+    ensures { λ r. ⌜ Gathered x (now (input .entry)) (now (list .entry)) r (now (room .entry)) (now (room .exit)) (now (said .entry)) (now (said .exit)) ⌝ }
 {
-    let count = list_count(list);
+    let h = heads_of(x);
+    let l = list_into(list, room);
+    let k = json::string_bytes(input, said);
+    Parts {
+        good: both(h.good, both(path_good(input), l.good)),
+        heads: h,
+        count: l.count,
+        path_len: k,
+    }
+}
+
+// They, of the object `s`, in one walk over its members.
+fn parts_of(s: &[u8], room: &mut [u64], said: &mut [u8]) -> Parts
+    requires { ⌜ (length (now room) ≡ 6 * mostSegments) × (length (now said) ≡ mostPath) ⌝ }
+    ensures { λ r. ⌜ PartsOf (membersOf 10 (now (s .entry))) r (now (room .entry)) (now (room .exit)) (now (said .entry)) (now (said .exit)) ⌝ }
+{
+    let mut x = no_heads();
+    let mut input = base::front(s, 0);
+    let mut list = base::front(s, 0);
+    let mut t = json::row_in(0x7B, s);
+    while 0 < t.len() {
+        let k = json::item_width(10, 0x7B, t);
+        if k == 0 {
+            return gather(x, input, list, room, said);
+        }
+        let i = base::front(t, k);
+        let p = kept(x.path, input, i, b"input");
+        input = p;
+        let l = kept(x.list, list, i, b"segments");
+        list = l;
+        let y = heads_after(x, i);
+        x = y;
+        let u = json::next_row(t, k);
+        t = u;
+    }
+    gather(x, input, list, room, said)
+}
+
+// Whether `count` segments whose numbers stand in `room` break a limit of maps.
+fn list_bad(count: usize, room: &[u64]) -> bool
+    ensures { λ r. ⌜ r ≡ listBad count (now (room .entry)) ⌝ }
+{
     if 1024 < count {
-        return Listed {
-            bad: true,
-            places: 0,
-        };
+        return true;
     }
-    list_into(list, room);
-    let places = 6 * count;
-    Listed {
-        bad: segment::map_bad(base::words_front(room, places)),
-        places,
-    }
-}
-
-// A field of 32 bits that is known to be good.
-fn short_of(object: &[u8], name: &[u8]) -> u32
-    requires { ⌜ short (now name) (membersOf 10 (now object)) ≡ true ⌝ }
-    ensures { λ r. ⌜ r ≡ numberOf (now (name .entry)) (membersOf 10 (now (object .entry))) ⌝ }
-{
-    let x = number_of(10, object, name, 4294967295);
-    x.value as u32
-}
-
-// A reader's number, and how many numbers stand in its room where it is 0.
-struct Asked {
-    number: u32,
-    places: usize,
-}
-
-fn stop(number: u32) -> Asked
-    ensures { λ r. ⌜ r .number ≡ number ⌝ }
-{
-    Asked { number, places: 0 }
+    segment::map_bad(base::words_front(room, 6 * count))
 }
 
 // The number of a text that is a map's: 15, then 16.
-fn said_number(object: &[u8], places: usize, bytes: usize, room: &mut [u64]) -> Asked
-    requires { ⌜ (fieldsSaid (membersOf 10 (now object)) ≡ true) × (length (now room) ≡ 6 * mostSegments) ⌝ }
-    ensures { λ r. ⌜ AskedBy (membersOf 10 (now (object .entry))) places bytes (r .number) (r .places) (now (room .entry)) (now (room .exit)) ⌝ }
+fn said_number(p: Parts, room: &[u64], places: usize, bytes: usize) -> u32
+    ensures { λ r. ⌜ Asked p places bytes (now (room .entry)) r ⌝ }
 {
-    if time::timescale_bad(short_of(object, b"video_timescale")) {
-        return stop(15);
+    let h = p.heads;
+    if time::timescale_bad(h.timescale) {
+        return 15;
     }
-    let l = list_room(json::field(10, object, b"segments"), room);
-    if l.bad {
-        return stop(15);
+    if list_bad(p.count, room) {
+        return 15;
     }
     if places < 6144 {
-        return stop(16);
+        return 16;
     }
     if bytes < 1024 {
-        return stop(16);
+        return 16;
     }
-    Asked {
-        number: 0,
-        places: l.places,
-    }
+    0
 }
 
-// The numbers of a map that are no segment's.
-struct Heads {
-    timescale: u32,
-    rate_num: u32,
-    rate_den: u32,
-    frames: u32,
-}
-
-fn heads_of(object: &[u8]) -> Heads
-    requires { ⌜ fieldsSaid (membersOf 10 (now object)) ≡ true ⌝ }
-    ensures { λ r. ⌜ HeadsOf (membersOf 10 (now (object .entry))) (r .timescale) (r .«rate_num») (r .«rate_den») (r .frames) ⌝ }
+fn numbers_into(map: &mut [u64], room: &[u64], n: usize)
+    ensures { λ _. ⌜ now (map .exit) ≡ placed (take n (now (room .entry))) (now (map .entry)) ⌝ }
 {
-    Heads {
-        timescale: short_of(object, b"video_timescale"),
-        rate_num: short_of(object, b"frame_rate_num"),
-        rate_den: short_of(object, b"frame_rate_den"),
-        frames: short_of(object, b"total_frames"),
-    }
-}
-
-// What the object of a map says, written: its numbers stand in `room`.
-fn give(object: &[u8], room: &[u64], n: usize, map: &mut [u64], path: &mut [u8]) -> Taken
-    requires { ⌜ (fieldsSaid (membersOf 10 (now object)) ≡ true) × (n ≤ length (now room)) × (length (now room) ≤ length (now map)) × (mostPath ≤ length (now path)) ⌝ }
-    ensures { λ r. ⌜ Gives (membersOf 10 (now (object .entry))) (take n (now (room .entry))) r (now (map .entry)) (now (map .exit)) (now (path .entry)) (now (path .exit)) ⌝ }
-{
-    let h = heads_of(object);
     base::words(map, base::words_front(room, n));
-    let k = json::string_bytes(json::field(10, object, b"input"), path);
+}
+
+fn path_into(path: &mut [u8], said: &[u8], n: usize) -> usize
+    ensures { λ r. ⌜ (r ≡ placedLength (take n (now (said .entry))) (now (path .entry))) × (now (path .exit) ≡ placed (take n (now (said .entry))) (now (path .entry))) ⌝ }
+{
+    base::bytes(path, base::front(said, n))
+}
+
+// What a map says, written: the numbers of its segments stand in `room`, and its path in `said`.
+fn give(p: Parts, said: &[u8], room: &[u64], map: &mut [u64], path: &mut [u8]) -> Taken
+    requires { ⌜ (6 * p .count ≤ length (now room)) × (length (now room) ≤ length (now map)) × (p .«path_len» ≤ length (now said)) × (length (now said) ≤ length (now path)) ⌝ }
+    ensures { λ r. ⌜ Gives (p .heads) (take (p .«path_len») (now (said .entry))) (take (6 * p .count) (now (room .entry))) r (now (map .entry)) (now (map .exit)) (now (path .entry)) (now (path .exit)) ⌝ }
+{
+    let h = p.heads;
+    let places = 6 * p.count;
+    numbers_into(map, room, places);
+    let k = path_into(path, said, p.path_len);
     Taken {
         number: 0,
         timescale: h.timescale,
         rate_num: h.rate_num,
         rate_den: h.rate_den,
         frames: h.frames,
-        places: n,
+        places,
         path_len: k,
     }
 }
@@ -155,14 +162,16 @@ fn give(object: &[u8], room: &[u64], n: usize, map: &mut [u64], path: &mut [u8])
 pub fn read_map(text: &[u8], map: &mut [u64], path: &mut [u8]) -> Taken
     ensures { λ r. ⌜ Reads (now (text .entry)) r (now (map .entry)) (now (map .exit)) (now (path .entry)) (now (path .exit)) ⌝ }
 {
-    if !is_map_text(text) {
+    let object = map_object(text);
+    let mut room = [0u64; 6144];
+    let mut said = [0u8; 1024];
+    let p = parts_of(object, &mut room, &mut said);
+    if !p.good {
         return refused(23);
     }
-    let object = json::bare(11, text);
-    let mut room = [0u64; 6144];
-    let a = said_number(object, map.len(), path.len(), &mut room);
-    if a.number != 0 {
-        return refused(a.number);
+    let n = said_number(p, &room, map.len(), path.len());
+    if n != 0 {
+        return refused(n);
     }
-    give(object, &room, a.places, map, path)
+    give(p, &said, &room, map, path)
 }

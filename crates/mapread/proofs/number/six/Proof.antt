@@ -1,19 +1,22 @@
-use Rattle.mapread.proofs.NumberLaws.{six-is}
+use Rattle.mapread.proofs.SlotLaws.{six-is}
 use borrow.Author.Needs.{needs}
 use Rattle.mapread.proofs.number.six.Statement.{statement}
 use Rattle.mapread.proofs.number.six.Tie as tie
 use Rattle.mapread.proofs.number.six.Reads as reads
 use Rattle.mapread.proofs.number.six.Lts as lts
+use Rattle.mapread.proofs.number.all_three.Reads as all-three-reads
 use Rattle.mapread.proofs.number.both.Reads as both-reads
-use Rattle.mapread.proofs.number.count_and_output.Reads as count-and-output-reads
-use Rattle.mapread.proofs.number.frames_and_source.Reads as frames-and-source-reads
 use Rattle.mapread.proofs.number.opens.Reads as opens-reads
+use Rattle.mapread.proofs.number.slots_of.Reads as slots-of-reads
 
-frames-and-source-requires : tie.Need-frames-and-source-requires
-frames-and-source-requires c κs = search needs
+slots-of-requires : tie.Need-slots-of-requires
+slots-of-requires c κs = search needs
 
-count-and-output-requires : tie.Need-count-and-output-requires
-count-and-output-requires c κs = search needs
+all-three-requires : tie.Need-all-three-requires
+all-three-requires c κs = search needs
+
+all-three-requires-2 : tie.Need-all-three-requires-2
+all-three-requires-2 c κs = search needs
 
 opens-requires : tie.Need-opens-requires
 opens-requires c κs = search needs
@@ -31,8 +34,9 @@ pub six-spec : {M : Type 1} → statement M
 six-spec =
     tie.close
     (tie.spec
-    frames-and-source-requires
-    count-and-output-requires
+    slots-of-requires
+    all-three-requires
+    all-three-requires-2
     opens-requires
     both-requires
     both-requires-2

@@ -4,29 +4,17 @@ use Rattle.mapread.proofs.reading.give.Statement.{statement}
 use Rattle.mapread.proofs.reading.give.Tie as tie
 use Rattle.mapread.proofs.reading.give.Reads as reads
 use Rattle.mapread.proofs.reading.give.Lts as lts
-use Rattle.base.proofs.words_front.Reads as words-front-reads
-use Rattle.base.proofs.words.Reads as words-reads
-use Rattle.json.proofs.field.Reads as field-reads
-use Rattle.json.proofs.string_bytes.Reads as string-bytes-reads
-use Rattle.mapread.proofs.reading.heads_of.Reads as heads-of-reads
+use Rattle.mapread.proofs.reading.numbers_into.Reads as numbers-into-reads
+use Rattle.mapread.proofs.reading.path_into.Reads as path-into-reads
 
-heads-of-requires : tie.Need-heads-of-requires
-heads-of-requires c κs = search needs
+mul-places : tie.Need-mul-places
+mul-places c = search needs
 
-words-front-requires : tie.Need-words-front-requires
-words-front-requires c κs = search needs
+numbers-into-requires : tie.Need-numbers-into-requires
+numbers-into-requires c κs = search needs
 
-words-requires : tie.Need-words-requires
-words-requires c κs = search needs
-
-slice-aggregate-field : tie.Need-slice-aggregate-field
-slice-aggregate-field c = search needs
-
-field-requires : tie.Need-field-requires
-field-requires c κs = search needs
-
-string-bytes-requires : tie.Need-string-bytes-requires
-string-bytes-requires c κs = search needs
+path-into-requires : tie.Need-path-into-requires
+path-into-requires c κs = search needs
 
 same-length : tie.Need-same-length
 same-length c = search needs
@@ -41,12 +29,9 @@ pub give-spec : {M : Type 1} → statement M
 give-spec =
     tie.close
     (tie.spec
-    heads-of-requires
-    words-front-requires
-    words-requires
-    slice-aggregate-field
-    field-requires
-    string-bytes-requires
+    mul-places
+    numbers-into-requires
+    path-into-requires
     same-length
     same-length-2
     returns)

@@ -1,0 +1,194 @@
+-- Laws of the list of segments, read element by element.
+use mathlib.Core.Path.{_≡_, refl, sym, ap, _∙_}
+use mathlib.Core.Bool.{Bool, true, false, _&&_, cond, not, true≢false}
+use mathlib.Core.List.{List, [], _∷_, _++_, append-assoc}
+use Prim.Native.Nat.{ℕ, zero, suc, _+_, _*_, _^_, _≤_, _<_}
+use native.Mathlib.Omega.{arith}
+use borrow.Author.Tests.{not-true, not-false, lt-ltb, le-ltb}
+use lib.Dec.{eqb, ltb}
+use lib.ListN.{length, take, getD, length-append}
+use lib.Seq.{length-take-le}
+use Rattle.base.specs.Limits.{mostFrame, mostSegments}
+use Rattle.base.specs.Put.{put, putAt}
+use Rattle.base.proofs.Laws.{yes!, no! }
+use Rattle.base.proofs.PutLaws.{putAt-zero, putAt-nil, putAt-put, put-at-front}
+use Rattle.segment.specs.Segment.{numbersOf, flatOf}
+use Rattle.json.specs.Value.{valueWidth}
+use Rattle.json.specs.Walk.{itemWidth, itemsOf, rowIn, nextRow}
+use Rattle.json.specs.Member.{bare, baredAll, elementsOf, fieldOf}
+use Rattle.json.proofs.MemberLaws.{items-none, items-end, items-step, next-less, elements-are}
+use Rattle.mapjson.specs.Names.{firstName, lastName, sourceName, countName, outputName, durationName, mostWord}
+use Rattle.mapjson.specs.Reads.{short, long, segmentFields, segmentSaid, segmentFrom, segmentsSaid, segmentsFrom, listSaid}
+use Rattle.mapread.specs.declared.number.Numbers.{Numbers}
+use Rattle.mapread.specs.Fields.{sixOf}
+use Rattle.mapread.specs.Steps.{ListRead}
+use Rattle.mapread.proofs.NumberLaws.{said-value}
+
+-- ---- elements that are segments
+abbrev pub elementsIn : List ℕ → List (List ℕ)
+elementsIn t = baredAll 9 (itemsOf 9 0x5B t)
+
+abbrev pub saidIn : List ℕ → Bool
+saidIn t = segmentsSaid (elementsIn t)
+
+pub elements-start : (s t : List ℕ) → t ≡ rowIn 0x5B s → elementsOf 9 s ≡ elementsIn t
+elements-start s t e = elements-are 9 s ∙ ap elementsIn (sym e)
+
+pub elements-none : (k : ℕ) (t : List ℕ) → k ≡ itemWidth 0x5B (valueWidth 9) t → k ≡ 0 → elementsIn t ≡ []
+elements-none k t e z = ap (baredAll 9) (items-none 9 0x5B k t e z)
+
+pub elements-end : (t : List ℕ) → length t ≤ 0 → elementsIn t ≡ []
+elements-end t h = ap (baredAll 9) (items-end 9 0x5B t h)
+
+pub elements-step : (k : ℕ) (t u i v : List ℕ) → k ≡ itemWidth 0x5B (valueWidth 9) t → (k ≡ 0 → ⊥) → i ≡ take k t → v ≡ bare 9 i → u ≡ nextRow k t → elementsIn t ≡ v ∷ elementsIn u
+elements-step k t u i v e z ei ev eu = ap (baredAll 9) (items-step 9 0x5B k t u i e z ei eu) ∙ ap (λ (x : List ℕ). x ∷ elementsIn u) (sym ev)
+
+pub said-start : (s t : List ℕ) → t ≡ rowIn 0x5B s → segmentsSaid (elementsOf 9 s) ≡ saidIn t
+said-start s t e = ap segmentsSaid (elements-start s t e)
+
+abbrev pub sixNumbers : Numbers → List ℕ
+sixNumbers x = x .first ∷ x .last ∷ x .source ∷ x .frames ∷ x .output ∷ x .duration ∷ []
+
+abbrev pub flatLeft : List ℕ → List ℕ
+flatLeft t = flatOf (segmentsFrom (elementsIn t))
+
+pub left : (x y : Bool) → (x && y) ≡ true → x ≡ true
+left true y q = refl
+left false y q = absurd (true≢false (sym q))
+
+pub right : (x y : Bool) → (x && y) ≡ true → y ≡ true
+right true y q = q
+right false y q = absurd (true≢false (sym q))
+
+-- ---- the numbers of a good segment
+six-numbers : (v : List ℕ) → segmentSaid v ≡ true → sixNumbers (sixOf v) ≡ numbersOf (segmentFrom v)
+unfolding segmentSaid sixOf segmentFrom
+six-numbers v e =
+    let ms = segmentFields v in
+    let a = right (eqb (getD v 0 0) 0x7B) _ e in
+    let b = right (short firstName ms) _ a in
+    let c = right (short lastName ms) _ b in
+    let d = right (long sourceName ms) _ c in
+    let f = right (short countName ms) _ d in
+    let p₁ : short firstName ms ≡ true = left (short firstName ms) _ a in
+    let p₂ : short lastName ms ≡ true = left (short lastName ms) _ b in
+    let p₃ : long sourceName ms ≡ true = left (long sourceName ms) _ c in
+    let p₄ : short countName ms ≡ true = left (short countName ms) _ d in
+    let p₅ : long outputName ms ≡ true = left (long outputName ms) _ f in
+    let p₆ : long durationName ms ≡ true = right (long outputName ms) _ f in
+    rw (
+      said-value mostFrame (fieldOf firstName ms) p₁,
+      said-value mostFrame (fieldOf lastName ms) p₂,
+      said-value mostWord (fieldOf sourceName ms) p₃,
+      said-value mostFrame (fieldOf countName ms) p₄,
+      said-value mostWord (fieldOf outputName ms) p₅,
+      said-value mostWord (fieldOf durationName ms) p₆,
+    )
+
+-- ---- a piece behind a piece
+put-more : (at n : ℕ) (a b l : List ℕ) → length a ≡ n → at + n ≤ length l → putAt (at + n) b (putAt at a l) ≡ putAt at (a ++ b) l
+put-more at n a b l e h =
+    let w : length (take at l) ≡ at = length-take-le at l (omega arith) in
+    let z : at + n ≡ length (take at l ++ a) = sym (length-append (take at l) a ∙ omega arith) in
+    ap (putAt (at + n) b) (put-at-front a l at (omega arith)) ∙ putAt-put (at + n) (take at l ++ a) b l z
+    ∙ ap (λ (x : List ℕ). put x l) (append-assoc (take at l) a b) ∙ sym (put-at-front (a ++ b) l at (omega arith))
+
+-- ---- the loop: n segments are read, and t is left
+pub record Left (s t : List ℕ) (n : ℕ) (map₀ map : List ℕ) : Type 0 where
+  pub said : segmentsSaid (elementsOf 9 s) ≡ saidIn t
+  pub size : length (elementsOf 9 s) ≡ n + length (elementsIn t)
+  pub done : n + length (elementsIn t) ≤ mostSegments → putAt (6 * n) (flatLeft t) map ≡ put (flatOf (segmentsFrom (elementsOf 9 s))) map₀
+
+pub left-start : (s t map : List ℕ) → t ≡ rowIn 0x5B s → Left s t 0 map map
+left-start s t map e =
+    let q : length (elementsOf 9 s) ≡ length (elementsIn t) = ap length (elements-start s t e) in
+    record {
+      said = said-start s t e;
+      size = omega arith;
+      done = λ h. putAt-zero (flatLeft t) map ∙ ap (λ (x : List (List ℕ)). put (flatOf (segmentsFrom x)) map) (sym (elements-start s t e));
+    }
+
+pub left-room : (map map₀ : List ℕ) → length map ≡ length map₀ → length map₀ ≡ 6 * mostSegments → length map ≡ 6 * mostSegments
+left-room map map₀ e h = e ∙ h
+
+module _ (s t map₀ map : List ℕ) (n : ℕ) (inv : Left s t n map₀ map) where
+  nothing-left : elementsIn t ≡ [] → (g : Bool) (c : ℕ) → g ≡ true → c ≡ n → ListRead (segmentsSaid (elementsOf 9 s)) (elementsOf 9 s) g c map₀ map
+  unfolding segmentsSaid segmentsFrom flatOf
+  nothing-left z g c eg ec =
+      let l : length (elementsIn t) ≡ 0 = ap length z in
+      let m : length (elementsOf 9 s) ≡ n + length (elementsIn t) = inv .size in
+      record {
+        good-is = eg ∙ sym (inv .said ∙ ap segmentsSaid z);
+        count-is = λ y. omega arith;
+        numbers = λ y h. sym (putAt-nil (6 * n) map) ∙ ap (λ (x : List (List ℕ)). putAt (6 * n) (flatOf (segmentsFrom x)) map) (sym z) ∙ inv .done (omega arith);
+      }
+
+  pub left-stop : (k : ℕ) (g : Bool) (c : ℕ) → k ≡ itemWidth 0x5B (valueWidth 9) t → k ≡ 0 → g ≡ true → c ≡ n → ListRead (segmentsSaid (elementsOf 9 s)) (elementsOf 9 s) g c map₀ map
+  left-stop k g c e z eg ec = nothing-left (elements-none k t e z) g c eg ec
+
+  pub left-end : (g : Bool) (c : ℕ) → length t ≤ 0 → g ≡ true → c ≡ n → ListRead (segmentsSaid (elementsOf 9 s)) (elementsOf 9 s) g c map₀ map
+  left-end g c h eg ec = nothing-left (elements-end t h) g c eg ec
+
+  module _ (k : ℕ) (i v : List ℕ) (x : Numbers) (e : k ≡ itemWidth 0x5B (valueWidth 9) t) (z : k ≡ 0 → ⊥) (ei : i ≡ take k t) (ev : v ≡ bare 9 i) (ex : x ≡ sixOf v) where
+    said-step : (u : List ℕ) → u ≡ nextRow k t → saidIn t ≡ (x .good && saidIn u)
+    unfolding segmentsSaid sixOf
+    said-step u eu = ap segmentsSaid (elements-step k t u i v e z ei ev eu) ∙ ap (λ (y : Numbers). y .good && saidIn u) (sym ex)
+
+    pub left-bad : (g : Bool) (c : ℕ) → not (x .good) ≡ true → g ≡ false → ListRead (segmentsSaid (elementsOf 9 s)) (elementsOf 9 s) g c map₀ map
+    left-bad g c h eg =
+        record {
+          good-is = eg ∙ sym (inv .said ∙ said-step (nextRow k t) refl ∙ ap (λ (y : Bool). y && saidIn (nextRow k t)) (not-true (x .good) h));
+          count-is = λ y. absurd (true≢false (sym y ∙ eg));
+          numbers = λ y. absurd (true≢false (sym y ∙ eg));
+        }
+
+    good-six : not (x .good) ≡ false → sixNumbers x ≡ numbersOf (segmentFrom v)
+    unfolding sixOf
+    good-six h = ap sixNumbers ex ∙ six-numbers v (sym (ap (λ (y : Numbers). y .good) ex) ∙ not-false (x .good) h)
+
+    pub left-again : (u map′ : List ℕ) → not (x .good) ≡ false → u ≡ nextRow k t → length map ≡ length map₀ → length map₀ ≡ 6 * mostSegments
+        → map′ ≡ cond (ltb n 1024) (putAt (6 * n) (sixNumbers x) map) map → Left s u (n + 1) map₀ map′
+    unfolding segmentsFrom flatOf
+    left-again u map′ h eu l l₀ em =
+        let st : elementsIn t ≡ v ∷ elementsIn u = elements-step k t u i v e z ei ev eu in
+        let q : length (elementsIn t) ≡ suc (length (elementsIn u)) = ap length st in
+        let m : length (elementsOf 9 s) ≡ n + length (elementsIn t) = inv .size in
+        record {
+          said = inv .said ∙ said-step u eu ∙ ap (λ (y : Bool). y && saidIn u) (not-false (x .good) h);
+          size = omega arith;
+          done = λ b.
+              let f : map′ ≡ putAt (6 * n) (sixNumbers x) map = em ∙ sym (yes! _ (lt-ltb n 1024 (omega arith)) refl) in
+              let w : 6 * (n + 1) ≡ 6 * n + 6 = omega arith in
+              ap (λ (j : ℕ). putAt j (flatLeft u) map′) w
+              ∙ ap (putAt (6 * n + 6) (flatLeft u)) f
+              ∙ put-more (6 * n) 6 (sixNumbers x) (flatLeft u) map refl (omega arith)
+              ∙ ap (λ (y : List ℕ). putAt (6 * n) (y ++ flatLeft u) map) (good-six h)
+              ∙ ap (λ (y : List (List ℕ)). putAt (6 * n) (flatOf (segmentsFrom y)) map) (sym st)
+              ∙ inv .done (omega arith);
+        }
+
+pub size-most : (n k : ℕ) (s t u : List ℕ) → n + length t ≤ length s → 0 < length t → u ≡ nextRow k t → n + 1 + length u ≤ length s
+size-most n k s t u inv h eu = let b = next-less k t u eu h in omega arith
+
+pub size-fits : (n : ℕ) (s t : List ℕ) → length s < 2 ^ 64 → n + length t ≤ length s → 0 < length t → n + 1 < 2 ^ 64
+size-fits n s t l inv h = omega arith
+
+-- ---- a value that may be no array
+pub list-none : (v map : List ℕ) (o g : Bool) (c : ℕ) → o ≡ eqb (getD v 0 0) 0x5B → not o ≡ true → g ≡ false → ListRead (listSaid v) (elementsOf 9 v) g c map map
+list-none v map o g c eo h eg =
+    record {
+      good-is = eg ∙ ap (λ (x : Bool). x && segmentsSaid (elementsOf 9 v)) (sym (sym eo ∙ not-true o h));
+      count-is = λ y. absurd (true≢false (sym y ∙ eg));
+      numbers = λ y. absurd (true≢false (sym y ∙ eg));
+    }
+
+pub list-some : (v map map′ : List ℕ) (o g : Bool) (c : ℕ) → o ≡ eqb (getD v 0 0) 0x5B → not o ≡ false → ListRead (segmentsSaid (elementsOf 9 v)) (elementsOf 9 v) g c map map′ → ListRead (listSaid v) (elementsOf 9 v) g c map map′
+list-some v map map′ o g c eo h l =
+    record { good-is = l .good-is ∙ ap (λ (x : Bool). x && segmentsSaid (elementsOf 9 v)) (sym (sym eo ∙ not-false o h)); count-is = l .count-is; numbers = l .numbers }
+
+-- ---- one segment written, where there is room
+pub segment-in : (n : ℕ) (v map map′ : List ℕ) → n < 1024 → map′ ≡ putAt (6 * n) v map → map′ ≡ cond (ltb n 1024) (putAt (6 * n) v map) map
+segment-in n v map map′ h e = yes! _ (lt-ltb n 1024 h) e
+
+pub segment-out : (n : ℕ) (v map : List ℕ) → 1024 ≤ n → map ≡ cond (ltb n 1024) (putAt (6 * n) v map) map
+segment-out n v map h = no! _ (le-ltb n 1024 h) refl

@@ -1,0 +1,103 @@
+-- The fields of an object gathered in one walk: a slot for each name, changed by each member of that name.
+use Prim.Native.Nat.{ℕ}
+use mathlib.Core.Bool.{true, _&&_, _||_, cond}
+use mathlib.Core.List.{List, [], _∷_}
+use lib.Dec.{eqb, ltb}
+use Rattle.base.specs.Limits.{mostFrame}
+use Rattle.pattern.specs.Find.{equals}
+use Rattle.text.specs.Number.{valueFrom}
+use Rattle.json.specs.Num.{isPlain}
+use Rattle.json.specs.Value.{isValue}
+use Rattle.json.specs.Member.{Member}
+use Rattle.mapjson.specs.Names.{timescaleName, rateNumName, rateDenName, inputName, framesName, segmentsName, firstName, lastName, sourceName, countName, outputName, durationName, mostWord}
+use Rattle.mapjson.specs.Reads.{isKnown}
+use Rattle.mapread.specs.declared.fields.Heads.{Heads}
+use Rattle.mapread.specs.declared.fields.HeadSlots.{HeadSlots}
+use Rattle.mapread.specs.declared.number.Slot.{Slot}
+use Rattle.mapread.specs.declared.number.Slots.{Slots}
+
+abbrev pub noSlot : Slot
+noSlot = record { state = 0; value = 0 }
+
+abbrev pub badSlot : Slot
+badSlot = record { state = 2; value = 0 }
+
+-- a first value is a number or none; a second one is one too many
+unfoldable pub slotWith : (most : ℕ) → Slot → (v : List ℕ) → Slot
+slotWith most x v = cond (eqb (x .state) 0) (cond (isPlain most v) (record { state = 1; value = valueFrom 0 v }) badSlot) badSlot
+
+unfoldable pub slotAfter : (name : List ℕ) → (most : ℕ) → Slot → Member → Slot
+slotAfter n most x m = cond (equals n (m .name)) (slotWith most x (m .value)) x
+
+-- the six of a segment
+abbrev pub noSlots : Slots
+noSlots = record { first = noSlot; last = noSlot; source = noSlot; frames = noSlot; output = noSlot; duration = noSlot }
+
+unfoldable pub slotsAfter : Slots → Member → Slots
+slotsAfter x m =
+    record {
+      first = slotAfter firstName mostFrame (x .first) m;
+      last = slotAfter lastName mostFrame (x .last) m;
+      source = slotAfter sourceName mostWord (x .source) m;
+      frames = slotAfter countName mostFrame (x .frames) m;
+      output = slotAfter outputName mostWord (x .output) m;
+      duration = slotAfter durationName mostWord (x .duration) m;
+    }
+
+-- member by member
+unfoldable pub gathered : {S : Type 0} → (after : S → Member → S) → S → List Member → S
+gathered after x [] = x
+gathered after x (m ∷ ms) = gathered after (after x m) ms
+
+abbrev pub slotsFrom : Slots → List Member → Slots
+slotsFrom x ms = gathered slotsAfter x ms
+
+-- the numbers of a map, and whether its other members are at most 8 deep
+abbrev pub noHeads : HeadSlots
+noHeads = record { timescale = noSlot; «rate_num» = noSlot; «rate_den» = noSlot; frames = noSlot; path = 0; list = 0; shallow = true }
+
+-- whether a field was seen, and its value: the first, and nothing behind a second
+unfoldable pub seenAfter : (name : List ℕ) → ℕ → Member → ℕ
+seenAfter n k m = cond (equals n (m .name)) 1 k
+
+unfoldable pub keptAfter : (name : List ℕ) → ℕ → List ℕ → Member → List ℕ
+keptAfter n k v m = cond (equals n (m .name)) (cond (eqb k 0) (m .value) []) v
+
+unfoldable pub headsAfter : HeadSlots → Member → HeadSlots
+headsAfter x m =
+    record {
+      timescale = slotAfter timescaleName mostFrame (x .timescale) m;
+      «rate_num» = slotAfter rateNumName mostFrame (x .«rate_num») m;
+      «rate_den» = slotAfter rateDenName mostFrame (x .«rate_den») m;
+      frames = slotAfter framesName mostFrame (x .frames) m;
+      path = seenAfter inputName (x .path) m;
+      list = seenAfter segmentsName (x .list) m;
+      shallow = x .shallow && (isKnown (m .name) || isValue 8 (m .value));
+    }
+
+-- they, with the path's value and the list
+pub record Walked : Type 0 where
+  pub heads : HeadSlots
+  pub path : List ℕ
+  pub list : List ℕ
+
+abbrev pub noneWalked : Walked
+noneWalked = record { heads = noHeads; path = []; list = [] }
+
+unfoldable pub walkedAfter : Walked → Member → Walked
+walkedAfter x m =
+    record { heads = headsAfter (x .heads) m; path = keptAfter inputName (x .heads .path) (x .path) m; list = keptAfter segmentsName (x .heads .list) (x .list) m }
+
+-- the numbers in them
+unfoldable pub wordOf : ℕ → ℕ
+wordOf v = cond (ltb mostFrame v) 0 v
+
+unfoldable pub headsIn : HeadSlots → Heads
+headsIn x =
+    record {
+      good = (eqb (x .timescale .state) 1 && (eqb (x .«rate_num» .state) 1 && eqb (x .«rate_den» .state) 1)) && (eqb (x .frames .state) 1 && x .shallow);
+      timescale = wordOf (x .timescale .value);
+      «rate_num» = wordOf (x .«rate_num» .value);
+      «rate_den» = wordOf (x .«rate_den» .value);
+      frames = wordOf (x .frames .value);
+    }
