@@ -102,8 +102,8 @@ uint32_t retimer_open(uint32_t kind, uint32_t timescale, const uint64_t *map, si
  * the RETIMER_SESSION_BYTES bytes that a call left, 17 where they name a session that no call leads to, 18 where it has ended, 15 for the map, 16 for a length, or
  * where more than 2^30 bytes would be taken together.
  * Else 0, and the retimed text that is complete stands at the start of `out`, the warnings, two numbers to each (which, and the line), at the start of `warnings`;
- * `written` and `warned` tell how many bytes and how many numbers; bytes and numbers behind them stay. The session is the one to hand to the next call.
- * 19 to 22 and 24 end the session: what stands before the fault is written and told likewise. */
+ * `written` and `warned` tell how many bytes and how many numbers; bytes and numbers behind them stay. The session is the one to hand to the next call;
+ * an empty piece leaves its bytes as they were. 19 to 22 and 24 end the session: what stands before the fault is written and told likewise. */
 uint32_t retimer_feed(uint8_t *session, size_t session_lent, const uint64_t *map, size_t map_length, const uint8_t *piece, size_t piece_length, uint8_t *out,
                       size_t out_lent, uint64_t *warnings, size_t warnings_lent, uint64_t *written, uint64_t *warned);
 

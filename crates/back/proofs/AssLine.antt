@@ -123,7 +123,7 @@ comment : Word commentWord
 comment = record { says-caption = comment-says; no-name = λ r. no-section 67 _ (omega arith) letter-c (λ e. omega arith); last-colon = refl }
 
 -- a text that begins with a word
-word-parts : (p s : List ℕ) → starts p s ≡ true → s ≡ p ++ drop (length p) s
+pub word-parts : (p s : List ℕ) → starts p s ≡ true → s ≡ p ++ drop (length p) s
 unfolding starts
 word-parts [] s e = refl
 word-parts (a ∷ p) [] e = absurd (true≢false (sym e))
@@ -144,7 +144,7 @@ render-append (bytes l ∷ ps) qs s e = ap (λ (x : List ℕ). l ++ x) (render-a
 render-append (start ∷ ps) qs s e = ap (λ (x : List ℕ). s ++ x) (render-append ps qs s e) ∙ sym (append-assoc s (render ps s e) (render qs s e))
 render-append (stop ∷ ps) qs s e = ap (λ (x : List ℕ). e ++ x) (render-append ps qs s e) ∙ sym (append-assoc e (render ps s e) (render qs s e))
 
-frame-is : (w x s e : List ℕ) (ps : List Piece) → render (bytes w ∷ (ps ++ (bytes x ∷ []))) s e ≡ (w ++ render ps s e) ++ x
+pub frame-is : (w x s e : List ℕ) (ps : List Piece) → render (bytes w ∷ (ps ++ (bytes x ∷ []))) s e ≡ (w ++ render ps s e) ++ x
 unfolding render
 frame-is w x s e ps =
     ap (λ (y : List ℕ). w ++ y) (render-append ps (bytes x ∷ []) s e ∙ ap (λ (y : List ℕ). render ps s e ++ y) (append-nil x)) ∙ sym (append-assoc w (render ps s e) x)

@@ -3,3 +3,4 @@ pub mod AssLine
 pub mod TimingLine
 pub mod TimingBlock
 pub mod BlockKinds
+pub mod Stands

@@ -32,11 +32,11 @@ use Rattle.back.proofs.TimingLine.{Plain, Blocked, plain-text, lf-plain
 use Rattle.text.proofs.LfLaws.{lf-append, ends-append, lf-drop, lf-get, text-lf}
 
 -- ---- what is trailing is the end of the line's text
-record Drops (s r : List ℕ) : Type 0 where
+pub record Drops (s r : List ℕ) : Type 0 where
   pub count : ℕ
   pub is : r ≡ drop count s
 
-head-drops : (s : List ℕ) (k : ℕ) → Drops s (headFrom s k)
+pub head-drops : (s : List ℕ) (k : ℕ) → Drops s (headFrom s k)
 unfolding headFrom
 head-drops [] k = record { count = 0; is = refl }
 head-drops (b ∷ r) (suc k) = let d = head-drops r k in record { count = suc (d .count); is = d .is }
@@ -184,7 +184,7 @@ module _ (l m : List ℕ) (f : endsLine l ≡ true → endsLine m ≡ true) (g :
   cut-swap (x ∷ y ∷ b) a c = (c .0, cut-swap (y ∷ b) a (c .1))
 
 -- ---- another timing line in its place is the timing line
-abbrev Swaps : List (List ℕ) → Timing → Type 0
+abbrev pub Swaps : List (List ℕ) → Timing → Type 0
 Swaps ls Arrow.untimed = Unit {0}
 Swaps ls (Arrow.timed b l a) = (ls ≡ b ++ l ∷ a) × ((m : List ℕ) → contains arrow (textOf m) ≡ true → timingOf (b ++ m ∷ a) ≡ Arrow.timed b m a)
 
@@ -201,7 +201,7 @@ later-swaps x ls Arrow.untimed e h = tt
 later-swaps x ls (Arrow.timed b l a) e h =
     (ap (λ (y : List (List ℕ)). x ∷ y) (h .0), λ m k. timing-later x (b ++ m ∷ a) e ∙ ap (later x) (h .1 m k))
 
-timing-swaps : (ls : List (List ℕ)) → Swaps ls (timingOf ls)
+pub timing-swaps : (ls : List (List ℕ)) → Swaps ls (timingOf ls)
 unfolding timingOf
 timing-swaps [] = tt
 timing-swaps (x ∷ ls) = go (contains arrow (textOf x)) refl (timing-swaps ls)
@@ -211,7 +211,7 @@ timing-swaps (x ∷ ls) = go (contains arrow (textOf x)) refl (timing-swaps ls)
     go false e ih = later-swaps x ls (timingOf ls) e ih
 
 -- ---- the block
-concat-at : (b : List (List ℕ)) (l : List ℕ) (a : List (List ℕ)) → concat (b ++ l ∷ a) ≡ concat b ++ (l ++ concat a)
+pub concat-at : (b : List (List ℕ)) (l : List ℕ) (a : List (List ℕ)) → concat (b ++ l ∷ a) ≡ concat b ++ (l ++ concat a)
 concat-at [] l a = refl
 concat-at (x ∷ b) l a = ap (λ (y : List ℕ). x ++ y) (concat-at b l a) ∙ sym (append-assoc x (concat b) (l ++ concat a))
 

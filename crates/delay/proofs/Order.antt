@@ -1,5 +1,5 @@
--- The order of the delays from both sides: every integer has one place, 0 first, then 1, −1, 2, −2 and so on; and what is told, said of delays and not of places.
-use mathlib.Core.Path.{_≡_, refl, sym, ap, subst, _∙_}
+-- Every integer has one place among the delays (`each-once`), and what is told, said of delays and not of places (`least-answered`).
+use mathlib.Core.Path.{_≡_, refl, ap, _∙_}
 use mathlib.Core.Bool.{Bool, true, false, cond, true≢false}
 use mathlib.Core.List.{List}
 use Prim.Native.Nat.{ℕ, zero, suc, _+_, _*_, _/_, _%_, _≤_, _<_}
@@ -8,17 +8,15 @@ use lib.Dec.{eqb, ltb}
 use lib.IntN.{ℤ, pos, negsuc, negℤ}
 use borrow.Author.Tests.{eq-eqb, ne-eqb, eqb-true, ltb-true, ltb-false}
 use Rattle.segment.specs.declared.segment.Segment.{Segment}
+use Rattle.segment.specs.Segment.{segmentsOf}
 use Rattle.event.specs.declared.setting.Config.{Config}
 use Rattle.delay.specs.declared.finding.Delay.{Delay}
 use Rattle.delay.specs.Delay.{delayOf}
 use Rattle.delay.specs.Loss.{lossOf}
-use Rattle.delay.specs.Answer.{Right}
-
--- the place of a delay, from 0
-abbrev pub placeOf : ℤ → ℕ
-placeOf (pos zero) = 0
-placeOf (pos (suc n)) = 2 * n + 1
-placeOf (negsuc n) = 2 * n + 2
+use Rattle.delay.specs.Tally.{configWith}
+use Rattle.delay.specs.Answer.{delayAnswer, Right}
+use Rattle.delay.specs.Order.{placeOf, EachOnce, LeastDelay, LeastAnswered}
+use Rattle.delay.proofs.TheDelay.{answer-right}
 
 pub at-place : (d : ℤ) → delayOf (placeOf d) ≡ d
 unfolding delayOf
@@ -57,12 +55,11 @@ place-back k = go (eqb (k % 2) 1) refl
         let p : 2 * (k / 2) ≡ k = omega arith in
         down (k / 2) ∙ p
 
--- "Every other tried delay loses at least as many, and equal ones come later"
-pub record Least (c : Config) (m : List Segment) (cs : List ℕ) (a : Delay) : Type 0 where
-  pub tried : placeOf (a .delay) < a .tried
-  pub others : (d : ℤ) → placeOf d < a .tried → (a .loss ≤ lossOf c m d cs) × (lossOf c m d cs ≤ a .loss → placeOf (a .delay) ≤ placeOf d)
+pub each-once : EachOnce
+each-once = record { named = at-place; placed = place-back }
 
-pub least-of : (c : Config) (m : List Segment) (cs : List ℕ) (a : Delay) → Right c m cs a → Least c m cs a
+-- ---- the delay that is told
+pub least-of : (c : Config) (m : List Segment) (cs : List ℕ) (a : Delay) → Right c m cs a → LeastDelay c m cs a
 least-of c m cs a r =
     let p : placeOf (a .delay) ≡ r .place = ap placeOf (r .named) ∙ place-back (r .place) in
     record {
@@ -80,3 +77,6 @@ least-of c m cs a r =
         go : (t : Bool) → ltb (placeOf d) (r .place) ≡ t → placeOf (a .delay) ≤ placeOf d
         go true x = absurd (omega (arith, e, l, q, r .least .first (placeOf d) (ltb-true (placeOf d) (r .place) x)))
         go false x = omega (arith, p, ltb-false (placeOf d) (r .place) x)
+
+pub least-answered : LeastAnswered
+least-answered m T kind cs budget e = least-of (configWith kind T) (segmentsOf m) cs (delayAnswer m T kind cs budget) (answer-right m T kind cs budget e)

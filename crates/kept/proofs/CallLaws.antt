@@ -1,6 +1,6 @@
 -- Laws of open, feed and finish over bytes.
 use mathlib.Core.Path.{_≡_, refl, sym, ap, ap₂, subst, _∙_}
-use mathlib.Core.Bool.{Bool, true, false, cond}
+use mathlib.Core.Bool.{Bool, true, false, _||_, cond}
 use mathlib.Core.List.{List, []}
 use Prim.Native.Nat.{ℕ}
 use lib.Dec.{eqb}
@@ -22,13 +22,13 @@ use Rattle.foreign.specs.declared.holding.Session.{Session}
 use Rattle.foreign.specs.View.{view, stored}
 use Rattle.session.specs.declared.calling.Fed.{Fed}
 use Rattle.session.specs.declared.calling.Opened.{Opened}
-use Rattle.session.specs.Answer.{openOf, answerOf, nextOf, Answered, OpenAnswered}
+use Rattle.session.specs.Answer.{feedCall, openOf, answerOf, nextOf, Answered, OpenAnswered}
 use Rattle.sealing.specs.Sealed.{sealedLength, isRow, allHold}
 use Rattle.parking.specs.declared.taking.TakenUp.{TakenUp}
 use Rattle.parking.specs.Parked.{parkedOf, isParked, sessionIn}
 use Rattle.parking.specs.Answer.{takeNumber, whenDone, keepNumber, Stores, TakesUp}
 use Rattle.kept.specs.declared.calling.Told.{Told}
-use Rattle.kept.specs.Answer.{openNumber, openBytes, refuses, callNumber, bytesAfter, textOut, placesIn, keptNext, Called}
+use Rattle.kept.specs.Answer.{openNumber, openBytes, refuses, callNumber, emptyPiece, bytesAfter, textOut, placesIn, keptNext, Called, EmptyStays}
 use Rattle.kept.proofs.NumberLaws.{take-refuses, taken-parked, refuses-between}
 
 -- ---- open
@@ -76,7 +76,7 @@ module _ (b : List ℕ) (x : Call) where
         number = n;
         written = w ∙ none-long (refuses (callNumber b x)) _ t;
         warned = v ∙ none-long (refuses (callNumber b x)) _ t;
-        bytes = none-put (refuses (callNumber b x)) _ b t;
+        bytes = none-put (refuses (callNumber b x) || emptyPiece x) _ b (ap (λ (u : Bool). u || emptyPiece x) t);
         text = none-put (refuses (callNumber b x)) _ out t;
         warnings = none-put (refuses (callNumber b x)) _ places t;
       }
@@ -133,7 +133,7 @@ module _ (b : List ℕ) (x : Call) where
             (subst (λ (l : List ℕ). Called x T b b out l places places′) (sym o)
             (subst (λ (l : List ℕ). Called x T b b out out places l) (sym w) c))
 
-        call-done : (b′ : List ℕ) → refuses (f .number) ≡ false → b′ ≡ put (parkedOf 2 (f .session)) b → Called x T b b′ out out′ places places′
+        call-done : (b′ : List ℕ) → refuses (f .number) ≡ false → b′ ≡ put (cond (emptyPiece x) [] (parkedOf 2 (f .session))) b → Called x T b b′ out out′ places places′
         unfolding T bytesAfter textOut placesIn
         call-done b′ q e =
             let y : refuses (callNumber b x) ≡ false = ap refuses (sym number-fed) ∙ q in
@@ -142,30 +142,43 @@ module _ (b : List ℕ) (x : Call) where
               number = number-fed;
               written = P .written ∙ sym (ap (λ (u : Bool). length (cond u [] (outputOf emits))) y);
               warned = P .warned ∙ sym (ap (λ (u : Bool). length (cond u [] (placesOf (warningsOf emits)))) y);
-              bytes = e ∙ ap (λ (s : Session). put (parkedOf 2 s) b) (P .session) ∙ sym (ap (λ (u : Bool). put (cond u [] (parkedOf 2 (nextOf (sessionIn b) x))) b) y);
+              bytes = e ∙ ap (λ (s : Session). put (cond (emptyPiece x) [] (parkedOf 2 s)) b) (P .session) ∙ sym (ap (λ (u : Bool). put (cond (u || emptyPiece x) [] (parkedOf 2 (nextOf (sessionIn b) x))) b) y);
               text = P .text ∙ sym (ap (λ (u : Bool). put (cond u [] (outputOf emits)) out) y);
               warnings = P .warnings ∙ sym (ap (λ (u : Bool). put (cond u [] (placesOf (warningsOf emits))) places) y);
             }
 
-        pub call-made : (b′ : List ℕ) → b′ ≡ keptNext (f .number) (f .session) b → Called x (record { number = f .number; written = f .written; warned = f .warned }) b b′ out out′ places places′
+        pub call-made : (b′ : List ℕ) → b′ ≡ keptNext (f .number) (emptyPiece x) (f .session) b → Called x (record { number = f .number; written = f .written; warned = f .warned }) b b′ out out′ places places′
         unfolding T keptNext
         call-made b′ e = go (refuses (f .number)) refl
           where
-            is : (t : Bool) → refuses (f .number) ≡ t → b′ ≡ put (cond t [] (parkedOf 2 (f .session))) b
-            is t q = e ∙ ap₂ (λ (u : Bool) (n : ℕ). put (cond u [] (whenDone n (parkedOf 2 (f .session)))) b) q kept-zero
+            is : (t : Bool) → refuses (f .number) ≡ t → b′ ≡ put (cond (t || emptyPiece x) [] (parkedOf 2 (f .session))) b
+            is t q = e ∙ ap₂ (λ (u : Bool) (n : ℕ). put (cond (u || emptyPiece x) [] (whenDone n (parkedOf 2 (f .session)))) b) q kept-zero
 
             go : (t : Bool) → refuses (f .number) ≡ t → Called x T b b′ out out′ places places′
             go true q = call-refused b′ q (is true q ∙ put-nil b)
             go false q = call-done b′ q (is false q)
 
 -- ---- what is stored of a call
-module _ (k : ℕ) (s : Session) (b : List ℕ) (t : Bool) (e : t ≡ refuses k) where
-  pub next-refused : t ≡ true → b ≡ keptNext k s b
-  unfolding keptNext
-  next-refused z = sym (ap (λ (u : Bool). put (cond u [] (whenDone (keepNumber (length b)) (parkedOf 2 s))) b) (sym e ∙ z) ∙ put-nil b)
+or-true : (t : Bool) → (t || true) ≡ true
+or-true true = refl
+or-true false = refl
 
-  pub next-kept : (n : ℕ) (b′ : List ℕ) → t ≡ false → Stores s n b b′ → b′ ≡ keptNext k s b
+pub next-nothing : (k : ℕ) (s : Session) (b : List ℕ) (i : Bool) → i ≡ true → b ≡ keptNext k i s b
+unfolding keptNext
+next-nothing k s b i z = none-put (refuses k || i) _ b (ap (λ (u : Bool). refuses k || u) z ∙ or-true (refuses k))
+
+module _ (k : ℕ) (s : Session) (b : List ℕ) (i t : Bool) (e : t ≡ refuses k) where
+  pub next-refused : t ≡ true → b ≡ keptNext k i s b
   unfolding keptNext
-  next-kept n b′ z p =
-      p .bytes ∙ ap (λ (i : ℕ). put (whenDone i (parkedOf 2 s)) b) (p .answer)
-      ∙ sym (ap (λ (u : Bool). put (cond u [] (whenDone (keepNumber (length b)) (parkedOf 2 s))) b) (sym e ∙ z))
+  next-refused z = none-put (refuses k || i) _ b (ap (λ (u : Bool). u || i) (sym e ∙ z))
+
+  pub next-kept : (n : ℕ) (b′ : List ℕ) → i ≡ false → t ≡ false → Stores s n b b′ → b′ ≡ keptNext k i s b
+  unfolding keptNext
+  next-kept n b′ y z p =
+      p .bytes ∙ ap (λ (j : ℕ). put (whenDone j (parkedOf 2 s)) b) (p .answer)
+      ∙ sym (ap₂ (λ (u v : Bool). put (cond (u || v) [] (whenDone (keepNumber (length b)) (parkedOf 2 s))) b) (sym e ∙ z) y)
+
+-- ---- an empty piece leaves the bytes
+pub empty-stays : EmptyStays
+unfolding bytesAfter
+empty-stays b map out places = sym (none-put (refuses (callNumber b (feedCall map [] out places)) || true) _ b (or-true (refuses (callNumber b (feedCall map [] out places)))))

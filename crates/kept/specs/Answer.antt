@@ -1,7 +1,8 @@
 -- A session that a caller keeps as its 18 blocks (parking/specs/Parked): what open, feed and finish answer, and what stands in the lent bytes, output and places
--- afterwards. A call takes the session up, makes the call of session/specs/Answer, and parks what that returned, with mark 2.
+-- afterwards. A call takes the session up, makes the call of session/specs/Answer, and parks what that returned, with mark 2. An empty piece changes nothing: the bytes
+-- stay, under either mark.
 use mathlib.Core.Path.{_≡_}
-use mathlib.Core.Bool.{Bool, _&&_, _||_, cond}
+use mathlib.Core.Bool.{Bool, false, _&&_, _||_, cond}
 use mathlib.Core.List.{List, []}
 use Prim.Native.Nat.{ℕ}
 use lib.Dec.{eqb, leb}
@@ -9,10 +10,10 @@ use lib.ListN.{length}
 use Rattle.base.specs.Refusal.{_orElse_, faultUnless}
 use Rattle.base.specs.Put.{put}
 use Rattle.event.specs.Emit.{outputOf, warningsOf, placesOf}
-use Rattle.machine.specs.Session.{Call}
+use Rattle.machine.specs.Session.{Call, feed, finish}
 use Rattle.foreign.specs.declared.holding.Session.{Session}
 use Rattle.foreign.specs.View.{stored}
-use Rattle.session.specs.Answer.{openOf, answerOf, nextOf}
+use Rattle.session.specs.Answer.{feedCall, openOf, answerOf, nextOf}
 use Rattle.sealing.specs.Sealed.{sealedLength}
 use Rattle.parking.specs.Parked.{parkedOf, sessionIn}
 use Rattle.parking.specs.Answer.{takeNumber, keepNumber, whenDone}
@@ -35,9 +36,14 @@ refuses k = (leb 15 k && leb k 18) || eqb k 27
 unfoldable pub callNumber : (bytes : List ℕ) → Call → ℕ
 callNumber b x = takeNumber b orElse answerOf (sessionIn b) x .number
 
--- the bytes: refused, as they were, else the session that the call returned
+-- an empty piece
+abbrev pub emptyPiece : Call → Bool
+emptyPiece (feed l piece) = eqb (length piece) 0
+emptyPiece (finish l) = false
+
+-- the bytes: refused or fed an empty piece, as they were, else the session that the call returned
 unfoldable pub bytesAfter : (bytes : List ℕ) → Call → List ℕ
-bytesAfter b x = put (cond (refuses (callNumber b x)) [] (parkedOf 2 (nextOf (sessionIn b) x))) b
+bytesAfter b x = put (cond (refuses (callNumber b x) || emptyPiece x) [] (parkedOf 2 (nextOf (sessionIn b) x))) b
 
 -- what is written to the output and the places: what the call emits, and nothing where it is refused
 unfoldable pub textOut : (bytes : List ℕ) → Call → List ℕ
@@ -59,7 +65,11 @@ pub record Called (x : Call) (r : Told) (b b′ out out′ places places′ : Li
   pub text : out′ ≡ put (textOut b x) out
   pub warnings : places′ ≡ put (placesIn b x) places
 
+-- document 01: "An empty piece changes nothing." The bytes stay too, whatever stands in them
+abbrev pub EmptyStays : Type 0
+EmptyStays = (b map : List ℕ) (out places : ℕ) → bytesAfter b (feedCall map [] out places) ≡ b
+
 -- ---- for the private functions
--- the bytes where a call that answered k returned the session s
-unfoldable pub keptNext : (number : ℕ) → Session → (bytes : List ℕ) → List ℕ
-keptNext k s b = put (cond (refuses k) [] (whenDone (keepNumber (length b)) (parkedOf 2 s))) b
+-- the bytes where a call that answered k returned the session s; they stay where nothing was fed
+unfoldable pub keptNext : (number : ℕ) → (nothing : Bool) → Session → (bytes : List ℕ) → List ℕ
+keptNext k i s b = put (cond (refuses k || i) [] (whenDone (keepNumber (length b)) (parkedOf 2 s))) b

@@ -45,17 +45,20 @@ fn refused(number: u32) -> Told
     }
 }
 
-// Stores the session that a call returned, where the number does not refuse the call. It is stored as it is: one that 17 refuses, which only forged bytes lead to, is told by the next call.
-fn keep_next(number: u32, next: Session, bytes: &mut [u8])
-    ensures { λ _. ⌜ now (bytes .exit) ≡ keptNext number next (now (bytes .entry)) ⌝ }
+// Stores the session that a call returned, where something was fed and the number does not refuse the call. It is stored as it is: one that 17 refuses, which only forged bytes lead to, is told by the next call.
+fn keep_next(number: u32, nothing: bool, next: Session, bytes: &mut [u8])
+    ensures { λ _. ⌜ now (bytes .exit) ≡ keptNext number nothing next (now (bytes .entry)) ⌝ }
 {
+    if nothing {
+        return;
+    }
     if refuses_call(number) {
         return;
     }
     parking::keep(next, bytes);
 }
 
-// A piece of the text.
+// A piece of the text. An empty one leaves the bytes as they are.
 pub fn feed(
     bytes: &mut [u8],
     map: &[u64],
@@ -73,7 +76,7 @@ pub fn feed(
     let session = up.session;
     let fed = session::feed(session, map, piece, out, warnings);
     let number = fed.number;
-    keep_next(number, fed.session, bytes);
+    keep_next(number, piece.len() == 0, fed.session, bytes);
     Told {
         number,
         written: fed.written,
@@ -93,7 +96,7 @@ pub fn finish(bytes: &mut [u8], map: &[u64], out: &mut [u8], warnings: &mut [u64
     let session = up.session;
     let fed = session::finish(session, map, out, warnings);
     let number = fed.number;
-    keep_next(number, fed.session, bytes);
+    keep_next(number, false, fed.session, bytes);
     Told {
         number,
         written: fed.written,

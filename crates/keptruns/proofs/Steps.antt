@@ -1,17 +1,19 @@
 -- One call over the bytes of a session that open and the calls lead to: it is the call on the session itself, and leaves the bytes of the next one.
 use mathlib.Core.Path.{_≡_, refl, sym, ap, ap₂, subst, _∙_}
 use mathlib.Core.Logic.{inl, inr}
-use mathlib.Core.Bool.{Bool, true, false, cond}
-use mathlib.Core.List.{List, [], _++_, append-nil}
-use Prim.Native.Nat.{ℕ, _≤_}
+use mathlib.Core.Bool.{Bool, true, false, _||_, cond, true≢false}
+use mathlib.Core.List.{List, [], _∷_, _++_, append-nil}
+use Prim.Native.Nat.{ℕ, suc, _≤_}
 use lib.ListN.{length, drop}
 use lib.Seq.{drop-length}
 use native.Mathlib.Omega.{arith}
+use borrow.Author.Tests.{eqb-true}
 use Rattle.base.specs.Put.{put}
 use Rattle.base.proofs.RefusalLaws.{else-none}
 use Rattle.base.proofs.PutLaws.{put-nil}
 use Rattle.event.specs.Emit.{Emit, outputOf, warningsOf, placesOf}
 use Rattle.machine.specs.Session.{Call, feed, finish, Gate, refuse, admit, Answer, accepted, respond}
+use Rattle.machine.specs.Session as model
 use Rattle.columns.specs.declared.layout.Columns.{Columns}
 use Rattle.machine.proofs.Numbers.{OfText, OfCall, accepted-number, call-number, refused-same}
 use Rattle.kinds.specs.Kit.{kit}
@@ -22,7 +24,7 @@ use Rattle.session.proofs.CallLaws.{answer-by}
 use Rattle.parking.specs.Parked.{parkedOf, sessionIn}
 use Rattle.parking.specs.Answer.{takeNumber}
 use Rattle.parking.proofs.Kept.{parked-again, parked-length}
-use Rattle.kept.specs.Answer.{refuses, callNumber, bytesAfter, textOut, placesIn}
+use Rattle.kept.specs.Answer.{refuses, callNumber, emptyPiece, bytesAfter, textOut, placesIn}
 use Rattle.kept.proofs.NumberLaws.{refuses-between}
 use Rattle.parkruns.proofs.Tidy.{Tidy}
 
@@ -50,6 +52,17 @@ module _ (s : Session) (x : Call) (t : refuses (answerOf s x .number) ≡ true) 
   pub stays : nextOf s x ≡ s
   unfolding nextOf
   stays = by-gate (sessionGate s x) refl
+
+-- ---- so does an empty piece
+empty-gate : (g : Gate) (s : Session) (x : Call) (t : model.Session Columns) → emptyPiece x ≡ true → nextBy g s x t ≡ s
+empty-gate (refuse k) s x t e = refl
+empty-gate admit s (feed l []) t e = refl
+empty-gate admit s (feed l (b ∷ p)) t e = absurd (let z : suc (length p) ≡ 0 = eqb-true (suc (length p)) 0 e in omega arith)
+empty-gate admit s (finish l) t e = absurd (true≢false (sym e))
+
+empty-same : (s : Session) (x : Call) → emptyPiece x ≡ true → nextOf s x ≡ s
+unfolding nextOf
+empty-same s x e = empty-gate (sessionGate s x) s x (answerOf s x .session) e
 
 -- ---- bytes that fill their place
 put-whole : (v l : List ℕ) → length v ≡ length l → put v l ≡ v
@@ -95,8 +108,10 @@ module _ (s : Session) (native : foreignOf s ≡ false) (tidy : Tidy s) where
     pub bytes-are : foreignOf (nextOf s x) ≡ false → bytesAfter (parkedOf 2 s) x ≡ parkedOf 2 (nextOf s x)
     unfolding bytesAfter
     bytes-are after =
-        ap₂ (λ (n : ℕ) (y : Session). put (cond (refuses n) [] (parkedOf 2 (nextOf y x))) (parkedOf 2 s)) number-is names ∙ go (refuses (answerOf s x .number)) refl
+        ap₂ (λ (n : ℕ) (y : Session). put (cond (refuses n || emptyPiece x) [] (parkedOf 2 (nextOf y x))) (parkedOf 2 s)) number-is names
+        ∙ go (refuses (answerOf s x .number)) (emptyPiece x) refl refl
       where
-        go : (t : Bool) → refuses (answerOf s x .number) ≡ t → put (cond t [] (parkedOf 2 (nextOf s x))) (parkedOf 2 s) ≡ parkedOf 2 (nextOf s x)
-        go true q = put-nil (parkedOf 2 s) ∙ ap (parkedOf 2) (sym (stays s x q))
-        go false q = put-whole (parkedOf 2 (nextOf s x)) (parkedOf 2 s) (parked-length (nextOf s x) after 2 (inr refl) ∙ sym (parked-length s native 2 (inr refl)))
+        go : (t u : Bool) → refuses (answerOf s x .number) ≡ t → emptyPiece x ≡ u → put (cond (t || u) [] (parkedOf 2 (nextOf s x))) (parkedOf 2 s) ≡ parkedOf 2 (nextOf s x)
+        go true u q r = put-nil (parkedOf 2 s) ∙ ap (parkedOf 2) (sym (stays s x q))
+        go false true q r = put-nil (parkedOf 2 s) ∙ ap (parkedOf 2) (sym (empty-same s x r))
+        go false false q r = put-whole (parkedOf 2 (nextOf s x)) (parkedOf 2 s) (parked-length (nextOf s x) after 2 (inr refl) ∙ sym (parked-length s native 2 (inr refl)))

@@ -33,12 +33,12 @@ use Rattle.mapjson.proofs.Whole.{round-trip}
 use Rattle.mapback.specs.Claims.{Opens, ReadOpens, Returned, WrittenBack}
 
 -- ---- an answer of 0
-record Fine (text : List ℕ) (places bytes : ℕ) : Type 0 where
-  good : isMapText text ≡ true
-  timescale : timescaleBad (mapSaid text .timescale) ≡ false
-  map : mapBad (flatOf (mapSaid text .segments)) ≡ false
+pub record Fine (text : List ℕ) (places bytes : ℕ) : Type 0 where
+  pub good : isMapText text ≡ true
+  pub timescale : timescaleBad (mapSaid text .timescale) ≡ false
+  pub map : mapBad (flatOf (mapSaid text .segments)) ≡ false
 
-fine : (text : List ℕ) (p b : ℕ) → readNumber text p b ≡ 0 → Fine text p b
+pub fine : (text : List ℕ) (p b : ℕ) → readNumber text p b ≡ 0 → Fine text p b
 unfolding readNumber
 fine text p b e =
     let one = else-zero (faultUnless (isMapText text) 23) _ e in
@@ -53,11 +53,11 @@ fine text p b e =
 done-list : (k : ℕ) (v : List ℕ) → k ≡ 0 → whenDone k v ≡ v
 done-list k v e = ap (λ (n : ℕ). whenDone n v) e
 
-done-value : (k v : ℕ) → k ≡ 0 → valueWhenDone k v ≡ v
+pub done-value : (k v : ℕ) → k ≡ 0 → valueWhenDone k v ≡ v
 done-value k v e = ap (λ (n : ℕ). valueWhenDone n v) e
 
 -- what was put, taken again
-taken-back : (n k : ℕ) (v l l′ : List ℕ) → k ≡ 0 → n ≡ length (whenDone k v) → l′ ≡ put (whenDone k v) l → take n l′ ≡ v
+pub taken-back : (n k : ℕ) (v l l′ : List ℕ) → k ≡ 0 → n ≡ length (whenDone k v) → l′ ≡ put (whenDone k v) l → take n l′ ≡ v
 taken-back n k v l l′ e a b = ap₂ take a b ∙ take-put (whenDone k v) l ∙ done-list k v e
 
 opens-zero : (kind T : ℕ) (m : List ℕ) → kindBad kind ≡ false → timescaleBad T ≡ false → mapBad m ≡ false → openOf kind T m .number ≡ 0

@@ -1,21 +1,23 @@
 -- Document 02, 2.1: "Feeds may then use a map that came this way, and the promise about drops and drift holds for any map that open accepts."
 -- The second half is promise/specs/Promise: `PromiseOpened`. The first: what the reader handed back opens, and the promise is kept for it.
 use mathlib.Core.Path.{_≡_}
-use mathlib.Core.Bool.{false}
+use mathlib.Core.Bool.{true, false}
 use mathlib.Core.List.{List}
 use Prim.Native.Nat.{ℕ, _*_, _≤_, _<_}
+use lib.Dec.{leb}
 use lib.ListN.{length, take, getD}
 use Rattle.base.specs.Limits.{mostFrame, mostSegments}
+use Rattle.base.specs.Refusal.{faultUnless}
 use Rattle.utf8.specs.Utf8.{utf8}
 use Rattle.time.specs.Kind.{kindBad}
-use Rattle.time.specs.Convert.{timescaleBad}
-use Rattle.segment.specs.Segment.{mapBad}
+use Rattle.segment.specs.Segment.{segmentsOf}
 use Rattle.session.specs.declared.calling.Opened.{Opened}
 use Rattle.session.specs.Answer.{OpenAnswered}
 use Rattle.promise.specs.Promise.{Kept}
 use Rattle.mapjson.specs.declared.writing.Wrote.{Wrote}
 use Rattle.mapread.specs.declared.reading.Taken.{Taken}
 use Rattle.mapjson.specs.Names.{mostPath}
+use Rattle.mapjson.specs.Text.{mapText}
 use Rattle.mapjson.specs.Answer.{Writes}
 use Rattle.mapread.specs.Answer.{Reads}
 
@@ -45,3 +47,15 @@ WrittenBack =
     → Writes map T num den path frames w text text′ → w .number ≡ 0
     → (r : Taken) (places places′ bytes bytes′ : List ℕ) → 6 * mostSegments ≤ length places → mostPath ≤ length bytes
     → Reads (take (w .written) text′) r places places′ bytes bytes′ → Returned map T num den path frames r places′ bytes′
+
+-- and the other way: what the reader handed back with 0 can be written. Its path is UTF-8, and the writer refuses nothing of it but too short a lent text
+pub record Rewritten (map : List ℕ) (T num den : ℕ) (path : List ℕ) (frames : ℕ) (lent number : ℕ) : Type 0 where
+  pub utf : utf8 path ≡ true
+  pub answer : number ≡ faultUnless (leb (length (mapText T num den path frames (segmentsOf map))) lent) 16
+
+abbrev pub ReadWritten : Type 0
+ReadWritten =
+    (text : List ℕ) (r : Taken) (places places′ bytes bytes′ : List ℕ) → Reads text r places places′ bytes bytes′ → r .number ≡ 0
+    → (w : Wrote) (out out′ : List ℕ)
+    → Writes (take (r .places) places′) (r .timescale) (r .«rate_num») (r .«rate_den») (take (r .«path_len») bytes′) (r .frames) w out out′
+    → Rewritten (take (r .places) places′) (r .timescale) (r .«rate_num») (r .«rate_den») (take (r .«path_len») bytes′) (r .frames) (length out) (w .number)

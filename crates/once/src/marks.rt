@@ -1,4 +1,5 @@
 // Bits of lent bytes.
+use order::DecodeIdx;
 ghost use mathlib.Core.Path.{_≡_};
 ghost use Prim.Native.Nat.{_*_, _<_};
 ghost use lib.ListN.{length, replicate};
@@ -15,11 +16,12 @@ pub fn clear(bits: &mut [u8])
     }
 }
 
-// Sets bit d, and answers whether it was set before.
-pub fn mark(bits: &mut [u8], d: usize) -> bool
-    requires { ⌜ d < 8 * length (now bits) ⌝ }
-    ensures { λ r. ⌜ (r ≡ bitOf (now (bits .entry)) d) × (now (bits .exit) ≡ withBit (now (bits .entry)) d) ⌝ }
+// Sets the bit of a decode index, and answers whether it was set before.
+pub fn mark(bits: &mut [u8], index: DecodeIdx) -> bool
+    requires { ⌜ index .0 < 8 * length (now bits) ⌝ }
+    ensures { λ r. ⌜ (r ≡ bitOf (now (bits .entry)) (index .0)) × (now (bits .exit) ≡ withBit (now (bits .entry)) (index .0)) ⌝ }
 {
+    let d = index.0 as usize;
     let at = d / 8;
     let k = (d % 8) as u8;
     let old = bits[at];

@@ -1,6 +1,7 @@
 // The decode indices of a sheet's records, each met once.
 use crate::marks::clear;
 use crate::marks::mark;
+use order::DecodeIdx;
 use order::DisplayIdx;
 ghost use mathlib.Core.Path.{_≡_};
 ghost use Prim.Native.Nat.{_*_, _^_, _≤_, _<_};
@@ -17,11 +18,11 @@ fn work_bytes(n: u32) -> usize
 }
 
 // The decode index of display frame i, where the layout is known.
-fn decode_told(s: &[u8], two: bool, i: u32) -> u32
+fn decode_told(s: &[u8], two: bool, i: u32) -> DecodeIdx
     requires { ⌜ two ≡ longOf (now s) ⌝ }
-    ensures { λ r. ⌜ r ≡ decodeOf (now (s .entry)) i ⌝ }
+    ensures { λ r. ⌜ r .0 ≡ decodeOf (now (s .entry)) i ⌝ }
 {
-    frames::decode_by(s, two, DisplayIdx(i)).0
+    frames::decode_by(s, two, DisplayIdx(i))
 }
 
 // The first of n records whose decode index is not below n, or was met before (25); 0 for none. The bits are clear at first.
@@ -32,10 +33,10 @@ fn pass(s: &[u8], two: bool, n: u32, bits: &mut [u8]) -> u32
     let mut i: u32 = 0;
     while i < n {
         let d = decode_told(s, two, i);
-        if n <= d {
+        if n <= d.0 {
             return 25;
         }
-        if mark(bits, d as usize) {
+        if mark(bits, d) {
             return 25;
         }
         i += 1;

@@ -1,5 +1,6 @@
 pub mod Again
 pub mod Kept
+pub mod Only
 pub mod StoreLaws
 pub mod ReadLaws
 pub mod TakeLaws

@@ -3,11 +3,12 @@ use mathlib.Core.Path.{_≡_}
 use mathlib.Core.Logic.{_⊎_}
 use mathlib.Core.Bool.{false, not, cond}
 use mathlib.Core.List.{List, []}
-use Prim.Native.Nat.{ℕ}
+use Prim.Native.Nat.{ℕ, _<_}
 use lib.Dec.{eqb, leb}
-use lib.ListN.{length}
+use lib.ListN.{length, getD}
 use Rattle.base.specs.Refusal.{_orElse_, faultUnless}
 use Rattle.base.specs.Put.{put}
+use Rattle.blocks.specs.Block.{wordAt}
 use Rattle.machine.specs.Session.{noSession}
 use Rattle.kinds.specs.Kit.{kit}
 use Rattle.foreign.specs.declared.holding.Session.{Session}
@@ -54,3 +55,7 @@ pub record Kept (b : List ℕ) (s : Session) : Type 0 where
 
 abbrev pub ParkedAgain : Type 0
 ParkedAgain = (k : ℕ) (s : Session) → Mark k → foreignOf s ≡ false → Kept (parkedOf k s) s
+
+-- ---- and nothing else is taken up: bytes that are taken up are those that are stored of the session that they name, under their own mark
+abbrev pub OnlyParked : Type 0
+OnlyParked = (b : List ℕ) → takeNumber b ≡ 0 → ((j : ℕ) → getD b j 0 < 256) → b ≡ parkedOf (wordAt b 1) (sessionIn b)

@@ -25,6 +25,7 @@ use Rattle.whole.specs.Srt.{Block, blocksOf}
 use Rattle.back.proofs.TimingLine.{TimeMark, Blocked}
 use Rattle.back.proofs.TimingBlock.{block-back}
 use Rattle.back.proofs.BlockKinds.{srt-blocked, Point, vtt-blocked}
+use Rattle.back.proofs.Stands.{line-stands, block-stands}
 use Rattle.whole.proofs.BlockShape.{blockLines, blocks-joined}
 use Rattle.machine.specs.Cut.{closedLines, unfinished}
 use Rattle.machine.specs.Reader.{Reading, fails, _⊕_}
@@ -44,7 +45,7 @@ again-unless kind (suc k) r a = tt
 part-line : (c : Columns) (n : ℕ) (l : List ℕ) → Apart c → (d : Columns) (p : Part) → lineSays c n l ≡ says d p → PartAgain 0 p
 part-line c n l h d (stays x) e = tt
 part-line c n l h d (passes r k x) e = tt
-part-line c n l h d (cue q) e = record { columns = c; before = n; line = l; next = d; said = e; again = line-back c n l d q e h }
+part-line c n l h d (cue q) e = record { columns = c; before = n; line = l; next = d; said = e; stands = line-stands c n l d q e; again = line-back c n l d q e h }
 
 ass-again : (end : Reading) → AllAgain 0 (end .parts) → (x : ℕ) (c : Columns) (n : ℕ) (ls : List (List ℕ)) → Apart c → AllAgain 0 (assRead end x c n ls .parts)
 unfolding assRead
@@ -107,7 +108,7 @@ module _ (j : ℕ) (Mark : ℕ → Type 0) (K : Blocked (suc j) Mark (endSeconds
   part-block first ls c (passes r k x) e = tt
   part-block first ls c (cue q) e =
       let said = ap (blockSays (styleOf (suc j)) first) (cut-lines ls c) ∙ e in
-      record { first = first; block = concat ls; said = said; again = block-back (suc j) Mark (endSeconds (suc j) * unitsOf (suc j)) K first (concat ls) q said }
+      record { first = first; block = concat ls; said = said; stands = block-stands (suc j) first (concat ls) q said; again = block-back (suc j) Mark (endSeconds (suc j) * unitsOf (suc j)) K first (concat ls) q said }
 
   body-again : (n : ℕ) (body : List (List ℕ)) (after : Reading) → Cut body → AllAgain (suc j) (after .parts) → AllAgain (suc j) (bodyThen (suc j) n body after .parts)
   body-again n [] after c a = a

@@ -2,3 +2,4 @@ pub mod TheMap
 pub mod Past
 pub mod Table
 pub mod Blocks
+pub mod Enums

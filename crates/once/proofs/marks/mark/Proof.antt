@@ -5,6 +5,9 @@ use Rattle.once.proofs.marks.mark.Tie as tie
 use Rattle.once.proofs.marks.mark.Reads as reads
 use Rattle.once.proofs.marks.mark.Lts as lts
 
+cast-d : tie.Need-cast-d
+cast-d c = search needs
+
 cast-k : tie.Need-cast-k
 cast-k c = search needs
 
@@ -36,6 +39,7 @@ pub mark-spec : {M : Type 1} → statement M
 mark-spec =
     tie.close
     (tie.spec
+    cast-d
     cast-k
     slice-read-old
     shr-if1

@@ -32,9 +32,6 @@ same-length c = search needs
 returns : tie.Need-returns Inv-loop μ-loop
 returns c = search repeat-high
 
-cast-mark : tie.Need-cast-mark Inv-loop μ-loop
-cast-mark c = search needs
-
 mark-requires : tie.Need-mark-requires Inv-loop μ-loop
 mark-requires c κs = search needs
 
@@ -69,7 +66,6 @@ pass-spec =
     decode-told-requires
     same-length
     returns
-    cast-mark
     mark-requires
     same-length-2
     returns-2
