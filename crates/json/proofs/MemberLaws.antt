@@ -1,24 +1,20 @@
 -- Laws of the items of a row and of the members of an object, as the code walks them.
-use mathlib.Core.Path.{_≡_, refl, sym, ap, subst, _∙_}
-use mathlib.Core.Bool.{Bool, true, false, cond, true≢false}
+use mathlib.Core.Path.{_≡_, refl, sym, ap, _∙_}
+use mathlib.Core.Bool.{Bool, true, false, cond}
 use mathlib.Core.List.{List, [], _∷_}
-use Prim.Native.Nat.{ℕ, zero, suc, _+_, _-_, _^_, _≤_, _<_}
+use Prim.Native.Nat.{ℕ, zero, suc, _+_, _-_, _≤_, _<_}
 use native.Mathlib.Omega.{arith}
-use native.Mathlib.Numerals.{add-one}
-use borrow.Author.Tests.{eq-eqb, ne-eqb, eqb-true, eqb-false}
+use borrow.Author.Tests.{eq-eqb, ne-eqb}
 use lib.Dec.{eqb}
 use lib.ListN.{length, take, drop, getD, length-drop}
 use lib.Seq.{drop-drop}
 use Rattle.base.specs.Width.{byWidth}
 use Rattle.base.proofs.Laws.{yes!, no! }
-use Rattle.pattern.specs.Find.{equals}
-use Rattle.json.specs.Space.{spaces, padded}
-use Rattle.json.specs.Str.{stringBytes}
-use Rattle.json.specs.Value.{keyWidth, memberWidth, rowWidth, rowItems, insideItems, valueWidth}
+use Rattle.json.specs.Space.{spaces}
+use Rattle.json.specs.Value.{rowItems, insideItems, valueWidth}
 use Rattle.json.specs.Walk.{closeOf, itemWidth, itemsOf, rowIn, nextRow}
-use Rattle.json.specs.Member.{bare, baredAll, elementsOf, Member, nameOf, valueOf, memberOf, memberAll, membersOf, valuesOf, single, firstValue, fieldOf}
-use Rattle.json.proofs.StringLaws.{in-text}
-use Rattle.json.proofs.ItemLaws.{item-none, item-le}
+use Rattle.json.specs.Member.{baredAll, elementsOf}
+use Rattle.json.proofs.ItemLaws.{item-none}
 
 -- ---- the items of a row
 module _ (item : List ℕ → ℕ) (close : ℕ) where
@@ -27,26 +23,26 @@ module _ (item : List ℕ → ℕ) (close : ℕ) where
   shut zero s e = refl
   shut (suc n) s e = ap (λ (j : ℕ). byWidth j [] (λ k. take (suc k) s ∷ elim (eqb (getD s (suc k) 0) 0x2C) [ true ↦ rowItems item close n (drop (suc (suc k)) s) | false ↦ [] ])) e
 
-  opened : (n : ℕ) (s : List ℕ) (k : ℕ) → item s ≡ suc k
+  pub items-open : (n : ℕ) (s : List ℕ) (k : ℕ) → item s ≡ suc k
       → rowItems item close (suc n) s ≡ take (suc k) s ∷ elim (eqb (getD s (suc k) 0) 0x2C) [ true ↦ rowItems item close n (drop (suc (suc k)) s) | false ↦ [] ]
   unfolding rowItems
-  opened n s k e = ap (λ (j : ℕ). byWidth j [] (λ k. take (suc k) s ∷ elim (eqb (getD s (suc k) 0) 0x2C) [ true ↦ rowItems item close n (drop (suc (suc k)) s) | false ↦ [] ])) e
+  items-open n s k e = ap (λ (j : ℕ). byWidth j [] (λ k. take (suc k) s ∷ elim (eqb (getD s (suc k) 0) 0x2C) [ true ↦ rowItems item close n (drop (suc (suc k)) s) | false ↦ [] ])) e
 
   module _ (none : item [] ≡ 0) where
-    fuel : (n m : ℕ) (s : List ℕ) → length s ≤ n → length s ≤ m → rowItems item close n s ≡ rowItems item close m s
-    fuel zero m [] h l = shut zero [] none ∙ sym (shut m [] none)
-    fuel zero m (b ∷ s) h l = absurd (omega arith)
-    fuel (suc n) zero [] h l = shut (suc n) [] none ∙ sym (shut zero [] none)
-    fuel (suc n) zero (b ∷ s) h l = absurd (omega arith)
-    fuel (suc n) (suc m) s h l = go (item s) refl (λ t a b. fuel n m t a b)
+    pub items-fuel : (n m : ℕ) (s : List ℕ) → length s ≤ n → length s ≤ m → rowItems item close n s ≡ rowItems item close m s
+    items-fuel zero m [] h l = shut zero [] none ∙ sym (shut m [] none)
+    items-fuel zero m (b ∷ s) h l = absurd (omega arith)
+    items-fuel (suc n) zero [] h l = shut (suc n) [] none ∙ sym (shut zero [] none)
+    items-fuel (suc n) zero (b ∷ s) h l = absurd (omega arith)
+    items-fuel (suc n) (suc m) s h l = go (item s) refl (λ t a b. items-fuel n m t a b)
       where
         go : (k : ℕ) → item s ≡ k → ((t : List ℕ) → length t ≤ n → length t ≤ m → rowItems item close n t ≡ rowItems item close m t) → rowItems item close (suc n) s ≡ rowItems item close (suc m) s
         go zero e ih = shut (suc n) s e ∙ sym (shut (suc m) s e)
         go (suc k) e ih =
             let q : length (drop (suc (suc k)) s) ≡ length s - suc (suc k) = length-drop (suc (suc k)) s in
-            opened n s k e
+            items-open n s k e
             ∙ ap (λ (x : List (List ℕ)). take (suc k) s ∷ elim (eqb (getD s (suc k) 0) 0x2C) [ true ↦ x | false ↦ [] ]) (ih (drop (suc (suc k)) s) (omega arith) (omega arith))
-            ∙ sym (opened m s k e)
+            ∙ sym (items-open m s k e)
 
     long : (t : List ℕ) (k : ℕ) → item t ≡ suc k → length t ≡ suc (length t - 1)
     long [] k e = absurd (omega (arith, none))
@@ -57,13 +53,13 @@ module _ (item : List ℕ → ℕ) (close : ℕ) where
     next t k = go (eqb (getD t (suc k) 0) 0x2C)
       where
         go : (x : Bool) → _≡_ {A = List (List ℕ)} (elim x [ true ↦ rowItems item close (length t - 1) (drop (suc (suc k)) t) | false ↦ [] ]) (rowItems item close (length (cond x (drop (suc (suc k)) t) [])) (cond x (drop (suc (suc k)) t) []))
-        go true = fuel (length t - 1) (length (drop (suc (suc k)) t)) (drop (suc (suc k)) t) (omega (arith, length-drop (suc (suc k)) t)) (omega arith)
+        go true = items-fuel (length t - 1) (length (drop (suc (suc k)) t)) (drop (suc (suc k)) t) (omega (arith, length-drop (suc (suc k)) t)) (omega arith)
         go false = sym (shut 0 [] none)
 
     step : (t : List ℕ) (k : ℕ) → k ≡ item t → (k ≡ 0 → ⊥) → rowItems item close (length t) t ≡ take k t ∷ rowItems item close (length (nextRow k t)) (nextRow k t)
     step t zero e z = absurd (z refl)
     step t (suc k) e z =
-        ap (λ (n : ℕ). rowItems item close n t) (long t k (sym e)) ∙ opened (length t - 1) t k (sym e)
+        ap (λ (n : ℕ). rowItems item close n t) (long t k (sym e)) ∙ items-open (length t - 1) t k (sym e)
         ∙ ap (λ (x : List (List ℕ)). take (suc k) t ∷ x) (next t k)
 
 pub items-none : (d b k : ℕ) (t : List ℕ) → k ≡ itemWidth b (valueWidth d) t → k ≡ 0 → itemsOf d b t ≡ []
@@ -118,38 +114,11 @@ inside-by d b s = go (eqb (getD (drop 1 s) (spaces (drop 1 s)) 0) (closeOf b))
     go true = sym (items-end d b [] (omega arith))
     go false = refl
 
-pub members-are : (d : ℕ) (s : List ℕ) → membersOf d s ≡ memberAll d (itemsOf d 0x7B (rowIn 0x7B s))
-unfolding membersOf itemWidth closeOf
-members-are d s = ap (memberAll d) (inside-by d 0x7B s)
-
 pub elements-are : (d : ℕ) (s : List ℕ) → elementsOf d s ≡ baredAll d (itemsOf d 0x5B (rowIn 0x5B s))
 unfolding elementsOf itemWidth closeOf
 elements-are d s = ap (baredAll d) (inside-by d 0x5B s)
 
--- ---- values of a name
-abbrev pub valuesIn : (name : List ℕ) → (d : ℕ) → List ℕ → List (List ℕ)
-valuesIn n d t = valuesOf n (memberAll d (itemsOf d 0x7B t))
-
-pub values-start : (n : List ℕ) (d : ℕ) (s t : List ℕ) → t ≡ rowIn 0x7B s → valuesOf n (membersOf d s) ≡ valuesIn n d t
-values-start n d s t e = ap (valuesOf n) (members-are d s) ∙ ap (valuesIn n d) (sym e)
-
-values-none : (n : List ℕ) (d k : ℕ) (t : List ℕ) → k ≡ itemWidth 0x7B (valueWidth d) t → k ≡ 0 → valuesIn n d t ≡ []
-unfolding valuesOf
-values-none n d k t e z = ap (λ (x : List (List ℕ)). valuesOf n (memberAll d x)) (items-none d 0x7B k t e z)
-
-values-end : (n : List ℕ) (d : ℕ) (t : List ℕ) → length t ≤ 0 → valuesIn n d t ≡ []
-unfolding valuesOf
-values-end n d t h = ap (λ (x : List (List ℕ)). valuesOf n (memberAll d x)) (items-end d 0x7B t h)
-
-values-step : (n : List ℕ) (d k : ℕ) (t u i : List ℕ) → k ≡ itemWidth 0x7B (valueWidth d) t → (k ≡ 0 → ⊥) → i ≡ take k t → u ≡ nextRow k t
-    → valuesIn n d t ≡ cond (equals n (nameOf i)) (valueOf d i ∷ valuesIn n d u) (valuesIn n d u)
-unfolding valuesOf
-values-step n d k t u i e z ei eu = ap (λ (x : List (List ℕ)). valuesOf n (memberAll d x)) (items-step d 0x7B k t u i e z ei eu)
-
--- how many
-pub count-start : (n : List ℕ) (d : ℕ) (s t : List ℕ) → t ≡ rowIn 0x7B s → length (valuesOf n (membersOf d s)) ≡ 0 + length (valuesIn n d t)
-count-start n d s t e = let z : length (valuesOf n (membersOf d s)) ≡ length (valuesIn n d t) = ap length (values-start n d s t e) in omega arith
-
+-- the row of an array or an object is no longer than it
 pub row-short : (b : ℕ) (s t : List ℕ) → t ≡ rowIn b s → 0 + length t ≤ length s
 unfolding rowIn
 row-short b s t e = go (eqb (getD (drop 1 s) (spaces (drop 1 s)) 0) (closeOf b)) e
@@ -157,79 +126,3 @@ row-short b s t e = go (eqb (getD (drop 1 s) (spaces (drop 1 s)) 0) (closeOf b))
     go : (x : Bool) → t ≡ cond x [] (drop 1 s) → 0 + length t ≤ length s
     go true q = let z : length t ≡ 0 = ap length q in omega arith
     go false q = let z : length t ≡ length s - 1 = ap length q ∙ length-drop 1 s in omega arith
-
-pub count-stop : (n : List ℕ) (d c k : ℕ) (s t : List ℕ) → length (valuesOf n (membersOf d s)) ≡ c + length (valuesIn n d t) → k ≡ itemWidth 0x7B (valueWidth d) t → k ≡ 0 → c ≡ length (valuesOf n (membersOf d s))
-count-stop n d c k s t inv e z = let q : length (valuesIn n d t) ≡ 0 = ap length (values-none n d k t e z) in omega arith
-
-pub count-end : (n : List ℕ) (d c : ℕ) (s t : List ℕ) → length (valuesOf n (membersOf d s)) ≡ c + length (valuesIn n d t) → length t ≤ 0 → c ≡ length (valuesOf n (membersOf d s))
-count-end n d c s t inv h = let q : length (valuesIn n d t) ≡ 0 = ap length (values-end n d t h) in omega arith
-
-module _ (n : List ℕ) (c x : ℕ) (i : List ℕ) (ex : x ≡ cond (equals n (nameOf i)) 1 0) where
-  hit-most : x ≤ 1
-  hit-most = go (equals n (nameOf i)) ex
-    where
-      go : (f : Bool) → x ≡ cond f 1 0 → x ≤ 1
-      go true e = omega arith
-      go false e = omega arith
-
-  pub count-again : (d k : ℕ) (s t u : List ℕ) → length (valuesOf n (membersOf d s)) ≡ c + length (valuesIn n d t) → k ≡ itemWidth 0x7B (valueWidth d) t → (k ≡ 0 → ⊥) → i ≡ take k t → u ≡ nextRow k t
-      → length (valuesOf n (membersOf d s)) ≡ c + x + length (valuesIn n d u)
-  count-again d k s t u inv e z ei eu = go (equals n (nameOf i)) ex (values-step n d k t u i e z ei eu)
-    where
-      go : (f : Bool) → x ≡ cond f 1 0 → valuesIn n d t ≡ cond f (valueOf d i ∷ valuesIn n d u) (valuesIn n d u) → length (valuesOf n (membersOf d s)) ≡ c + x + length (valuesIn n d u)
-      go true q r = let w : length (valuesIn n d t) ≡ suc (length (valuesIn n d u)) = ap length r in omega arith
-      go false q r = let w : length (valuesIn n d t) ≡ length (valuesIn n d u) = ap length r in omega arith
-
-  pub count-most : (k : ℕ) (s t u : List ℕ) → c + length t ≤ length s → 0 < length t → u ≡ nextRow k t → c + x + length u ≤ length s
-  count-most k s t u inv h eu = let a = hit-most in let b = next-less k t u eu h in omega arith
-
-  pub count-fits : (s t : List ℕ) → length s < 2 ^ 64 → c + length t ≤ length s → 0 < length t → c + x < 2 ^ 64
-  count-fits s t l inv h = let a = hit-most in omega arith
-
--- the first
-pub first-start : (n : List ℕ) (d : ℕ) (s t : List ℕ) → t ≡ rowIn 0x7B s → firstValue (valuesOf n (membersOf d s)) ≡ firstValue (valuesIn n d t)
-first-start n d s t e = ap firstValue (values-start n d s t e)
-
-pub first-stop : (n : List ℕ) (d k : ℕ) (s t r : List ℕ) → firstValue (valuesOf n (membersOf d s)) ≡ firstValue (valuesIn n d t) → k ≡ itemWidth 0x7B (valueWidth d) t → k ≡ 0 → r ≡ take 0 s → r ≡ firstValue (valuesOf n (membersOf d s))
-first-stop n d k s t r inv e z er = er ∙ sym (inv ∙ ap firstValue (values-none n d k t e z))
-
-pub first-end : (n : List ℕ) (d : ℕ) (s t r : List ℕ) → firstValue (valuesOf n (membersOf d s)) ≡ firstValue (valuesIn n d t) → length t ≤ 0 → r ≡ take 0 s → r ≡ firstValue (valuesOf n (membersOf d s))
-first-end n d s t r inv h er = er ∙ sym (inv ∙ ap firstValue (values-end n d t h))
-
-module _ (n : List ℕ) (d k : ℕ) (s t i : List ℕ) (f : Bool) (inv : firstValue (valuesOf n (membersOf d s)) ≡ firstValue (valuesIn n d t)) (e : k ≡ itemWidth 0x7B (valueWidth d) t) (z : k ≡ 0 → ⊥) (ei : i ≡ take k t) (ef : f ≡ equals n (nameOf i)) where
-  pub first-hit : (r : List ℕ) → f ≡ true → r ≡ valueOf d i → r ≡ firstValue (valuesOf n (membersOf d s))
-  first-hit r h er = er ∙ sym (inv ∙ ap firstValue (values-step n d k t (nextRow k t) i e z ei refl ∙ sym (yes! _ (sym ef ∙ h) refl)))
-
-  pub first-again : (u : List ℕ) → f ≡ false → u ≡ nextRow k t → firstValue (valuesOf n (membersOf d s)) ≡ firstValue (valuesIn n d u)
-  first-again u h eu = inv ∙ ap firstValue (values-step n d k t u i e z ei eu ∙ sym (no! _ (sym ef ∙ h) refl))
-
--- the only one
-single-one : (vs : List (List ℕ)) → length vs ≡ 1 → firstValue vs ≡ single vs
-single-one [] h = absurd (omega arith)
-single-one (v ∷ []) h = refl
-single-one (v ∷ w ∷ vs) h = absurd (omega arith)
-
-single-other : (vs : List (List ℕ)) → (length vs ≡ 1 → ⊥) → single vs ≡ []
-single-other [] h = refl
-single-other (v ∷ []) h = absurd (h refl)
-single-other (v ∷ w ∷ vs) h = refl
-
-pub field-one : (n : List ℕ) (d c : ℕ) (s r : List ℕ) → c ≡ length (valuesOf n (membersOf d s)) → c ≡ 1 → r ≡ firstValue (valuesOf n (membersOf d s)) → r ≡ fieldOf n (membersOf d s)
-unfolding fieldOf
-field-one n d c s r e h er = er ∙ single-one (valuesOf n (membersOf d s)) (sym e ∙ h)
-
-pub field-none : (n : List ℕ) (d c : ℕ) (s r : List ℕ) → c ≡ length (valuesOf n (membersOf d s)) → (c ≡ 1 → ⊥) → r ≡ take 0 s → r ≡ fieldOf n (membersOf d s)
-unfolding fieldOf
-field-none n d c s r e h er = er ∙ sym (single-other (valuesOf n (membersOf d s)) (λ q. h (e ∙ q)))
-
--- ---- one member
-pub bare-is : (d n w : ℕ) (s t r : List ℕ) → n ≡ spaces s → t ≡ drop n s → w ≡ valueWidth d t → r ≡ take w t → r ≡ bare d s
-unfolding bare
-bare-is d n w s t r en dt ew er =
-    er ∙ ap (λ (k : ℕ). take k t) ew ∙ ap (λ (x : List ℕ). take (valueWidth d x) x) (dt ∙ ap (λ (k : ℕ). drop k s) en)
-
-pub member-name : (k : ℕ) (i t v : List ℕ) (f : Bool) → k ≡ spaces i → t ≡ drop k i → f ≡ equals v (stringBytes t) → f ≡ equals v (nameOf i)
-member-name k i t v f ek dt ef = ef ∙ ap (λ (x : List ℕ). equals v (stringBytes x)) (dt ∙ ap (λ (j : ℕ). drop j i) ek)
-
-pub member-value : (d k : ℕ) (i t r : List ℕ) → k ≡ keyWidth i → t ≡ drop k i → r ≡ bare d t → r ≡ valueOf d i
-member-value d k i t r ek dt er = er ∙ ap (bare d) (dt ∙ ap (λ (j : ℕ). drop j i) ek)

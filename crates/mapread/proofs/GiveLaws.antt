@@ -1,8 +1,8 @@
 -- Laws of the reader's number, of what is written of a map's text, and of the answer.
-use mathlib.Core.Path.{_≡_, refl, sym, ap, subst, _∙_}
+use mathlib.Core.Path.{_≡_, refl, sym, ap, _∙_}
 use mathlib.Core.Bool.{Bool, true, false, _&&_, cond, not, true≢false}
 use mathlib.Core.List.{List, [], _∷_}
-use Prim.Native.Nat.{ℕ, zero, suc, _+_, _*_, _%_, _^_, _≤_, _<_}
+use Prim.Native.Nat.{ℕ, suc, _*_, _%_, _≤_, _<_}
 use native.Mathlib.Omega.{arith}
 use borrow.Author.Tests.{leb-true, eq-eqb, ne-eqb, not-true, not-false, lt-ltb, le-ltb, ltb-true, ltb-false}
 use lib.Dec.{eqb, leb, ltb}
@@ -15,7 +15,7 @@ use Rattle.base.proofs.Laws.{yes!, no! }
 use Rattle.base.proofs.PutLaws.{take-put, put-nil, placed-yes, length-yes}
 use Rattle.base.proofs.Refusals.{stops-bad, goes-bad, stops-over, goes-under, last-over, last-under, stops-good, goes-good}
 use Rattle.time.specs.Convert.{timescaleBad}
-use Rattle.segment.specs.Segment.{flatOf, mapBad}
+use Rattle.segment.specs.Segment.{mapBad}
 use Rattle.segment.proofs.SegmentLaws.{left-many, flat-length}
 use Rattle.utf8.specs.Utf8.{utf8}
 use Rattle.json.specs.Space.{padded}
@@ -23,18 +23,15 @@ use Rattle.json.specs.Value.{valueWidth}
 use Rattle.json.specs.Str.{stringBytes}
 use Rattle.json.specs.Member.{Member, bare, elementsOf, membersOf, fieldOf}
 use Rattle.mapjson.specs.Names.{timescaleName, rateNumName, rateDenName, inputName, framesName, segmentsName, mostPath}
-use Rattle.mapjson.specs.Reads.{short, pathSaid, listSaid, numberOf, segmentsSaid, segmentsFrom, shallow, fieldsSaid, fields, isMapText, mapSaid}
-use Rattle.mapjson.specs.Answer.{whenDone}
+use Rattle.mapjson.specs.Reads.{short, pathSaid, listSaid, numberOf, segmentsFrom, shallow, fieldsSaid, fields, isMapText, mapSaid}
 use Rattle.mapread.specs.declared.fields.Heads.{Heads}
 use Rattle.mapread.specs.declared.fields.HeadSlots.{HeadSlots}
 use Rattle.mapread.specs.declared.reading.Parts.{Parts}
 use Rattle.mapread.specs.declared.reading.Taken.{Taken}
-use Rattle.mapread.specs.Fields.{fieldIn}
 use Rattle.mapread.specs.Slots.{headsIn}
 use Rattle.mapread.specs.Steps.{objectOf, HeadsOf, ListRead, flatIn, Gathered, PartsOf, saidNumber, listBad, askNumber, Asked, Gives}
 use Rattle.mapread.specs.Answer.{noneTaken, readNumber, Reads}
-use Rattle.mapread.proofs.NumberLaws.{said-value}
-use Rattle.mapread.proofs.ListLaws.{left, right}
+use Rattle.mapread.proofs.NumberLaws.{left, right, said-value}
 use Rattle.mapread.proofs.PartLaws.{object-says}
 
 none : {A : Type 0} (n k : ℕ) → 0 < k → n ≡ k → n ≡ 0 → A
@@ -70,10 +67,6 @@ module _ (ms : List Member) (g : fieldsSaid ms ≡ true) where
 
   pub good-frames : short framesName ms ≡ true
   good-frames = left (short framesName ms) _ behind-path
-
-  pub good-list : segmentsSaid (elementsOf 9 (fieldOf segmentsName ms)) ≡ true
-  good-list =
-      right (eqb (getD (fieldOf segmentsName ms) 0 0) 0x5B) _ (left (listSaid (fieldOf segmentsName ms)) _ (right (short framesName ms) _ behind-path))
 
 -- ---- the number, test by test
 pub bad-over : (count : ℕ) (room : List ℕ) → 1024 < count → true ≡ listBad count room
@@ -189,12 +182,12 @@ gathered-all x input list room room′ said said′ h p l g₁ g count k eh ep L
     l-good : g ≡ true → l ≡ true
     l-good z = right p l (sym e₁ ∙ right (h .good) g₁ (sym eg ∙ z))
 
-module _ (text object room room′ said₀ said₁ map path : List ℕ) (p : Parts) (eo : object ≡ objectOf text) (P : PartsOf (membersOf 10 object) p room room′ said₀ said₁) where
+module _ (text room room′ said₀ said₁ map path : List ℕ) (p : Parts) (P : PartsOf (membersOf 10 (objectOf text)) p room room′ said₀ said₁) where
   abbrev ms : List Member
-  ms = membersOf 10 object
+  ms = membersOf 10 (objectOf text)
 
   text-is : p .good ≡ isMapText text
-  text-is = P .good-is ∙ ap (λ (x : List ℕ). fieldsSaid (membersOf 10 x)) eo ∙ object-says text
+  text-is = P .good-is ∙ object-says text
 
   pub read-23 : (r : Taken) → not (p .good) ≡ true → r ≡ noneTaken 23 → Reads text r map map path path
   unfolding readNumber
@@ -241,7 +234,7 @@ module _ (text object room room′ said₀ said₁ map path : List ℕ) (p : Par
         go false w o x e = absurd (true≢false (sym e))
 
     same-fields : ms ≡ fields text
-    same-fields = ap (membersOf 10) (eo ∙ same)
+    same-fields = ap (membersOf 10) same
 
     number-is : n ≡ readNumber text (length map) (length path)
     unfolding readNumber mapSaid

@@ -2,27 +2,25 @@
 use mathlib.Core.Path.{_≡_, refl, sym, ap, _∙_}
 use mathlib.Core.Bool.{Bool, true, false, _&&_, cond, not, true≢false}
 use mathlib.Core.List.{List, [], _∷_, _++_, append-assoc}
-use Prim.Native.Nat.{ℕ, zero, suc, _+_, _*_, _^_, _≤_, _<_}
+use Prim.Native.Nat.{ℕ, suc, _+_, _*_, _^_, _≤_, _<_}
 use native.Mathlib.Omega.{arith}
 use borrow.Author.Tests.{not-true, not-false, lt-ltb, le-ltb}
 use lib.Dec.{eqb, ltb}
 use lib.ListN.{length, take, getD, length-append}
 use lib.Seq.{length-take-le}
-use Rattle.base.specs.Limits.{mostFrame, mostSegments}
+use Rattle.base.specs.Limits.{mostSegments}
 use Rattle.base.specs.Put.{put, putAt}
 use Rattle.base.proofs.Laws.{yes!, no! }
 use Rattle.base.proofs.PutLaws.{putAt-zero, putAt-nil, putAt-put, put-at-front}
-use Rattle.segment.specs.Segment.{numbersOf, flatOf}
+use Rattle.segment.specs.Segment.{flatOf}
 use Rattle.json.specs.Value.{valueWidth}
 use Rattle.json.specs.Walk.{itemWidth, itemsOf, rowIn, nextRow}
-use Rattle.json.specs.Member.{bare, baredAll, elementsOf, fieldOf}
+use Rattle.json.specs.Member.{bare, baredAll, elementsOf}
 use Rattle.json.proofs.MemberLaws.{items-none, items-end, items-step, next-less, elements-are}
-use Rattle.mapjson.specs.Names.{firstName, lastName, sourceName, countName, outputName, durationName, mostWord}
-use Rattle.mapjson.specs.Reads.{short, long, segmentFields, segmentSaid, segmentFrom, segmentsSaid, segmentsFrom, listSaid}
+use Rattle.mapjson.specs.Reads.{segmentsSaid, segmentsFrom, listSaid}
 use Rattle.mapread.specs.declared.number.Numbers.{Numbers}
-use Rattle.mapread.specs.Fields.{sixOf}
+use Rattle.mapread.specs.Fields.{sixNumbers, SegmentIn}
 use Rattle.mapread.specs.Steps.{ListRead}
-use Rattle.mapread.proofs.NumberLaws.{said-value}
 
 -- ---- elements that are segments
 abbrev pub elementsIn : List ℕ → List (List ℕ)
@@ -46,44 +44,8 @@ elements-step k t u i v e z ei ev eu = ap (baredAll 9) (items-step 9 0x5B k t u 
 pub said-start : (s t : List ℕ) → t ≡ rowIn 0x5B s → segmentsSaid (elementsOf 9 s) ≡ saidIn t
 said-start s t e = ap segmentsSaid (elements-start s t e)
 
-abbrev pub sixNumbers : Numbers → List ℕ
-sixNumbers x = x .first ∷ x .last ∷ x .source ∷ x .frames ∷ x .output ∷ x .duration ∷ []
-
 abbrev pub flatLeft : List ℕ → List ℕ
 flatLeft t = flatOf (segmentsFrom (elementsIn t))
-
-pub left : (x y : Bool) → (x && y) ≡ true → x ≡ true
-left true y q = refl
-left false y q = absurd (true≢false (sym q))
-
-pub right : (x y : Bool) → (x && y) ≡ true → y ≡ true
-right true y q = q
-right false y q = absurd (true≢false (sym q))
-
--- ---- the numbers of a good segment
-six-numbers : (v : List ℕ) → segmentSaid v ≡ true → sixNumbers (sixOf v) ≡ numbersOf (segmentFrom v)
-unfolding segmentSaid sixOf segmentFrom
-six-numbers v e =
-    let ms = segmentFields v in
-    let a = right (eqb (getD v 0 0) 0x7B) _ e in
-    let b = right (short firstName ms) _ a in
-    let c = right (short lastName ms) _ b in
-    let d = right (long sourceName ms) _ c in
-    let f = right (short countName ms) _ d in
-    let p₁ : short firstName ms ≡ true = left (short firstName ms) _ a in
-    let p₂ : short lastName ms ≡ true = left (short lastName ms) _ b in
-    let p₃ : long sourceName ms ≡ true = left (long sourceName ms) _ c in
-    let p₄ : short countName ms ≡ true = left (short countName ms) _ d in
-    let p₅ : long outputName ms ≡ true = left (long outputName ms) _ f in
-    let p₆ : long durationName ms ≡ true = right (long outputName ms) _ f in
-    rw (
-      said-value mostFrame (fieldOf firstName ms) p₁,
-      said-value mostFrame (fieldOf lastName ms) p₂,
-      said-value mostWord (fieldOf sourceName ms) p₃,
-      said-value mostFrame (fieldOf countName ms) p₄,
-      said-value mostWord (fieldOf outputName ms) p₅,
-      said-value mostWord (fieldOf durationName ms) p₆,
-    )
 
 -- ---- a piece behind a piece
 put-more : (at n : ℕ) (a b l : List ℕ) → length a ≡ n → at + n ≤ length l → putAt (at + n) b (putAt at a l) ≡ putAt at (a ++ b) l
@@ -123,34 +85,33 @@ module _ (s t map₀ map : List ℕ) (n : ℕ) (inv : Left s t n map₀ map) whe
         numbers = λ y h. sym (putAt-nil (6 * n) map) ∙ ap (λ (x : List (List ℕ)). putAt (6 * n) (flatOf (segmentsFrom x)) map) (sym z) ∙ inv .done (omega arith);
       }
 
-  pub left-stop : (k : ℕ) (g : Bool) (c : ℕ) → k ≡ itemWidth 0x5B (valueWidth 9) t → k ≡ 0 → g ≡ true → c ≡ n → ListRead (segmentsSaid (elementsOf 9 s)) (elementsOf 9 s) g c map₀ map
-  left-stop k g c e z eg ec = nothing-left (elements-none k t e z) g c eg ec
+  pub left-stop : (x : Numbers) (g : Bool) (c : ℕ) → SegmentIn t x → x .whole ≡ 0 → g ≡ true → c ≡ n → ListRead (segmentsSaid (elementsOf 9 s)) (elementsOf 9 s) g c map₀ map
+  left-stop x g c S z eg ec = nothing-left (elements-none (x .whole) t (S .whole-is) z) g c eg ec
 
   pub left-end : (g : Bool) (c : ℕ) → length t ≤ 0 → g ≡ true → c ≡ n → ListRead (segmentsSaid (elementsOf 9 s)) (elementsOf 9 s) g c map₀ map
   left-end g c h eg ec = nothing-left (elements-end t h) g c eg ec
 
-  module _ (k : ℕ) (i v : List ℕ) (x : Numbers) (e : k ≡ itemWidth 0x5B (valueWidth 9) t) (z : k ≡ 0 → ⊥) (ei : i ≡ take k t) (ev : v ≡ bare 9 i) (ex : x ≡ sixOf v) where
-    said-step : (u : List ℕ) → u ≡ nextRow k t → saidIn t ≡ (x .good && saidIn u)
-    unfolding segmentsSaid sixOf
-    said-step u eu = ap segmentsSaid (elements-step k t u i v e z ei ev eu) ∙ ap (λ (y : Numbers). y .good && saidIn u) (sym ex)
+  module _ (x : Numbers) (S : SegmentIn t x) (z : x .whole ≡ 0 → ⊥) where
+    more-elements : (u : List ℕ) → u ≡ nextRow (x .whole) t → elementsIn t ≡ bare 9 (take (x .whole) t) ∷ elementsIn u
+    more-elements u eu = elements-step (x .whole) t u (take (x .whole) t) (bare 9 (take (x .whole) t)) (S .whole-is) z refl refl eu
+
+    said-step : (u : List ℕ) → u ≡ nextRow (x .whole) t → saidIn t ≡ (x .good && saidIn u)
+    unfolding segmentsSaid
+    said-step u eu = ap segmentsSaid (more-elements u eu) ∙ ap (λ (y : Bool). y && saidIn u) (sym (S .good-is z))
 
     pub left-bad : (g : Bool) (c : ℕ) → not (x .good) ≡ true → g ≡ false → ListRead (segmentsSaid (elementsOf 9 s)) (elementsOf 9 s) g c map₀ map
     left-bad g c h eg =
         record {
-          good-is = eg ∙ sym (inv .said ∙ said-step (nextRow k t) refl ∙ ap (λ (y : Bool). y && saidIn (nextRow k t)) (not-true (x .good) h));
+          good-is = eg ∙ sym (inv .said ∙ said-step (nextRow (x .whole) t) refl ∙ ap (λ (y : Bool). y && saidIn (nextRow (x .whole) t)) (not-true (x .good) h));
           count-is = λ y. absurd (true≢false (sym y ∙ eg));
           numbers = λ y. absurd (true≢false (sym y ∙ eg));
         }
 
-    good-six : not (x .good) ≡ false → sixNumbers x ≡ numbersOf (segmentFrom v)
-    unfolding sixOf
-    good-six h = ap sixNumbers ex ∙ six-numbers v (sym (ap (λ (y : Numbers). y .good) ex) ∙ not-false (x .good) h)
-
-    pub left-again : (u map′ : List ℕ) → not (x .good) ≡ false → u ≡ nextRow k t → length map ≡ length map₀ → length map₀ ≡ 6 * mostSegments
+    pub left-again : (u map′ : List ℕ) → not (x .good) ≡ false → u ≡ nextRow (x .whole) t → length map ≡ length map₀ → length map₀ ≡ 6 * mostSegments
         → map′ ≡ cond (ltb n 1024) (putAt (6 * n) (sixNumbers x) map) map → Left s u (n + 1) map₀ map′
     unfolding segmentsFrom flatOf
     left-again u map′ h eu l l₀ em =
-        let st : elementsIn t ≡ v ∷ elementsIn u = elements-step k t u i v e z ei ev eu in
+        let st : elementsIn t ≡ bare 9 (take (x .whole) t) ∷ elementsIn u = more-elements u eu in
         let q : length (elementsIn t) ≡ suc (length (elementsIn u)) = ap length st in
         let m : length (elementsOf 9 s) ≡ n + length (elementsIn t) = inv .size in
         record {
@@ -162,7 +123,7 @@ module _ (s t map₀ map : List ℕ) (n : ℕ) (inv : Left s t n map₀ map) whe
               ap (λ (j : ℕ). putAt j (flatLeft u) map′) w
               ∙ ap (putAt (6 * n + 6) (flatLeft u)) f
               ∙ put-more (6 * n) 6 (sixNumbers x) (flatLeft u) map refl (omega arith)
-              ∙ ap (λ (y : List ℕ). putAt (6 * n) (y ++ flatLeft u) map) (good-six h)
+              ∙ ap (λ (y : List ℕ). putAt (6 * n) (y ++ flatLeft u) map) (S .six-are z (not-false (x .good) h))
               ∙ ap (λ (y : List (List ℕ)). putAt (6 * n) (flatOf (segmentsFrom y)) map) (sym st)
               ∙ inv .done (omega arith);
         }

@@ -1,28 +1,31 @@
 -- Laws of the tests of a map's text, each for one return.
 use mathlib.Core.Path.{_≡_, refl, sym, ap, _∙_}
 use mathlib.Core.Bool.{Bool, true, false, _&&_, cond, not}
-use mathlib.Core.List.{List, [], _∷_}
-use Prim.Native.Nat.{ℕ, _+_, _-_, _≤_, _<_}
+use mathlib.Core.List.{List, []}
+use Prim.Native.Nat.{ℕ, zero, suc, _+_, _-_, _≤_, _<_}
 use native.Mathlib.Omega.{arith}
-use borrow.Author.Tests.{not-true, not-false, eq-eqb, ne-eqb, le-leb, lt-leb}
+use borrow.Author.Tests.{not-true, not-false, eq-eqb, ne-eqb, eqb-true, eqb-false, le-leb, lt-leb}
 use lib.Dec.{eqb, leb}
 use lib.ListN.{length, take, drop, getD, length-drop}
-use lib.Seq.{drop-drop}
-use Rattle.base.specs.Limits.{mostFrame}
-use Rattle.base.proofs.Laws.{yes!, no! }
+use lib.Seq.{drop-drop, getD-take}
 use Rattle.utf8.specs.Utf8.{utf8}
 use Rattle.json.specs.Space.{spaces, padded}
 use Rattle.json.specs.Num.{isPlain}
 use Rattle.json.specs.Str.{stringBytes}
 use Rattle.json.specs.Value.{valueWidth, rowItems}
-use Rattle.json.specs.Walk.{itemWidth}
+use Rattle.json.specs.Walk.{itemWidth, rowOf}
 use Rattle.json.specs.Member.{Member, bare, membersOf, valuesOf, fieldOf}
 use Rattle.json.proofs.ItemLaws.{value-le, lead-space, item-some}
-use Rattle.json.proofs.MemberLaws.{bare-is}
+use Rattle.json.proofs.FrontRows.{members-front, row-object, row-members, no-row}
 use Rattle.mapjson.specs.Names.{timescaleName, rateNumName, rateDenName, inputName, framesName, segmentsName, mostPath}
 use Rattle.mapjson.specs.Reads.{short, pathSaid, listSaid, shallow, fieldsSaid, isMapText}
 use Rattle.mapread.specs.declared.fields.Heads.{Heads}
+use Rattle.mapread.specs.declared.walk.Walk.{Walk}
+use Rattle.mapread.specs.Slots.{gathered, noneWalked, walkedAfter}
+use Rattle.mapread.specs.Fields.{membersIn}
+use Rattle.mapread.specs.Walk.{noWalk, walkedOf, WalkIn}
 use Rattle.mapread.specs.Steps.{objectOf, HeadsOf}
+use Rattle.mapread.proofs.NumberLaws.{left, right}
 
 and-in : {a b r : Bool} → a ≡ true → r ≡ b → r ≡ (a && b)
 and-in {a} {b} {r} e p = p ∙ ap (λ (x : Bool). x && b) (sym e)
@@ -41,59 +44,147 @@ module _ (v : List ℕ) (o : Bool) (n : ℕ) (eo : o ≡ eqb (getD v 0 0) 0x22) 
   pub path-long : 1024 < n → false ≡ pathSaid v
   path-long l = and-in (sym eo ∙ not-false o h) (sym (ap (λ (k : ℕ). leb k mostPath) (sym en) ∙ lt-leb n mostPath l))
 
--- ---- the object of a text
-module _ (s r : List ℕ) (u : Bool) (eu : u ≡ utf8 s) where
-  pub object-raw : not u ≡ true → r ≡ take 0 s → r ≡ objectOf s
-  unfolding objectOf
-  object-raw h er = er ∙ no! _ (ap (λ (x : Bool). x && (eqb (padded (valueWidth 11) s) (length s) && eqb (getD (bare 11 s) 0 0) 0x7B)) (sym eu ∙ not-true u h)) refl
+-- ---- parts of a text
+pub row-is-behind : (text a r : List ℕ) (n : ℕ) → n ≡ spaces text → a ≡ drop n text → r ≡ drop 1 a → r ≡ drop 1 (drop (spaces text) text)
+row-is-behind text a r n en ea er = er ∙ ap (drop 1) (ea ∙ ap (λ (j : ℕ). drop j text) en)
 
-  module _ (n w : ℕ) (t : List ℕ) (hu : not u ≡ false) (en : n ≡ spaces s) (et : t ≡ drop n s) (ew : w ≡ valueWidth 11 t) where
-    bare-as : take w t ≡ bare 11 s
-    bare-as = bare-is 11 n w s t (take w t) en et ew refl
+pub span-is : (s a r : List ℕ) (at w : ℕ) → a ≡ drop at s → r ≡ take w a → r ≡ take w (drop at s)
+span-is s a r at w ea er = er ∙ ap (take w) ea
 
-    both-empty : (x : Bool) (b : List ℕ) → b ≡ [] → [] ≡ cond x b []
-    both-empty true b e = sym e
-    both-empty false b e = refl
+-- ---- the walk of a text
+no-members : membersOf 10 [] ≡ []
+unfolding membersOf rowItems spaces
+no-members = refl
 
-    pub object-none : w ≡ 0 → r ≡ take 0 s → r ≡ objectOf s
-    unfolding objectOf
-    object-none z er = er ∙ both-empty (utf8 s && (eqb (padded (valueWidth 11) s) (length s) && eqb (getD (bare 11 s) 0 0) 0x7B)) (bare 11 s) (sym bare-as ∙ ap (λ (k : ℕ). take k t) z)
+abbrev tests : List ℕ → Bool
+tests s = utf8 s && (eqb (padded (valueWidth 11) s) (length s) && eqb (getD (bare 11 s) 0 0) 0x7B)
 
-    module _ (z : w ≡ 0 → ⊥) (v : List ℕ) (x : ℕ) (ev : v ≡ drop w t) (ex : x ≡ spaces v) where
-      behind : v ≡ drop (n + w) s
-      behind = ev ∙ ap (drop w) et ∙ drop-drop w n s
+-- no object: no member
+empty-text : (s : List ℕ) → tests s ≡ false → membersOf 10 (objectOf s) ≡ []
+unfolding objectOf
+empty-text s e = ap (λ (t : Bool). membersOf 10 (cond t (bare 11 s) [])) e ∙ no-members
 
-      width-is : n + w + x ≡ padded (valueWidth 11) s
+bare-text : (s : List ℕ) → membersOf 10 (bare 11 s) ≡ [] → membersOf 10 (objectOf s) ≡ []
+unfolding objectOf
+bare-text s e = go (tests s)
+  where
+    go : (t : Bool) → membersOf 10 (cond t (bare 11 s) []) ≡ []
+    go true = e
+    go false = no-members
+
+and-false : (a : Bool) → (a && false) ≡ false
+and-false true = refl
+and-false false = refl
+
+none-walked : (s r : List ℕ) (x : Walk) → x ≡ noWalk → membersOf 10 (objectOf s) ≡ [] → walkedOf r x ≡ gathered walkedAfter noneWalked (membersOf 10 (objectOf s))
+unfolding gathered
+none-walked s r x ex e = ap (walkedOf r) ex ∙ sym (ap (gathered walkedAfter noneWalked) e)
+
+-- the object at the head of the text, and what is behind it
+pub begins-raw : (text : List ℕ) (u o : Bool) → u ≡ utf8 text → not u ≡ true → false ≡ (utf8 text && o)
+begins-raw text u o eu h = ap (λ (x : Bool). x && o) (sym (sym eu ∙ not-true u h))
+
+pub begins-as : (text t : List ℕ) (n : ℕ) (u r : Bool) → u ≡ utf8 text → not u ≡ false → n ≡ spaces text → t ≡ drop n text → r ≡ eqb (getD t 0 0) 0x7B
+    → r ≡ (utf8 text && eqb (getD (drop (spaces text) text) 0 0) 0x7B)
+begins-as text t n u r eu h en et er =
+    er ∙ ap (λ (x : List ℕ). eqb (getD x 0 0) 0x7B) (et ∙ ap (λ (j : ℕ). drop j text) en) ∙ ap (λ (x : Bool). x && eqb (getD (drop (spaces text) text) 0 0) 0x7B) (sym (sym eu ∙ not-false u h))
+
+module _ (s u : List ℕ) (at k : ℕ) (eu : u ≡ drop at s) (ek : k ≡ spaces u) where
+  same : eqb (spaces (drop at s)) (length (drop at s)) ≡ eqb k (length u)
+  same = ap (λ (x : List ℕ). eqb (spaces x) (length x)) (sym eu) ∙ ap (λ (j : ℕ). eqb j (length u)) (sym ek)
+
+  pub ends-yes : k ≡ length u → true ≡ eqb (spaces (drop at s)) (length (drop at s))
+  ends-yes h = sym (same ∙ eq-eqb k (length u) h)
+
+  pub ends-no : (k ≡ length u → ⊥) → false ≡ eqb (spaces (drop at s)) (length (drop at s))
+  ends-no h = sym (same ∙ ne-eqb k (length u) h)
+
+module _ (text s : List ℕ) (es : s ≡ drop 1 (drop (spaces text) text)) (r : Walk) (f : Bool) (ef : f ≡ (utf8 text && eqb (getD (drop (spaces text) text) 0 0) 0x7B)) where
+  bare-as : bare 11 text ≡ take (valueWidth 11 (drop (spaces text) text)) (drop (spaces text) text)
+  unfolding bare
+  bare-as = refl
+
+  first-byte : (k : ℕ) → valueWidth 11 (drop (spaces text) text) ≡ suc k → getD (bare 11 text) 0 0 ≡ getD (drop (spaces text) text) 0 0
+  first-byte k e = ap (λ (x : List ℕ). getD x 0 0) bare-as ∙ getD-take (valueWidth 11 (drop (spaces text) text)) (drop (spaces text) text) 0 0 (omega arith)
+
+  -- no value: nothing
+  empty-bare : valueWidth 11 (drop (spaces text) text) ≡ 0 → membersOf 10 (objectOf text) ≡ []
+  empty-bare e = bare-text text (ap (membersOf 10) (bare-as ∙ ap (λ (k : ℕ). take k (drop (spaces text) text)) e) ∙ no-members)
+
+  pub text-other : not f ≡ true → r ≡ noWalk → walkedOf s r ≡ gathered walkedAfter noneWalked (membersOf 10 (objectOf text))
+  text-other h er = none-walked text s r er (go (valueWidth 11 (drop (spaces text) text)) refl)
+    where
+      apart : (u o : Bool) → (u && o) ≡ false → (u && (eqb (padded (valueWidth 11) text) (length text) && o)) ≡ false
+      apart true o e = ap (λ (b : Bool). eqb (padded (valueWidth 11) text) (length text) && b) e ∙ and-false (eqb (padded (valueWidth 11) text) (length text))
+      apart false o e = refl
+
+      go : (k : ℕ) → valueWidth 11 (drop (spaces text) text) ≡ k → membersOf 10 (objectOf text) ≡ []
+      go zero e = empty-bare e
+      go (suc k) e =
+          empty-text text (ap (λ (b : ℕ). utf8 text && (eqb (padded (valueWidth 11) text) (length text) && eqb b 0x7B)) (first-byte k e)
+          ∙ apart (utf8 text) (eqb (getD (drop (spaces text) text) 0 0) 0x7B) (sym ef ∙ not-true f h))
+
+  module _ (h : not f ≡ false) (x : Walk) (X : WalkIn s x) where
+    clean : utf8 text ≡ true
+    clean = left (utf8 text) _ (sym ef ∙ not-false f h)
+
+    brace : getD (drop (spaces text) text) 0 0 ≡ 0x7B
+    brace = eqb-true _ _ (right (utf8 text) _ (sym ef ∙ not-false f h))
+
+    pub text-none : x .whole ≡ 0 → r ≡ noWalk → walkedOf s r ≡ gathered walkedAfter noneWalked (membersOf 10 (objectOf text))
+    text-none z er = none-walked text s r er (go (valueWidth 11 (drop (spaces text) text)) refl)
+      where
+        e₀ : rowOf 10 0x7B (drop 1 (drop (spaces text) text)) ≡ 0
+        e₀ = ap (rowOf 10 0x7B) (sym es) ∙ sym (X .whole-is) ∙ z
+
+        go : (k : ℕ) → valueWidth 11 (drop (spaces text) text) ≡ k → membersOf 10 (objectOf text) ≡ []
+        go zero e = empty-bare e
+        go (suc k) e =
+            bare-text text (ap (membersOf 10) bare-as ∙ members-front 10 (drop (spaces text) text) (valueWidth 11 (drop (spaces text) text)) k brace e (omega arith) ∙ no-row 10 (drop (spaces text) text) brace k e₀ e)
+
+    module _ (z : x .whole ≡ 0 → ⊥) (g : Bool) (eg : g ≡ eqb (spaces (drop (x .whole) s)) (length (drop (x .whole) s))) where
+      row-is : rowOf 10 0x7B (drop 1 (drop (spaces text) text)) ≡ suc (x .whole - 1)
+      row-is = let p : x .whole ≡ suc (x .whole - 1) = omega arith in ap (rowOf 10 0x7B) (sym es) ∙ sym (X .whole-is) ∙ p
+
+      value-wide : valueWidth 11 (drop (spaces text) text) ≡ suc (x .whole)
+      value-wide = row-object 10 (drop (spaces text) text) brace (x .whole - 1) row-is ∙ omega arith
+
+      last : drop (x .whole) s ≡ drop (spaces text + suc (x .whole)) text
+      last =
+          ap (drop (x .whole)) es ∙ ap (drop (x .whole)) (drop-drop 1 (spaces text) text) ∙ drop-drop (x .whole) (spaces text + 1) text
+          ∙ ap (λ (j : ℕ). drop j text) (let q : spaces text + 1 + x .whole ≡ spaces text + suc (x .whole) = omega arith in q)
+
+      width-is : spaces text + suc (x .whole) + spaces (drop (x .whole) s) ≡ padded (valueWidth 11) text
       unfolding itemWidth
-      width-is = item-some 11 0x5B n w s t (lead-space 0x5B n s (λ q. omega arith) en) et ew x v z behind ex
+      width-is =
+          item-some 11 0x5B (spaces text) (suc (x .whole)) text (drop (spaces text) text) (lead-space 0x5B (spaces text) text (λ q. omega arith) refl) refl (sym value-wide)
+          (spaces (drop (x .whole) s)) (drop (x .whole) s) (λ q. omega arith) last refl
 
-      size-is : length s ≡ n + w + length v
+      size-is : length text ≡ spaces text + suc (x .whole) + length (drop (x .whole) s)
       size-is =
-          let a = value-le 11 t in
-          let b : length t ≡ length s - n = ap length et ∙ length-drop n s in
-          let c : length v ≡ length t - w = ap length ev ∙ length-drop w t in
-          omega (arith, ew)
+          let a = value-le 11 (drop (spaces text) text) in
+          let b : length (drop (spaces text) text) ≡ length text - spaces text = length-drop (spaces text) text in
+          let c : length (drop (x .whole) s) ≡ length text - (spaces text + suc (x .whole)) = ap length last ∙ length-drop (spaces text + suc (x .whole)) text in
+          omega (arith, value-wide)
 
-      pub object-more : (x ≡ length v → ⊥) → r ≡ take 0 s → r ≡ objectOf s
+      pub text-more : not g ≡ true → r ≡ noWalk → walkedOf s r ≡ gathered walkedAfter noneWalked (membersOf 10 (objectOf text))
+      text-more q er =
+          let w : spaces (drop (x .whole) s) ≡ length (drop (x .whole) s) → ⊥ = eqb-false _ _ (sym eg ∙ not-true g q) in
+          none-walked text s r er (empty-text text (ap (λ (b : Bool). utf8 text && (b && eqb (getD (bare 11 text) 0 0) 0x7B))
+          (ne-eqb (padded (valueWidth 11) text) (length text) (λ (p : padded (valueWidth 11) text ≡ length text). w (omega (arith, p, width-is, size-is)))) ∙ and-false (utf8 text)))
+
+      pub text-done : not g ≡ false → walkedOf s x ≡ gathered walkedAfter noneWalked (membersOf 10 (objectOf text))
       unfolding objectOf
-      object-more h er =
-          er ∙ no! _ (ap (λ (y : Bool). y && (eqb (padded (valueWidth 11) s) (length s) && eqb (getD (bare 11 s) 0 0) 0x7B)) (sym eu ∙ not-false u hu)
-          ∙ ap (λ (y : Bool). y && eqb (getD (bare 11 s) 0 0) 0x7B) (ne-eqb (padded (valueWidth 11) s) (length s) (λ q. h (omega (arith, q, width-is, size-is))))) refl
-
-      module _ (h : x ≡ length v) (b : List ℕ) (o : Bool) (eb : b ≡ take w t) (eo : o ≡ eqb (getD b 0 0) 0x7B) where
-        tests : (utf8 s && (eqb (padded (valueWidth 11) s) (length s) && eqb (getD (bare 11 s) 0 0) 0x7B)) ≡ o
-        tests =
-            ap (λ (y : Bool). y && (eqb (padded (valueWidth 11) s) (length s) && eqb (getD (bare 11 s) 0 0) 0x7B)) (sym eu ∙ not-false u hu)
-            ∙ ap (λ (y : Bool). y && eqb (getD (bare 11 s) 0 0) 0x7B) (eq-eqb (padded (valueWidth 11) s) (length s) (omega (arith, h, width-is, size-is)))
-            ∙ ap (λ (y : List ℕ). eqb (getD y 0 0) 0x7B) (sym (eb ∙ bare-as)) ∙ sym eo
-
-        pub object-other : not o ≡ true → r ≡ take 0 s → r ≡ objectOf s
-        unfolding objectOf
-        object-other k er = er ∙ no! _ (tests ∙ not-true o k) refl
-
-        pub object-is : not o ≡ false → b ≡ objectOf s
-        unfolding objectOf
-        object-is k = yes! _ (tests ∙ not-false o k) (eb ∙ bare-as)
+      text-done q =
+          let w : spaces (drop (x .whole) s) ≡ length (drop (x .whole) s) = eqb-true _ _ (sym eg ∙ not-false g q) in
+          let a : tests text ≡ true =
+          ap (λ (b : Bool). b && (eqb (padded (valueWidth 11) text) (length text) && eqb (getD (bare 11 text) 0 0) 0x7B)) clean
+          ∙ ap (λ (b : Bool). b && eqb (getD (bare 11 text) 0 0) 0x7B) (eq-eqb (padded (valueWidth 11) text) (length text) (omega (arith, w, width-is, size-is)))
+          ∙ eq-eqb (getD (bare 11 text) 0 0) 0x7B (first-byte (x .whole) value-wide ∙ brace) in
+          let ms : membersOf 10 (objectOf text) ≡ membersIn 10 s =
+          ap (λ (b : Bool). membersOf 10 (cond b (bare 11 text) [])) a ∙ ap (membersOf 10) bare-as
+          ∙ members-front 10 (drop (spaces text) text) (valueWidth 11 (drop (spaces text) text)) (x .whole) brace value-wide (omega (arith, value-wide)) ∙ row-members 10 (drop (spaces text) text) brace (x .whole - 1) row-is ∙ ap (membersIn 10) (sym es) in
+          X .walked-is z ∙ ap (gathered walkedAfter noneWalked) (sym ms)
 
 no-object : fieldsSaid (membersOf 10 []) ≡ false
 unfolding fieldsSaid membersOf rowItems spaces fieldOf valuesOf isPlain

@@ -1,14 +1,20 @@
 -- The numbers of a text's fields as the reader gathers them.
+use mathlib.Core.Path.{_≡_}
 use Prim.Native.Nat.{ℕ}
-use mathlib.Core.Bool.{Bool, cond}
-use mathlib.Core.List.{List}
-use Rattle.base.specs.Limits.{mostFrame}
+use mathlib.Core.Bool.{Bool, true, cond}
+use mathlib.Core.List.{List, [], _∷_}
+use lib.ListN.{take}
+use Rattle.segment.specs.Segment.{numbersOf}
 use Rattle.text.specs.Number.{valueFrom}
 use Rattle.json.specs.Num.{isPlain}
-use Rattle.json.specs.Member.{Member, fieldOf}
-use Rattle.mapjson.specs.Names.{firstName, lastName, sourceName, countName, outputName, durationName, mostWord}
-use Rattle.mapjson.specs.Reads.{segmentFields, segmentSaid}
+use Rattle.json.specs.Value.{valueWidth}
+use Rattle.json.specs.Walk.{itemWidth, itemsOf, rowOf}
+use Rattle.json.specs.Member.{Member, bare, memberOf, memberAll, fieldOf}
+use Rattle.mapjson.specs.Reads.{segmentSaid, segmentFrom}
 use Rattle.mapread.specs.declared.number.Numbers.{Numbers}
+use Rattle.mapread.specs.declared.number.Slots.{Slots}
+use Rattle.mapread.specs.declared.number.Found.{Found}
+use Rattle.mapread.specs.Slots.{noSlots, slotsAfter, numbersIn, slotsFrom}
 
 pub record Digits : Type 0 where
   pub good : Bool
@@ -22,14 +28,27 @@ abbrev pub fieldIn : (name : List ℕ) → (most : ℕ) → List Member → Digi
 fieldIn n most ms = fieldIs most (fieldOf n ms)
 
 -- the six numbers of a segment
-unfoldable pub sixOf : List ℕ → Numbers
-sixOf v =
-    record {
-      good = segmentSaid v;
-      first = fieldIn firstName mostFrame (segmentFields v) .value;
-      last = fieldIn lastName mostFrame (segmentFields v) .value;
-      source = fieldIn sourceName mostWord (segmentFields v) .value;
-      frames = fieldIn countName mostFrame (segmentFields v) .value;
-      output = fieldIn outputName mostWord (segmentFields v) .value;
-      duration = fieldIn durationName mostWord (segmentFields v) .value;
-    }
+abbrev pub sixNumbers : Numbers → List ℕ
+sixNumbers x = x .first ∷ x .last ∷ x .source ∷ x .frames ∷ x .output ∷ x .duration ∷ []
+
+-- the slots behind the first member of the row t, and behind all members of the row s
+abbrev pub membersIn : (d : ℕ) → List ℕ → List Member
+membersIn d t = memberAll d (itemsOf d 0x7B t)
+
+pub record MemberIn (x : Slots) (t : List ℕ) (r : Found) : Type 0 where
+  pub width-is : r .width ≡ itemWidth 0x7B (valueWidth 8) t
+  pub slots-are : (r .width ≡ 0 → ⊥) → r .slots ≡ slotsAfter x (memberOf 8 (take (r .width) t))
+
+pub record SlotsIn (s : List ℕ) (r : Found) : Type 0 where
+  pub width-is : r .width ≡ rowOf 8 0x7B s
+  pub slots-are : (r .width ≡ 0 → ⊥) → r .slots ≡ slotsFrom noSlots (membersIn 8 s)
+
+pub record SixIn (s : List ℕ) (x : Numbers) : Type 0 where
+  pub whole-is : x .whole ≡ rowOf 8 0x7B s
+  pub six-are : (x .whole ≡ 0 → ⊥) → x ≡ numbersIn (slotsFrom noSlots (membersIn 8 s)) (x .whole)
+
+-- the first segment of the row t
+pub record SegmentIn (t : List ℕ) (x : Numbers) : Type 0 where
+  pub whole-is : x .whole ≡ itemWidth 0x5B (valueWidth 9) t
+  pub good-is : (x .whole ≡ 0 → ⊥) → x .good ≡ segmentSaid (bare 9 (take (x .whole) t))
+  pub six-are : (x .whole ≡ 0 → ⊥) → x .good ≡ true → sixNumbers x ≡ numbersOf (segmentFrom (bare 9 (take (x .whole) t)))

@@ -1,4 +1,5 @@
 pub mod Answer
-pub mod Fields
 pub mod Slots
+pub mod Fields
+pub mod Walk
 pub mod Steps

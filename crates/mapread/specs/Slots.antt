@@ -1,6 +1,6 @@
 -- The fields of an object gathered in one walk: a slot for each name, changed by each member of that name.
 use Prim.Native.Nat.{ℕ}
-use mathlib.Core.Bool.{true, _&&_, _||_, cond}
+use mathlib.Core.Bool.{true, false, _&&_, _||_, not, cond}
 use mathlib.Core.List.{List, [], _∷_}
 use lib.Dec.{eqb, ltb}
 use Rattle.base.specs.Limits.{mostFrame}
@@ -13,6 +13,7 @@ use Rattle.mapjson.specs.Names.{timescaleName, rateNumName, rateDenName, inputN
 use Rattle.mapjson.specs.Reads.{isKnown}
 use Rattle.mapread.specs.declared.fields.Heads.{Heads}
 use Rattle.mapread.specs.declared.fields.HeadSlots.{HeadSlots}
+use Rattle.mapread.specs.declared.number.Numbers.{Numbers}
 use Rattle.mapread.specs.declared.number.Slot.{Slot}
 use Rattle.mapread.specs.declared.number.Slots.{Slots}
 
@@ -25,6 +26,15 @@ badSlot = record { state = 2; value = 0 }
 -- a first value is a number or none; a second one is one too many
 unfoldable pub slotWith : (most : ℕ) → Slot → (v : List ℕ) → Slot
 slotWith most x v = cond (eqb (x .state) 0) (cond (isPlain most v) (record { state = 1; value = valueFrom 0 v }) badSlot) badSlot
+
+-- which field of a segment a name is, and which of a map; 0: none
+unfoldable pub fieldNamed : List ℕ → ℕ
+fieldNamed n =
+    cond (equals firstName n) 1 (cond (equals lastName n) 2 (cond (equals sourceName n) 3 (cond (equals countName n) 4 (cond (equals outputName n) 5 (cond (equals durationName n) 6 0)))))
+
+unfoldable pub headNamed : List ℕ → ℕ
+headNamed n =
+    cond (equals timescaleName n) 1 (cond (equals rateNumName n) 2 (cond (equals rateDenName n) 3 (cond (equals inputName n) 4 (cond (equals framesName n) 5 (cond (equals segmentsName n) 6 0)))))
 
 unfoldable pub slotAfter : (name : List ℕ) → (most : ℕ) → Slot → Member → Slot
 slotAfter n most x m = cond (equals n (m .name)) (slotWith most x (m .value)) x
@@ -43,6 +53,26 @@ slotsAfter x m =
       output = slotAfter outputName mostWord (x .output) m;
       duration = slotAfter durationName mostWord (x .duration) m;
     }
+
+-- the numbers in them, from an item of a width
+unfoldable pub numbersIn : Slots → (whole : ℕ) → Numbers
+numbersIn x w =
+    record {
+      good = (eqb (x .first .state) 1 && (eqb (x .last .state) 1 && eqb (x .source .state) 1)) && (eqb (x .frames .state) 1 && (eqb (x .output .state) 1 && eqb (x .duration .state) 1));
+      first = x .first .value;
+      last = x .last .value;
+      source = x .source .value;
+      frames = x .frames .value;
+      output = x .output .value;
+      duration = x .duration .value;
+      whole = w;
+    }
+
+abbrev pub noNumbers : (whole : ℕ) → Numbers
+noNumbers w = record { good = false; first = 0; last = 0; source = 0; frames = 0; output = 0; duration = 0; whole = w }
+
+abbrev pub widenedBy : Numbers → (whole : ℕ) → Numbers
+widenedBy x w = record { good = x .good; first = x .first; last = x .last; source = x .source; frames = x .frames; output = x .output; duration = x .duration; whole = w }
 
 -- member by member
 unfoldable pub gathered : {S : Type 0} → (after : S → Member → S) → S → List Member → S
@@ -73,6 +103,19 @@ headsAfter x m =
       path = seenAfter inputName (x .path) m;
       list = seenAfter segmentsName (x .list) m;
       shallow = x .shallow && (isKnown (m .name) || isValue 8 (m .value));
+    }
+
+-- the same by which field a key names
+unfoldable pub headsBy : (n : ℕ) → HeadSlots → (v : List ℕ) → HeadSlots
+headsBy n x v =
+    record {
+      timescale = cond (eqb n 1) (slotWith mostFrame (x .timescale) v) (x .timescale);
+      «rate_num» = cond (eqb n 2) (slotWith mostFrame (x .«rate_num») v) (x .«rate_num»);
+      «rate_den» = cond (eqb n 3) (slotWith mostFrame (x .«rate_den») v) (x .«rate_den»);
+      frames = cond (eqb n 5) (slotWith mostFrame (x .frames) v) (x .frames);
+      path = cond (eqb n 4) 1 (x .path);
+      list = cond (eqb n 6) 1 (x .list);
+      shallow = x .shallow && (not (eqb n 0) || isValue 8 v);
     }
 
 -- they, with the path's value and the list

@@ -5,35 +5,38 @@ use crate::number::both;
 use crate::number::has_number;
 use crate::number::no_slot;
 use crate::number::opens;
-use crate::number::slot_after;
+use crate::number::slot_if;
 ghost use mathlib.Core.Path.{_≡_};
-ghost use mathlib.Core.Bool.{_||_};
+ghost use mathlib.Core.Bool.{_||_, not, cond};
+ghost use lib.Dec.{eqb};
+ghost use Rattle.json.specs.Str.{stringBytes};
 ghost use Rattle.json.specs.Value.{isValue};
-ghost use Rattle.json.specs.Member.{nameOf, valueOf, memberOf};
-ghost use Rattle.mapjson.specs.Reads.{isKnown, pathSaid};
-ghost use Rattle.mapread.specs.Slots.{noHeads, seenAfter, keptAfter, headsAfter, wordOf, headsIn};
-ghost use Rattle.mapread.specs.Steps.{objectOf};
+ghost use Rattle.mapjson.specs.Reads.{pathSaid};
+ghost use Rattle.mapread.specs.Slots.{headNamed, noHeads, headsBy, wordOf, headsIn};
 
-// Whether a member has one of the six names.
-fn is_known(i: &[u8]) -> bool
-    ensures { λ r. ⌜ r ≡ isKnown (nameOf (now (i .entry))) ⌝ }
+// Which field of a map a key names, 1 to 6; 0: none.
+pub fn head_named(key: &[u8]) -> u64
+    ensures { λ r. ⌜ r ≡ headNamed (stringBytes (now (key .entry))) ⌝ }
 {
-    if json::member_is(i, b"video_timescale") {
-        return true;
+    if json::name_is(key, b"video_timescale") {
+        return 1;
     }
-    if json::member_is(i, b"frame_rate_num") {
-        return true;
+    if json::name_is(key, b"frame_rate_num") {
+        return 2;
     }
-    if json::member_is(i, b"frame_rate_den") {
-        return true;
+    if json::name_is(key, b"frame_rate_den") {
+        return 3;
     }
-    if json::member_is(i, b"input") {
-        return true;
+    if json::name_is(key, b"input") {
+        return 4;
     }
-    if json::member_is(i, b"total_frames") {
-        return true;
+    if json::name_is(key, b"total_frames") {
+        return 5;
     }
-    json::member_is(i, b"segments")
+    if json::name_is(key, b"segments") {
+        return 6;
+    }
+    0
 }
 
 // Whether `s` is one value with nothing around it.
@@ -47,14 +50,14 @@ fn is_value(depth: usize, s: &[u8]) -> bool
     w == s.len()
 }
 
-// A known member, or one whose value is at most 8 deep.
-fn fits_eight(i: &[u8]) -> bool
-    ensures { λ r. ⌜ r ≡ (isKnown (nameOf (now (i .entry))) || isValue 8 (valueOf 10 (now (i .entry)))) ⌝ }
+// A known field, or a value that is at most 8 deep.
+fn fits_eight(n: u64, v: &[u8]) -> bool
+    ensures { λ r. ⌜ r ≡ (not (eqb n 0) || isValue 8 (now (v .entry))) ⌝ }
 {
-    if is_known(i) {
+    if n != 0 {
         return true;
     }
-    is_value(8, json::member_value(10, i))
+    is_value(8, v)
 }
 
 // A path of at most 1,024 bytes.
@@ -95,41 +98,28 @@ pub fn no_heads() -> HeadSlots
     }
 }
 
-// Whether a field was seen, behind the member `i`.
-fn seen_after(n: u64, i: &[u8], name: &[u8]) -> u64
-    ensures { λ r. ⌜ r ≡ seenAfter (now (name .entry)) n (memberOf 10 (now (i .entry))) ⌝ }
+// Whether the field `k` was seen, behind a member whose key names the field `n`.
+fn seen_if(seen: u64, n: u64, k: u64) -> u64
+    ensures { λ r. ⌜ r ≡ cond (eqb n k) 1 seen ⌝ }
 {
-    if json::member_is(i, name) {
+    if n == k {
         return 1;
     }
-    n
+    seen
 }
 
-// The value `v` of a field that was seen `n` times, behind the member `i`: the first value, and nothing behind a second.
-pub fn kept<'a>(n: u64, v: &'a [u8], i: &'a [u8], name: &[u8]) -> &'a [u8]
-    ensures { λ r. ⌜ now r ≡ keptAfter (now (name .entry)) n (now (v .entry)) (memberOf 10 (now (i .entry))) ⌝ }
-{
-    if json::member_is(i, name) {
-        if n == 0 {
-            return json::member_value(10, i);
-        }
-        return base::front(i, 0);
-    }
-    v
-}
-
-// The slots behind the member `i`.
-pub fn heads_after(x: HeadSlots, i: &[u8]) -> HeadSlots
-    ensures { λ r. ⌜ r ≡ headsAfter x (memberOf 10 (now (i .entry))) ⌝ }
+// The slots behind a member whose key names the field `n`.
+pub fn heads_after(x: HeadSlots, n: u64, v: &[u8]) -> HeadSlots
+    ensures { λ r. ⌜ r ≡ headsBy n x (now (v .entry)) ⌝ }
 {
     HeadSlots {
-        timescale: slot_after(x.timescale, 10, i, b"video_timescale", 4294967295),
-        rate_num: slot_after(x.rate_num, 10, i, b"frame_rate_num", 4294967295),
-        rate_den: slot_after(x.rate_den, 10, i, b"frame_rate_den", 4294967295),
-        frames: slot_after(x.frames, 10, i, b"total_frames", 4294967295),
-        path: seen_after(x.path, i, b"input"),
-        list: seen_after(x.list, i, b"segments"),
-        shallow: both(x.shallow, fits_eight(i)),
+        timescale: slot_if(x.timescale, n, 1, v, 4294967295),
+        rate_num: slot_if(x.rate_num, n, 2, v, 4294967295),
+        rate_den: slot_if(x.rate_den, n, 3, v, 4294967295),
+        frames: slot_if(x.frames, n, 5, v, 4294967295),
+        path: seen_if(x.path, n, 4),
+        list: seen_if(x.list, n, 6),
+        shallow: both(x.shallow, fits_eight(n, v)),
     }
 }
 
@@ -163,27 +153,4 @@ pub fn heads_of(x: HeadSlots) -> Heads
         rate_den: word(x.rate_den),
         frames: word(x.frames),
     }
-}
-
-// The object that a text is; nothing where it is none.
-pub fn map_object(s: &[u8]) -> &[u8]
-    ensures { λ r. ⌜ now r ≡ objectOf (now (s .entry)) ⌝ }
-{
-    if !utf8::is_utf8(s) {
-        return base::front(s, 0);
-    }
-    let t = base::rest(s, json::spaces(s));
-    let w = json::value_width(11, t);
-    if w == 0 {
-        return base::front(s, 0);
-    }
-    let u = base::rest(t, w);
-    if json::spaces(u) != u.len() {
-        return base::front(s, 0);
-    }
-    let o = base::front(t, w);
-    if !opens(o, 0x7B) {
-        return base::front(s, 0);
-    }
-    o
 }

@@ -3,6 +3,7 @@ mod fields;
 mod list;
 mod number;
 mod reading;
+mod walk;
 
 pub use reading::Taken;
 pub use reading::read_map;

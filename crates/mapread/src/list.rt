@@ -1,7 +1,7 @@
 // The list of segments.
 use crate::number::Numbers;
 use crate::number::opens;
-use crate::number::six;
+use crate::number::segment_in;
 ghost use mathlib.Core.Path.{_≡_};
 ghost use mathlib.Core.Bool.{cond};
 ghost use mathlib.Core.List.{[], _∷_};
@@ -55,17 +55,16 @@ fn segments_into(s: &[u8], map: &mut [u64]) -> Listed
     let mut t = json::row_in(0x5B, s);
     let mut n: usize = 0;
     while 0 < t.len() {
-        let k = json::item_width(9, 0x5B, t);
-        if k == 0 {
+        let x = segment_in(t);
+        if x.whole == 0 {
             return answer(true, n);
         }
-        let x = six(json::bare(9, base::front(t, k)));
         if !x.good {
             return answer(false, 0);
         }
         segment_at(map, n, x);
         n += 1;
-        let u = json::next_row(t, k);
+        let u = json::next_row(t, x.whole);
         t = u;
     }
     answer(true, n)

@@ -1,23 +1,21 @@
 // A map read.
 use crate::fields::HeadSlots;
 use crate::fields::Heads;
-use crate::fields::heads_after;
 use crate::fields::heads_of;
-use crate::fields::kept;
-use crate::fields::map_object;
-use crate::fields::no_heads;
 use crate::fields::path_good;
 use crate::list::list_into;
 use crate::number::both;
+use crate::walk::walk_text;
 ghost use mathlib.Core.Path.{_≡_};
 ghost use Prim.Native.Nat.{_*_, _≤_};
-ghost use lib.ListN.{length, take};
+ghost use lib.ListN.{length, take, drop};
 ghost use Rattle.base.specs.Limits.{mostSegments};
 ghost use Rattle.base.specs.Put.{placed, placedLength};
+ghost use Rattle.json.specs.Space.{spaces};
 ghost use Rattle.json.specs.Member.{membersOf};
 ghost use Rattle.mapjson.specs.Names.{mostPath};
 ghost use Rattle.mapread.specs.Answer.{noneTaken, Reads};
-ghost use Rattle.mapread.specs.Steps.{Gathered, PartsOf, listBad, Asked, Gives};
+ghost use Rattle.mapread.specs.Steps.{objectOf, Gathered, PartsOf, listBad, Asked, Gives};
 
 // A map read: `places` are the numbers written, six to a segment.
 pub struct Taken {
@@ -68,31 +66,30 @@ fn gather(x: HeadSlots, input: &[u8], list: &[u8], room: &mut [u64], said: &mut 
     }
 }
 
-// They, of the object `s`, in one walk over its members.
-fn parts_of(s: &[u8], room: &mut [u64], said: &mut [u8]) -> Parts
-    requires { ⌜ (length (now room) ≡ 6 * mostSegments) × (length (now said) ≡ mostPath) ⌝ }
-    ensures { λ r. ⌜ PartsOf (membersOf 10 (now (s .entry))) r (now (room .entry)) (now (room .exit)) (now (said .entry)) (now (said .exit)) ⌝ }
+// What stands behind the first byte of a text that is no white space.
+fn row_of(text: &[u8]) -> &[u8]
+    ensures { λ r. ⌜ now r ≡ drop 1 (drop (spaces (now (text .entry))) (now (text .entry))) ⌝ }
 {
-    let mut x = no_heads();
-    let mut input = base::front(s, 0);
-    let mut list = base::front(s, 0);
-    let mut t = json::row_in(0x7B, s);
-    while 0 < t.len() {
-        let k = json::item_width(10, 0x7B, t);
-        if k == 0 {
-            return gather(x, input, list, room, said);
-        }
-        let i = base::front(t, k);
-        let p = kept(x.path, input, i, b"input");
-        input = p;
-        let l = kept(x.list, list, i, b"segments");
-        list = l;
-        let y = heads_after(x, i);
-        x = y;
-        let u = json::next_row(t, k);
-        t = u;
-    }
-    gather(x, input, list, room, said)
+    base::rest(base::rest(text, json::spaces(text)), 1)
+}
+
+// The `width` bytes from the place `at` on.
+fn span(s: &[u8], at: usize, width: usize) -> &[u8]
+    ensures { λ r. ⌜ now r ≡ take width (drop at (now (s .entry))) ⌝ }
+{
+    base::front(base::rest(s, at), width)
+}
+
+// They, of a text.
+fn parts_of(text: &[u8], room: &mut [u64], said: &mut [u8]) -> Parts
+    requires { ⌜ (length (now room) ≡ 6 * mostSegments) × (length (now said) ≡ mostPath) ⌝ }
+    ensures { λ r. ⌜ PartsOf (membersOf 10 (objectOf (now (text .entry)))) r (now (room .entry)) (now (room .exit)) (now (said .entry)) (now (said .exit)) ⌝ }
+{
+    let s = row_of(text);
+    let x = walk_text(text, s);
+    let input = span(s, x.path_at, x.path_len);
+    let list = span(s, x.list_at, x.list_len);
+    gather(x.heads, input, list, room, said)
 }
 
 // Whether `count` segments whose numbers stand in `room` break a limit of maps.
@@ -162,10 +159,9 @@ fn give(p: Parts, said: &[u8], room: &[u64], map: &mut [u64], path: &mut [u8]) -
 pub fn read_map(text: &[u8], map: &mut [u64], path: &mut [u8]) -> Taken
     ensures { λ r. ⌜ Reads (now (text .entry)) r (now (map .entry)) (now (map .exit)) (now (path .entry)) (now (path .exit)) ⌝ }
 {
-    let object = map_object(text);
     let mut room = [0u64; 6144];
     let mut said = [0u8; 1024];
-    let p = parts_of(object, &mut room, &mut said);
+    let p = parts_of(text, &mut room, &mut said);
     if !p.good {
         return refused(23);
     }

@@ -1,4 +1,4 @@
-use Rattle.mapread.proofs.SlotLaws.{heads-all}
+use Rattle.mapread.proofs.WalkLaws.{heads-all}
 use borrow.Author.Needs.{needs}
 use Rattle.mapread.proofs.fields.heads_of.Statement.{statement}
 use Rattle.mapread.proofs.fields.heads_of.Tie as tie

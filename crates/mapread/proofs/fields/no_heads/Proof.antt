@@ -1,4 +1,4 @@
-use Rattle.mapread.proofs.SlotLaws.{no-heads-all}
+use Rattle.mapread.proofs.WalkLaws.{no-heads-all}
 use borrow.Author.Needs.{needs}
 use Rattle.mapread.proofs.fields.no_heads.Statement.{statement}
 use Rattle.mapread.proofs.fields.no_heads.Tie as tie

@@ -1,4 +1,4 @@
-use Rattle.mapread.proofs.SlotLaws.{word-over, word-within}
+use Rattle.mapread.proofs.WalkLaws.{word-over, word-within}
 use borrow.Author.Needs.{needs}
 use Rattle.mapread.proofs.fields.word.Statement.{statement}
 use Rattle.mapread.proofs.fields.word.Tie as tie

@@ -8,14 +8,11 @@ use Rattle.mapread.proofs.list.segments_into.Statement.{statement}
 use Rattle.mapread.proofs.list.segments_into.Tie as tie
 use Rattle.mapread.proofs.list.segments_into.Reads as reads
 use Rattle.mapread.proofs.list.segments_into.Lts as lts
-use Rattle.base.proofs.front.Reads as front-reads
-use Rattle.json.proofs.bare.Reads as bare-reads
 use Rattle.json.proofs.next_row.Reads as next-row-reads
 use Rattle.json.proofs.row_in.Reads as row-in-reads
-use Rattle.json.proofs.item_width.Reads as item-width-reads
 use Rattle.mapread.proofs.list.answer.Reads as answer-reads
 use Rattle.mapread.proofs.list.segment_at.Reads as segment-at-reads
-use Rattle.mapread.proofs.number.six.Reads as six-reads
+use Rattle.mapread.proofs.number.segment_in.Reads as segment-in-reads
 
 abbrev Inv-loop : tie.InvT-loop
 Inv-loop s map₀ t₀ n₀ map t n = (n + length t ≤ length s) × (length map ≡ length map₀) × Left s t n map₀ map
@@ -29,8 +26,8 @@ row-in-requires c κs = search needs
 loop-holds : tie.Need-loop-holds Inv-loop μ-loop
 loop-holds c = (search row-short, refl, search left-start)
 
-item-width-requires : tie.Need-item-width-requires Inv-loop μ-loop
-item-width-requires c κs = search needs
+segment-in-requires : tie.Need-segment-in-requires Inv-loop μ-loop
+segment-in-requires c κs = search needs
 
 answer-requires : tie.Need-answer-requires Inv-loop μ-loop
 answer-requires c κs = search needs
@@ -40,15 +37,6 @@ same-length c = search needs
 
 returns : tie.Need-returns Inv-loop μ-loop
 returns c = search left-stop
-
-front-requires : tie.Need-front-requires Inv-loop μ-loop
-front-requires c κs = search needs
-
-bare-requires : tie.Need-bare-requires Inv-loop μ-loop
-bare-requires c κs = search needs
-
-six-requires : tie.Need-six-requires Inv-loop μ-loop
-six-requires c κs = search needs
 
 answer-requires-2 : tie.Need-answer-requires-2 Inv-loop μ-loop
 answer-requires-2 c κs = search needs
@@ -91,13 +79,10 @@ segments-into-spec =
     μ-loop
     row-in-requires
     loop-holds
-    item-width-requires
+    segment-in-requires
     answer-requires
     same-length
     returns
-    front-requires
-    bare-requires
-    six-requires
     answer-requires-2
     same-length-2
     returns-2

@@ -4,14 +4,10 @@ use Rattle.mapread.proofs.reading.read_map.Statement.{statement}
 use Rattle.mapread.proofs.reading.read_map.Tie as tie
 use Rattle.mapread.proofs.reading.read_map.Reads as reads
 use Rattle.mapread.proofs.reading.read_map.Lts as lts
-use Rattle.mapread.proofs.fields.map_object.Reads as map-object-reads
 use Rattle.mapread.proofs.reading.give.Reads as give-reads
 use Rattle.mapread.proofs.reading.parts_of.Reads as parts-of-reads
 use Rattle.mapread.proofs.reading.refused.Reads as refused-reads
 use Rattle.mapread.proofs.reading.said_number.Reads as said-number-reads
-
-map-object-requires : tie.Need-map-object-requires
-map-object-requires c κs = search needs
 
 slice-aggregate-parts-of : tie.Need-slice-aggregate-parts-of
 slice-aggregate-parts-of c = search needs
@@ -62,7 +58,6 @@ pub read-map-spec : {M : Type 1} → statement M
 read-map-spec =
     tie.close
     (tie.spec
-    map-object-requires
     slice-aggregate-parts-of
     slice-aggregate-parts-of-2
     parts-of-requires
