@@ -1,6 +1,6 @@
 -- The lines of a text, one behind the other: what a line leaves, and the session that has taken them.
 use mathlib.Core.Path.{_≡_, refl, sym, ap, ap₂, subst, _∙_}
-use mathlib.Core.Bool.{Bool, true, false, cond, true≢false}
+use mathlib.Core.Bool.{Bool, true, false, cond, _&&_, true≢false}
 use mathlib.Core.List.{List, [], _∷_, _++_, append-nil, append-assoc}
 use Prim.Native.Nat.{ℕ, zero, suc, _+_, _-_, _*_, _≤_, _<_, _^_, min}
 use native.Mathlib.Omega.{arith}
@@ -8,12 +8,15 @@ use native.Mathlib.Numerals.{add-one}
 use lib.Dec.{eqb}
 use lib.ListN.{length, take, drop, getD, length-append, length-take, length-drop, take-append-drop}
 use lib.Seq.{take-take, take-add, drop-drop, length-take-le}
-use borrow.Author.Tests.{le-leb, le-ltb, eqb-true, eqb-false}
+use borrow.Author.Tests.{le-leb, le-ltb, eqb-true, eqb-false, ne-eqb}
 use Rattle.base.specs.Limits.{mostLine, mostBlock, mostHeld}
 use Rattle.base.specs.Put.{put, placed, placedLength}
 use Rattle.base.proofs.PutLaws.{length-put, length-tail, length-yes, placed-yes, take-put}
 use Rattle.text.specs.Line.{lineLength, endsLine, isEmpty, concat}
 use Rattle.text.proofs.LineLaws.{line-le}
+use Rattle.utf8.specs.Utf8.{utf8}
+use Rattle.timing.specs.Style.{blankIn}
+use Rattle.timing.specs.Header.{headerDue}
 use Rattle.segment.specs.declared.segment.Segment.{Segment}
 use Rattle.segment.specs.Segment.{segmentsOf}
 use Rattle.event.specs.declared.setting.Config.{Config}
@@ -26,7 +29,7 @@ use Rattle.machine.specs.Session.{emitted}
 use Rattle.machine.proofs.Resume.{run-append, fault-number}
 use Rattle.machine.proofs.Laws.{Lawful}
 use Rattle.machine.proofs.Native.{Ok, GoingOk, text-ok}
-use Rattle.kinds.specs.Takes.{State, machineOf}
+use Rattle.kinds.specs.Takes.{State, blockTakes, takes, machineOf}
 use Rattle.kinds.specs.Kit.{kit}
 use Rattle.kinds.proofs.KindLaws.{Fit, lawful, concat-snoc}
 use Rattle.kinds.proofs.Fits.{text-fits}
@@ -38,7 +41,7 @@ use Rattle.lines.proofs.DoneLaws.{take-done, take-skip}
 use Rattle.session.proofs.StandLaws.{drop-take, lent, back, wrote-more, counts-more}
 use Rattle.session.proofs.RunLaws.{counts-grown, fit-back, fit-parsed}
 use Rattle.atonce.specs.declared.lining.Lined.{Lined}
-use Rattle.atonce.specs.Lined.{Closed, linedOf, Lining, Sized}
+use Rattle.atonce.specs.Lined.{Closed, linedOf, Joins, Onto, Lining, Sized}
 
 -- after a line that ends at e; the open block begins at b
 abbrev nextOf : Lined → Taken → (b e : ℕ) → Lined
@@ -147,6 +150,22 @@ no-bytes : (l : List ℕ) → length l ≡ 0 → l ≡ []
 no-bytes [] e = refl
 no-bytes (b ∷ l) e = absurd (omega arith)
 
+-- ---- a line that only joins the open block
+header-later : (kind n : ℕ) (b : List (List ℕ)) → (n ≡ 0 → ⊥) → headerDue kind n b ≡ false
+unfolding headerDue
+header-later kind zero b h = absurd (h refl)
+header-later kind (suc n) b h = go (eqb kind 2)
+  where
+    go : (t : Bool) → t && false ≡ false
+    go true = refl
+    go false = refl
+
+join-says : (kind n : ℕ) (s : State) (l : List ℕ) → (kind ≡ 0 → ⊥) → Joins kind n (length (concat (s .block)) + length l) l
+    → takeLine (machineOf kind) s n l ≡ says (record { columns = s .columns; block = s .block ++ (l ∷ []) }) []
+unfolding takes blockTakes
+join-says kind n s l z J =
+    rw (ne-eqb n 0 (J .later), ne-eqb kind 0 z, header-later kind n (s .block) (J .later), J .good, J .filled, le-leb (length (concat (s .block)) + length l) mostBlock (J .small))
+
 -- ---- the lines so far
 module _ (c : Config) (m text : List ℕ) (at : Lined) (out₀ out places₀ places : List ℕ) (A : Lining c m text at out₀ out places₀ places) where
   abbrev T : Lawful kit (c .kind)
@@ -251,6 +270,28 @@ module _ (c : Config) (m text : List ℕ) (at : Lined) (out₀ out places₀ pla
     ran-more =
         ap (run M start) (sym text-more) ∙ run-append M start front line ∙ ap (λ (r : Run State). run M r line) (A .ran)
         ∙ run-line M (A .state) (at .lines) (A .parts) [] line (C .ends) (omega (arith, line-length, C .near))
+
+    pub line-joins : (c .kind ≡ 0 → ⊥) → Joins (c .kind) (at .lines) (e - at .begin) line
+        → Lining c m text (linedOf (at .lines + 1) (at .counts) (at .columns) (at .begin) e (at .written) (at .warned)) out₀ out places₀ places
+    line-joins z J =
+        let q : e - at .begin ≡ length (concat (A .state .block)) + length line = omega (arith, block-size, line-length, C .lo, A .order) in
+        let x = join-says (c .kind) (at .lines) (A .state) line z (subst (λ (j : ℕ). Joins (c .kind) (at .lines) j line) q J) in
+        record {
+          ready = A .ready;
+          short = A .short;
+          output = A .output;
+          placed = A .placed;
+          within = C .hi;
+          order = omega (arith, A .order, C .lo);
+          first = λ w. absurd (omega (arith, w));
+          state = record { columns = A .state .columns; block = A .state .block ++ (line ∷ []) };
+          parts = A .parts ++ [];
+          ran = rw add-one (ran-more ∙ ap (lineEnd M (at .lines) (A .parts)) x);
+          columns = A .columns;
+          block = sym (take-append-drop size held) ∙ ap₂ (λ (u v : List ℕ). u ++ v) held-front held-back ∙ sym (concat-snoc (A .state .block) line);
+          counts = rw append-nil (A .counts);
+          wrote = rw append-nil (A .wrote);
+        }
 
     module _ (told : Taken) (y z : List ℕ)
         (h : LineTells (takeIn c (segmentsOf m) (at .lines) (at .counts) (at .columns) held size (length (lent (at .written) out)) (length (lent (at .warned) places)))
@@ -376,3 +417,19 @@ module _ (c : Config) (m text : List ℕ) (at : Lined) (out₀ out places₀ pla
             counts = A .counts;
             wrote = stays-by (takeLine M (A .state) (at .lines) line) done f;
           }
+
+-- ---- lines that only join
+pub joins-not : (kind n size : ℕ) (l : List ℕ) → false ≡ true → Joins kind n size l
+joins-not kind n size l e = absurd (true≢false (sym e))
+
+pub joins-yes : (kind n size : ℕ) (l : List ℕ) (p r : Bool) → (n ≡ 0 → ⊥) → size ≤ 4096 → p ≡ blankIn kind l → p ≡ false → r ≡ utf8 l → r ≡ true → Joins kind n size l
+joins-yes kind n size l p r h s e f g q = record { later = h; small = s; filled = sym e ∙ f; good = sym g ∙ q }
+
+pub onto-none : (kind b : ℕ) (text : List ℕ) (n i : ℕ) → Onto kind b text n i n i
+onto-none kind b text n i = λ c m t k o w out₀ out places₀ places q L. L
+
+pub onto-more : (kind b : ℕ) (text : List ℕ) (n₀ i₀ n i e : ℕ) (r : Bool) → Onto kind b text n₀ i₀ n i → (kind ≡ 0 → ⊥) → ((e ≡ 0 → ⊥) → Closed text i e) → (e ≡ 0 → ⊥)
+    → (r ≡ true → Joins kind n (e - b) (take (e - i) (drop i text))) → r ≡ true → Onto kind b text n₀ i₀ (n + 1) e
+onto-more kind b text n₀ i₀ n i e r f z C h J y = λ c m t k o w out₀ out places₀ places q L.
+    line-joins c m text (linedOf n t k b i o w) out₀ out places₀ places (f c m t k o w out₀ out places₀ places q L) e (C h) (λ x. z (sym q ∙ x))
+    (subst (λ (j : ℕ). Joins j n (e - b) (take (e - i) (drop i text))) (sym q) (J y))

@@ -4,10 +4,12 @@ use mathlib.Core.Bool.{true, false}
 use mathlib.Core.List.{List, []}
 use Prim.Native.Nat.{ℕ, _+_, _-_, _≤_, _<_}
 use lib.ListN.{length, take, drop}
-use Rattle.base.specs.Limits.{mostTaken, mostLine, mostHeld}
+use Rattle.base.specs.Limits.{mostTaken, mostLine, mostBlock, mostHeld}
+use Rattle.utf8.specs.Utf8.{utf8}
 use Rattle.text.specs.Line.{concat, endsLine}
 use Rattle.event.specs.declared.setting.Config.{Config}
 use Rattle.event.specs.Says.{Part}
+use Rattle.timing.specs.Style.{blankIn}
 use Rattle.columns.specs.declared.layout.Columns.{Columns}
 use Rattle.machine.specs.declared.counting.Counts.{Counts}
 use Rattle.machine.specs.Counts.{countsOf}
@@ -69,3 +71,16 @@ pub record Sized (at : Lined) (n : ℕ) : Type 0 where
   pub order : at .begin ≤ at .place
   pub block : at .place ≤ at .begin + mostHeld
   pub short : n ≤ mostTaken
+
+-- a line behind the n-th only joins the open block, which has `size` bytes with it
+pub record Joins (kind n size : ℕ) (line : List ℕ) : Type 0 where
+  pub later : n ≡ 0 → ⊥
+  pub small : size ≤ mostBlock
+  pub filled : blankIn kind line ≡ false
+  pub good : utf8 line ≡ true
+
+-- wherever n lines have led to i, n′ lines have led to i′, with the same block open and nothing written
+abbrev pub Onto : (kind begin : ℕ) → (text : List ℕ) → (n i n′ i′ : ℕ) → Type 0
+Onto kind b text n i n′ i′ =
+    (c : Config) (m : List ℕ) (t : Counts) (k : Columns) (o w : ℕ) (out₀ out places₀ places : List ℕ) → c .kind ≡ kind → Lining c m text (linedOf n t k b i o w) out₀ out places₀ places
+    → Lining c m text (linedOf n′ t k b i′ o w) out₀ out places₀ places

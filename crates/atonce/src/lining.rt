@@ -4,9 +4,11 @@ use event::Config;
 use foreign::Session;
 use machine::Counts;
 ghost use mathlib.Core.Path.{_≡_};
-ghost use mathlib.Core.Bool.{cond};
+ghost use mathlib.Core.Bool.{true, cond};
+ghost use Prim.Native.Nat.{_≤_};
 ghost use lib.ListN.{length};
-ghost use Rattle.atonce.specs.Lined.{Closed, begunOf, linedOf, Lining, Resumes, Sized};
+ghost use Rattle.base.specs.Limits.{mostTaken};
+ghost use Rattle.atonce.specs.Lined.{Closed, begunOf, linedOf, Joins, Onto, Lining, Resumes, Sized};
 
 // How far the lines have led: `place` bytes are taken, the open block begins at `begin`.
 pub struct Lined {
@@ -59,6 +61,51 @@ fn led_to(n: u32, counts: Counts, columns: Columns, b: usize, i: usize, o: usize
     }
 }
 
+// Lines passed over: how many lines there are before the next one, and where that begins.
+struct Passed {
+    lines: u32,
+    place: usize,
+}
+
+// Whether a line, before which n stand, only joins the open block, which has `size` bytes with it.
+fn joins_block(kind: u32, n: u32, size: usize, line: &[u8]) -> bool
+    ensures { λ r. ⌜ (r ≡ true → Joins kind n size (now (line .entry))) ⌝ }
+{
+    if n == 0 {
+        return false;
+    }
+    if base::MOST_BLOCK < size {
+        return false;
+    }
+    if timing::is_blank_in(kind, line) {
+        return false;
+    }
+    utf8::is_utf8(line)
+}
+
+// Passes over the lines from i on that only join the open block, which begins at b.
+fn pass_joins(kind: u32, lines: u32, b: usize, begin: usize, text: &[u8]) -> Passed
+    requires { ⌜ (lines ≤ begin) × (b ≤ begin) × (begin ≤ length (now text)) × (length (now text) ≤ mostTaken) ⌝ }
+    ensures { λ r. ⌜ begin ≤ r .place ⌝ }
+    ensures { λ r. ⌜ Onto kind b (now (text .entry)) lines begin (r .lines) (r .place) ⌝ }
+{
+    let mut n = lines;
+    let mut i = begin;
+    while kind != 0 {
+        let e = line_end(text, i);
+        if e == 0 {
+            return Passed { lines: n, place: i };
+        }
+        if joins_block(kind, n, e - b, &text[i..e]) {
+            n += 1;
+            i = e;
+        } else {
+            return Passed { lines: n, place: i };
+        }
+    }
+    Passed { lines: n, place: i }
+}
+
 // The lines that end with LF, up to one that is too long or at fault.
 pub fn run_lines(
     config: Config,
@@ -79,30 +126,31 @@ pub fn run_lines(
     let mut o = start.written;
     let mut w = start.warned;
     while i < text.len() {
-        let e = line_end(text, i);
+        let p = pass_joins(config.kind, n, b, i, text);
+        let e = line_end(text, p.place);
         if e == 0 {
-            return led_to(n, counts, columns, b, i, o, w);
+            return led_to(p.lines, counts, columns, b, p.place, o, w);
         }
         let told = lines::take_line(
             config,
             map,
-            n,
+            p.lines,
             counts,
             columns,
             &text[b..e],
-            i - b,
+            p.place - b,
             &mut out[o..],
             &mut warnings[w..],
         );
         if told.number != 0 {
-            return led_to(n, counts, columns, b, i, o, w);
+            return led_to(p.lines, counts, columns, b, p.place, o, w);
         }
         b = block_begin(told.added, b + told.skip, e);
         counts = told.counts;
         columns = told.columns;
         o += told.written;
         w += told.warned;
-        n += 1;
+        n = p.lines + 1;
         i = e;
     }
     led_to(n, counts, columns, b, i, o, w)

@@ -1,4 +1,5 @@
 -- The laws of the crate that belong to no one function.
+pub mod CountLaws
 pub mod WriteLaws
 pub mod BlockLaws
 pub mod Fits

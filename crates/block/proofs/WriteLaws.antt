@@ -1,5 +1,5 @@
 -- Laws of the new block: written piece by piece, and no longer than three times the old one.
-use mathlib.Core.Path.{_≡_, refl, sym, ap, _∙_}
+use mathlib.Core.Path.{_≡_, refl, sym, ap, subst, _∙_}
 use mathlib.Core.Bool.{Bool, true, false}
 use mathlib.Core.List.{List, [], _∷_, _++_, append-assoc, append-nil}
 use Prim.Native.Nat.{ℕ, _+_, _-_, _≤_, _<_, _^_}
@@ -112,3 +112,8 @@ module _ (tag lost : Bool) (x : ℕ) (w : List ℕ) (room : 4 ≤ length w) wher
   pub warn-none : tag ≡ false → lost ≡ false → (0 ≡ length Places) × (w ≡ put Places w)
   unfolding placesOf
   warn-none t l = by-places [] w 0 (rw (t, l)) (sym (put-nil w), refl)
+
+-- the line's number worked out
+pub warn-number : (tag lost : Bool) (x y n : ℕ) (w v : List ℕ) → y ≡ x → (n ≡ length (placesOf (warnIf tag 4 y ++ warnIf lost 5 y))) × (v ≡ put (placesOf (warnIf tag 4 y ++ warnIf lost 5 y)) w)
+    → (n ≡ length (placesOf (warnIf tag 4 x ++ warnIf lost 5 x))) × (v ≡ put (placesOf (warnIf tag 4 x ++ warnIf lost 5 x)) w)
+warn-number tag lost x y n w v e p = subst (λ (z : ℕ). (n ≡ length (placesOf (warnIf tag 4 z ++ warnIf lost 5 z))) × (v ≡ put (placesOf (warnIf tag 4 z ++ warnIf lost 5 z)) w)) e p

@@ -1,10 +1,10 @@
 -- What the code answers to a block at every input: the block said, then put through the map.
 use mathlib.Core.Bool.{cond}
 use mathlib.Core.List.{List}
-use Prim.Native.Nat.{ℕ, _*_}
+use Prim.Native.Nat.{ℕ, suc, _+_, _*_, _-_}
 use lib.Dec.{ltb}
 use lib.ListN.{length}
-use Rattle.text.specs.Line.{linesOf}
+use Rattle.text.specs.Line.{linesOf, lineCount}
 use Rattle.segment.specs.declared.segment.Segment.{Segment}
 use Rattle.stamp.specs.declared.read.Time.{Time}
 use Rattle.stamp.specs.declared.read.Time.the-variants.{At, Bad as NoTime}
@@ -40,3 +40,7 @@ abbrev pub timesRead : Time → Time → Reading
 timesRead NoTime y = Bad
 timesRead (At S a) NoTime = Bad
 timesRead (At S a) (At E b) = Both (record { start = S; «start_mark» = a; stop = E; «stop_mark» = b })
+
+-- the number of the line behind the first k of a block that ends with the last-th line
+abbrev pub numberIn : (last k : ℕ) → (block : List ℕ) → ℕ
+numberIn last k b = (suc last - lineCount (linesOf b)) + k

@@ -1,4 +1,5 @@
 // One closed block of SRT or WebVTT: its lines as one slice, retimed into the rest of the output.
+use crate::numbering::number_in;
 use event::Config;
 use event::Counted;
 use event::Decision;
@@ -13,9 +14,10 @@ use timing::end_length;
 use timing::locate;
 ghost use mathlib.Core.Path.{_≡_};
 ghost use mathlib.Core.List.{_++_};
-ghost use Prim.Native.Nat.{_+_, _*_, _≤_};
+ghost use Prim.Native.Nat.{_+_, _*_, _-_, _≤_, suc};
 ghost use lib.ListN.{length};
 ghost use Rattle.base.specs.Put.{put, placedAt, placeAfter};
+ghost use Rattle.text.specs.Line.{linesOf, lineCount};
 ghost use Rattle.stamp.specs.Read.{timeIn};
 ghost use Rattle.stamp.specs.Write.{timeText};
 ghost use Rattle.segment.specs.Segment.{segmentsOf};
@@ -25,7 +27,7 @@ ghost use Rattle.event.specs.Emit.{warnIf, placesOf, render};
 ghost use Rattle.event.specs.Told.{cueIn, Tells};
 ghost use Rattle.timing.specs.Style.{stampsIn, styleOf};
 ghost use Rattle.block.specs.Block.{writtenArrow, blockFrame, blockCue, timingLineSays};
-ghost use Rattle.block.specs.Answer.{timesRead, blockAnswerIn, blockIn};
+ghost use Rattle.block.specs.Answer.{timesRead, blockAnswerIn, blockIn, numberIn};
 
 // The times of a timing line, each with its mark.
 struct Times {
@@ -87,6 +89,27 @@ fn warn(lost: bool, stamped: bool, line: u64, warnings: &mut [u64]) -> usize
     0
 }
 
+// The same, with the number of the line behind the first k of the block worked out where there is a warning.
+fn warn_at(
+    lost: bool,
+    stamped: bool,
+    last: u32,
+    k: usize,
+    block: &[u8],
+    warnings: &mut [u64],
+) -> usize
+    requires { ⌜ (4 ≤ length (now warnings)) × (k ≤ length (now block)) ⌝ }
+    ensures { λ r. ⌜ (r ≡ length (placesOf (warnIf lost 4 (numberIn last k (now (block .entry))) ++ warnIf stamped 5 (numberIn last k (now (block .entry)))))) × (now (warnings .exit) ≡ put (placesOf (warnIf lost 4 (numberIn last k (now (block .entry))) ++ warnIf stamped 5 (numberIn last k (now (block .entry))))) (now (warnings .entry))) ⌝ }
+{
+    if lost {
+        return warn(lost, stamped, number_in(last, k, block), warnings);
+    }
+    if stamped {
+        return warn(lost, stamped, number_in(last, k, block), warnings);
+    }
+    0
+}
+
 // A caption that is kept.
 fn keep(
     kind: u32,
@@ -96,12 +119,14 @@ fn keep(
     trailing: &[u8],
     end: &[u8],
     after: &[u8],
-    line: u64,
+    last: u32,
+    k: usize,
+    block: &[u8],
     out: &mut [u8],
     warnings: &mut [u64],
 ) -> Told
-    requires { ⌜ (length (now before) + length (now trailing) + length (now end) + length (now after) + 51 ≤ length (now out)) × (4 ≤ length (now warnings)) ⌝ }
-    ensures { λ r. ⌜ Tells (cueIn kind (blockCue line (old .start) (old .«start_mark») (old .stop) (old .«stop_mark») (stampsIn kind (now (after .entry))) (blockFrame (now (before .entry)) (now (trailing .entry)) (now (end .entry)) (now (after .entry)))) (Kept new)) r (now (out .entry)) (now (out .exit)) (now (warnings .entry)) (now (warnings .exit)) ⌝ }
+    requires { ⌜ (length (now before) + length (now trailing) + length (now end) + length (now after) + 51 ≤ length (now out)) × (4 ≤ length (now warnings)) × (k ≤ length (now block)) ⌝ }
+    ensures { λ r. ⌜ Tells (cueIn kind (blockCue (numberIn last k (now (block .entry))) (old .start) (old .«start_mark») (old .stop) (old .«stop_mark») (stampsIn kind (now (after .entry))) (blockFrame (now (before .entry)) (now (trailing .entry)) (now (end .entry)) (now (after .entry)))) (Kept new)) r (now (out .entry)) (now (out .exit)) (now (warnings .entry)) (now (warnings .exit)) ⌝ }
 {
     let times = Times {
         start: new.start,
@@ -113,7 +138,7 @@ fn keep(
     let stamped = timing::stamps_in(kind, after);
     let counted = counted_by(new);
     let written = write_kept(kind, times, before, trailing, end, after, out);
-    let warned = warn(lost, stamped, line, warnings);
+    let warned = warn_at(lost, stamped, last, k, block, warnings);
     Told {
         number: 0,
         counted,
@@ -131,12 +156,14 @@ fn settle(
     trailing: &[u8],
     end: &[u8],
     after: &[u8],
-    line: u64,
+    last: u32,
+    k: usize,
+    block: &[u8],
     out: &mut [u8],
     warnings: &mut [u64],
 ) -> Told
-    requires { ⌜ (length (now before) + length (now trailing) + length (now end) + length (now after) + 51 ≤ length (now out)) × (4 ≤ length (now warnings)) ⌝ }
-    ensures { λ r. ⌜ Tells (cueIn (config .kind) (blockCue line (old .start) (old .«start_mark») (old .stop) (old .«stop_mark») (stampsIn (config .kind) (now (after .entry))) (blockFrame (now (before .entry)) (now (trailing .entry)) (now (end .entry)) (now (after .entry)))) (decideIn config (segmentsOf (now (map .entry))) (old .start) (old .stop))) r (now (out .entry)) (now (out .exit)) (now (warnings .entry)) (now (warnings .exit)) ⌝ }
+    requires { ⌜ (length (now before) + length (now trailing) + length (now end) + length (now after) + 51 ≤ length (now out)) × (4 ≤ length (now warnings)) × (k ≤ length (now block)) ⌝ }
+    ensures { λ r. ⌜ Tells (cueIn (config .kind) (blockCue (numberIn last k (now (block .entry))) (old .start) (old .«start_mark») (old .stop) (old .«stop_mark») (stampsIn (config .kind) (now (after .entry))) (blockFrame (now (before .entry)) (now (trailing .entry)) (now (end .entry)) (now (after .entry)))) (decideIn config (segmentsOf (now (map .entry))) (old .start) (old .stop))) r (now (out .entry)) (now (out .exit)) (now (warnings .entry)) (now (warnings .exit)) ⌝ }
 {
     let kind = config.kind;
     match event::decide(map, config, old.start, old.stop) {
@@ -155,7 +182,9 @@ fn settle(
             trailing,
             end,
             after,
-            line,
+            last,
+            k,
+            block,
             out,
             warnings,
         ),
@@ -187,12 +216,14 @@ fn timed(
     before: &[u8],
     line: &[u8],
     after: &[u8],
-    number: u64,
+    last: u32,
+    k: usize,
+    block: &[u8],
     out: &mut [u8],
     warnings: &mut [u64],
 ) -> Told
-    requires { ⌜ (3 * (length (now before) + length (now line) + length (now after)) ≤ length (now out)) × (4 ≤ length (now warnings)) ⌝ }
-    ensures { λ r. ⌜ Tells (blockAnswerIn config (segmentsOf (now (map .entry))) (timingLineSays (styleOf (config .kind)) number (now (before .entry)) (now (line .entry)) (now (after .entry)))) r (now (out .entry)) (now (out .exit)) (now (warnings .entry)) (now (warnings .exit)) ⌝ }
+    requires { ⌜ (3 * (length (now before) + length (now line) + length (now after)) ≤ length (now out)) × (4 ≤ length (now warnings)) × (k ≤ length (now block)) ⌝ }
+    ensures { λ r. ⌜ Tells (blockAnswerIn config (segmentsOf (now (map .entry))) (timingLineSays (styleOf (config .kind)) (numberIn last k (now (block .entry))) (now (before .entry)) (now (line .entry)) (now (after .entry)))) r (now (out .entry)) (now (out .exit)) (now (warnings .entry)) (now (warnings .exit)) ⌝ }
 {
     let text = text::text_of(line);
     let behind = after_arrow(text);
@@ -209,23 +240,25 @@ fn timed(
             trailing,
             end,
             after,
-            number,
+            last,
+            k,
+            block,
             out,
             warnings,
         ),
     }
 }
 
-// What becomes of a block: `text` is its non-blank lines, and `first` the number of the first of them, from 1.
+// What becomes of a block: `text` is its non-blank lines, of which the last is the last-th of the whole text.
 pub fn block(
     config: Config,
     map: &[u64],
-    first: u32,
+    last: u32,
     text: &[u8],
     out: &mut [u8],
     warnings: &mut [u64],
 ) -> Told
-    ensures { λ r. ⌜ Tells (blockIn config (segmentsOf (now (map .entry))) first (now (text .entry)) (length (now (out .entry))) (length (now (warnings .entry)))) r (now (out .entry)) (now (out .exit)) (now (warnings .entry)) (now (warnings .exit)) ⌝ }
+    ensures { λ r. ⌜ Tells (blockIn config (segmentsOf (now (map .entry))) (suc last - lineCount (linesOf (now (text .entry)))) (now (text .entry)) (length (now (out .entry))) (length (now (warnings .entry)))) r (now (out .entry)) (now (out .exit)) (now (warnings .entry)) (now (warnings .exit)) ⌝ }
 {
     if out.len() / 3 < text.len() {
         return refused(16);
@@ -237,12 +270,22 @@ pub fn block(
     if p.found {
         let at = p.at;
         let size = p.size;
-        let number = first as u64 + p.lines as u64;
         let rest = base::rest(text, at);
         let before = base::front(text, at);
         let line = base::front(rest, size);
         let after = base::rest(rest, size);
-        return timed(config, map, before, line, after, number, out, warnings);
+        return timed(
+            config,
+            map,
+            before,
+            line,
+            after,
+            last,
+            p.lines,
+            text,
+            out,
+            warnings,
+        );
     }
     let written = base::bytes(out, text);
     Told {

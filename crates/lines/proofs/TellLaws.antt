@@ -6,14 +6,14 @@ use Prim.Native.Nat.{ℕ, zero, suc, _+_, _-_, _*_, _≤_, _<_}
 use native.Mathlib.Omega.{arith}
 use native.Mathlib.Numerals.{add-one}
 use lib.Dec.{eqb}
-use lib.ListN.{length, take, drop, length-append, length-drop}
+use lib.ListN.{length, take, drop, length-append}
 use borrow.Author.Tests.{le-ltb, le-leb, lt-leb, eq-eqb, ne-eqb, eqb-false}
 use Rattle.base.specs.Limits.{mostBlock}
 use Rattle.base.specs.Put.{put, placedAt, placeAfter}
 use Rattle.base.proofs.PutLaws.{put-nil, then-placed}
 use Rattle.utf8.specs.Utf8.{utf8}
-use Rattle.text.specs.Line.{concat, linesOf, lineCount, lineLength}
-use Rattle.text.proofs.LineLaws.{line-some, lines-cut, lines-end, lines-joined}
+use Rattle.text.specs.Line.{concat, linesOf, lineCount}
+use Rattle.text.proofs.LineLaws.{lines-cut, lines-end, lines-joined}
 use Rattle.segment.specs.declared.segment.Segment.{Segment}
 use Rattle.event.specs.declared.setting.Config.{Config}
 use Rattle.event.specs.declared.telling.Told.{Told}
@@ -69,25 +69,6 @@ counted-same (decided passed) t = refl
 counted-same (decided dropped) t = refl
 counted-same (decided (shifted s e)) t = refl
 counted-same (decided (clipped s e)) t = refl
-
--- ---- the lines of a block, counted
-pub count-more : (s t u : List ℕ) (n k : ℕ) → lineCount (linesOf s) ≡ n + lineCount (linesOf t) → 0 < length t → k ≡ lineLength t → u ≡ drop k t
-    → lineCount (linesOf s) ≡ n + 1 + lineCount (linesOf u)
-count-more s t u n k h p e f =
-    let g : lineCount (linesOf t) ≡ suc (lineCount (linesOf u)) = rw (lines-cut t p, f, e) in
-    omega arith
-
-pub lines-room : (s t u : List ℕ) (n k : ℕ) → n + length t ≤ length s → 0 < length t → k ≡ lineLength t → u ≡ drop k t → n + 1 + length u ≤ length s
-lines-room s t u n k h p e f = rw (f, length-drop) (omega (arith, line-some t p))
-
-pub lines-over : (s t : List ℕ) (n : ℕ) → lineCount (linesOf s) ≡ n + lineCount (linesOf t) → length t ≤ 0 → n ≡ lineCount (linesOf s)
-lines-over s t n h p = let g : lineCount (linesOf t) ≡ 0 = rw (lines-end t p) in omega arith
-
-pub lines-some : (b : List ℕ) (k : ℕ) → (length b ≡ 0 → ⊥) → k ≡ lineCount (linesOf b) → 0 < k
-lines-some b k h e =
-    let g : 0 < length b = omega (arith, h) in
-    let f : lineCount (linesOf b) ≡ suc (lineCount (linesOf (drop (lineLength b) b))) = rw (lines-cut b g) in
-    omega arith
 
 pub added-open : (l : List ℕ) (ls : List (List ℕ)) → isOpen (ls ++ (l ∷ [])) ≡ true
 added-open l [] = refl

@@ -5,39 +5,15 @@ use crate::telling::lent_bad;
 use crate::telling::still;
 use event::Config;
 use machine::Counts;
-ghost use mathlib.Core.Path.{_≡_};
 ghost use mathlib.Core.List.{[]};
-ghost use Prim.Native.Nat.{_≤_, _<_, _-_, _*_, suc};
+ghost use Prim.Native.Nat.{_≤_, _*_};
 ghost use lib.ListN.{length};
-ghost use Rattle.text.specs.Line.{linesOf, lineCount};
+ghost use Rattle.text.specs.Line.{linesOf};
 ghost use Rattle.segment.specs.Segment.{segmentsOf};
 ghost use Rattle.timing.specs.Style.{styleOf};
 ghost use Rattle.kinds.specs.Takes.{blankState, closes};
 ghost use Rattle.lines.specs.Answer.{answerIn, endIn, EndTells};
 ghost use Rattle.lines.specs.Done.{Ample};
-
-// How many lines a block has.
-fn lines_in(block: &[u8]) -> usize
-    ensures { λ r. ⌜ r ≡ lineCount (linesOf (now (block .entry))) ⌝ }
-{
-    let mut n = 0;
-    let mut t = block;
-    while t.len() > 0 {
-        let k = text::line_length(t);
-        let u = base::rest(t, k);
-        t = u;
-        n += 1;
-    }
-    n
-}
-
-// The number, from 1, of the first of k lines, at least one, that end with the n-th.
-fn first_line(n: u32, k: usize) -> u32
-    requires { ⌜ 0 < k ⌝ }
-    ensures { λ r. ⌜ r ≡ suc n - k ⌝ }
-{
-    base::less((n as usize) + 1, k) as u32
-}
 
 // The end of a block, with the room for it.
 pub fn close_block(
@@ -56,8 +32,7 @@ pub fn close_block(
     if block.len() == 0 {
         return still(0, counts);
     }
-    let first = first_line(n, lines_in(block));
-    let told = block::block(config, map, first, block, out, warnings);
+    let told = block::block(config, map, n, block, out, warnings);
     if told.number != 0 {
         return still(told.number, counts);
     }

@@ -3,7 +3,7 @@ use Prim.Native.Nat.{ℕ, zero, suc, _+_, _-_, _*_, _/_, _%_, _^_, _≤_, _<_}
 use mathlib.Core.Path.{_≡_, refl, ap, ap₂, sym, _∙_}
 use mathlib.Core.List.{List, [], _∷_, _++_, append-assoc, append-nil}
 use lib.ListN.{length, getD, set, take, drop, replicate, length-append, length-take, length-drop, length-replicate, drop-of-length-le}
-use lib.Seq.{take-suc, drop-drop, length-take-le, take-all}
+use lib.Seq.{take-suc, drop-drop, length-take-le, take-all, getD-append-add}
 use borrow.Author.Tests.{le-leb, lt-leb}
 use native.Mathlib.Omega.{arith}
 use native.Mathlib.Numerals.{add-one}
@@ -87,8 +87,33 @@ sum-more s k w total next e f g =
     let a : wordAt s (0 + k) ≡ wordAt s k = ap (wordAt s) z in
     rw add-one (omega arith)
 
-pub sum-all : (s : List ℕ) (k total : ℕ) → k ≤ 127 → 127 ≤ k → total ≡ sumWords s 0 k % 2 ^ 32 → total ≡ sumWords s 0 127 % 2 ^ 32
-sum-all s k total h g e = let z : k ≡ 127 = omega arith in e ∙ ap (λ (n : ℕ). sumWords s 0 n % 2 ^ 32) z
+pub sum-all : (s : List ℕ) (m k total : ℕ) → k ≤ m → m ≤ k → total ≡ sumWords s 0 k % 2 ^ 32 → total ≡ sumWords s 0 m % 2 ^ 32
+sum-all s m k total h g e = let z : k ≡ m = omega arith in e ∙ ap (λ (n : ℕ). sumWords s 0 n % 2 ^ 32) z
+
+-- zeros add nothing
+zero-at : (k j : ℕ) → _≡_ {A = ℕ} (getD (replicate k 0) j 0) 0
+zero-at zero j = refl
+zero-at (suc k) zero = refl
+zero-at (suc k) (suc j) = zero-at k j
+
+zero-behind : (p : List ℕ) (k j : ℕ) → length p ≤ j → getD (p ++ replicate k 0) j 0 ≡ 0
+zero-behind p k j h =
+    let n : j ≡ length p + (j - length p) = omega arith in
+    ap (λ (x : ℕ). getD (p ++ replicate k 0) x 0) n ∙ getD-append-add p (replicate k 0) (j - length p) 0 ∙ zero-at k (j - length p)
+
+zero-word : (p : List ℕ) (k i : ℕ) → length p ≤ 4 * i → wordAt (p ++ replicate k 0) i ≡ 0
+unfolding wordAt
+zero-word p k i h =
+    omega (arith, zero-behind p k (4 * i) h, zero-behind p k (4 * i + 1) (omega arith), zero-behind p k (4 * i + 2) (omega arith), zero-behind p k (4 * i + 3) (omega arith))
+
+zero-sum : (p : List ℕ) (k m n : ℕ) → length p ≤ 4 * m → sumWords (p ++ replicate k 0) 0 (m + n) ≡ sumWords (p ++ replicate k 0) 0 m
+unfolding sumWords
+zero-sum p k m zero h = let z : m + 0 ≡ m = omega arith in ap (sumWords (p ++ replicate k 0) 0) z
+zero-sum p k m (suc n) h =
+    let z : m + suc n ≡ suc (m + n) = omega arith in
+    let w : wordAt (p ++ replicate k 0) (0 + (m + n)) ≡ 0 = zero-word p k (0 + (m + n)) (omega arith) in
+    let s : sumWords (p ++ replicate k 0) 0 (m + n) + wordAt (p ++ replicate k 0) (0 + (m + n)) ≡ sumWords (p ++ replicate k 0) 0 m = omega (arith, w, zero-sum p k m n h) in
+    ap (sumWords (p ++ replicate k 0) 0) z ∙ s
 
 -- ---- a block
 module _ (l x1 x2 body : List ℕ) (b end : ℕ) (room : 512 ≤ length l) (small : length body ≤ bodyLength)
@@ -123,19 +148,32 @@ module _ (l x1 x2 body : List ℕ) (b end : ℕ) (room : 512 ≤ length l) (smal
       then-put end (wordBytes b ++ body) (replicate (508 - end) 0) l x2 x3 (second .0) (second .1) e3
       ∙ ap (λ (v : List ℕ). put v l) (append-assoc (wordBytes b) body (replicate (508 - end) 0) ∙ ap (λ (k : ℕ). wordBytes b ++ (body ++ replicate k 0)) n)
 
-  sum-same : sumWords (put H l) 0 127 ≡ sumWords H 0 127
+  head-zeros : H ≡ (wordBytes b ++ body) ++ replicate (bodyLength - length body) 0
+  unfolding H
+  head-zeros = sym (append-assoc (wordBytes b) body (replicate (bodyLength - length body) 0))
+
+  abbrev few : ℕ
+  few = (length body + 7) / 4
+
+  sum-first : sumWords (put H l) 0 few ≡ sumWords H 0 few
   unfolding put
-  sum-same = sum-within H (drop (length H) l) 127 (omega (arith, head-508))
+  sum-first = sum-within H (drop (length H) l) few (omega (arith, head-508, small))
+
+  sum-same : sumWords (put H l) 0 few ≡ sumWords H 0 127
+  sum-same =
+      let n : few + (127 - few) ≡ 127 = omega (arith, small) in
+      let z = zero-sum (wordBytes b ++ body) (bodyLength - length body) few (127 - few) (omega (arith, front-length)) in
+      sum-first ∙ ap (λ (x : List ℕ). sumWords x 0 few) head-zeros ∙ sym z ∙ ap₂ (λ (x : List ℕ) (j : ℕ). sumWords x 0 j) (sym head-zeros) n
 
   head-last : H ++ wordBytes (sumWords H 0 127 % 2 ^ 32) ≡ wordBytes b ++ (filled bodyLength body ++ wordBytes (sumWords (wordBytes b ++ filled bodyLength body) 0 127 % 2 ^ 32))
   unfolding H
   head-last = append-assoc (wordBytes b) (filled bodyLength body) (wordBytes (sumWords (wordBytes b ++ filled bodyLength body) 0 127 % 2 ^ 32))
 
-  pub block-made : (x3 x4 : List ℕ) (check : ℕ) → x3 ≡ putAt end (replicate (508 - end) 0) x2 → check ≡ sumWords x3 0 127 % 2 ^ 32
+  pub block-made : (x3 x4 : List ℕ) (check : ℕ) → x3 ≡ putAt end (replicate (508 - end) 0) x2 → check ≡ sumWords x3 0 few % 2 ^ 32
       → x4 ≡ putAt 508 (wordBytes check) x3 → x4 ≡ put (sealed b (filled bodyLength body)) l
   unfolding sealed wordBytes
   block-made x3 x4 check e3 ec e4 =
-      let c : check ≡ sumWords H 0 127 % 2 ^ 32 = ec ∙ ap (λ (x : List ℕ). sumWords x 0 127 % 2 ^ 32) (third x3 e3) ∙ ap (λ (n : ℕ). n % 2 ^ 32) sum-same in
+      let c : check ≡ sumWords H 0 127 % 2 ^ 32 = ec ∙ ap (λ (x : List ℕ). sumWords x 0 few % 2 ^ 32) (third x3 e3) ∙ ap (λ (n : ℕ). n % 2 ^ 32) sum-same in
       then-put 508 H (wordBytes check) l x3 x4 (third x3 e3) (sym head-508) e4
       ∙ ap (λ (v : List ℕ). put v l) (ap (λ (n : ℕ). H ++ wordBytes n) c ∙ head-last)
 

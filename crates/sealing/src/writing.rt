@@ -41,20 +41,20 @@ fn put_zeros(out: &mut [u8], at: usize, end: usize)
     }
 }
 
-// The sum of words 0 to 126, wrapping.
-fn sum(s: &[u8]) -> u32
-    ensures { λ r. ⌜ r ≡ sumWords (now (s .entry)) 0 127 % 2 ^ 32 ⌝ }
+// The sum of the first m words, wrapping.
+fn sum(s: &[u8], m: usize) -> u32
+    ensures { λ r. ⌜ r ≡ sumWords (now (s .entry)) 0 m % 2 ^ 32 ⌝ }
 {
     let mut total: u32 = 0;
     let mut k: usize = 0;
-    while k < 127 {
+    while k < m {
         total = std::num::wrapping_add_u32(total, blocks::word(s, k));
         k += 1;
     }
     total
 }
 
-// Block b with these bytes and zeros behind them, at the start.
+// Block b with these bytes and zeros behind them, at the start. The zeros are not summed.
 fn put_block(out: &mut [u8], b: u32, body: &[u8])
     requires { ⌜ (512 ≤ length (now out)) × (length (now body) ≤ bodyLength) ⌝ }
     ensures { λ _. ⌜ now (out .exit) ≡ put (sealed b (filled bodyLength (now (body .entry)))) (now (out .entry)) ⌝ }
@@ -62,7 +62,7 @@ fn put_block(out: &mut [u8], b: u32, body: &[u8])
     put_word(out, 0, b);
     let end = base::bytes_at(out, 4, body);
     put_zeros(out, end, 508);
-    let check = sum(out);
+    let check = sum(out, (body.len() + 7) / 4);
     put_word(out, 508, check);
 }
 

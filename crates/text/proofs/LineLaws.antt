@@ -6,7 +6,7 @@ use Prim.Native.Nat.{ℕ, zero, suc, _+_, _*_, _-_, _≤_, _<_}
 use native.Mathlib.Nat.{le-of-suc-le-suc, not-suc-le-zero, le-trans}
 use native.Mathlib.Omega.{arith}
 use native.Mathlib.Numerals.{add-one}
-use borrow.Author.Tests.{eq-eqb, ne-eqb, leb-true}
+use borrow.Author.Tests.{eq-eqb, ne-eqb, leb-true, eqb-true, eqb-false}
 use lib.Dec.{eqb, leb}
 use lib.Seq.{drop-cons}
 use lib.ListN.{length, take, drop, getD, length-drop, length-take, length-append, take-append-drop, drop-of-length-le}
@@ -62,6 +62,40 @@ line-miss s i inv h e = let z : lineLength (drop i s) ≡ suc (lineLength (drop 
 pub line-end : (s : List ℕ) (i : ℕ) → lineLength s ≡ i + lineLength (drop i s) → length s ≤ i → i ≡ lineLength s
 unfolding lineLength
 line-end s i inv h = let z : lineLength (drop i s) ≡ 0 = rw (drop-of-length-le s h) in omega arith
+
+-- ---- 16 bytes without LF
+line-on : (s : List ℕ) (i : ℕ) → i < length s → (getD s i 0 ≡ 10 → ⊥) → lineLength (drop i s) ≡ suc (lineLength (drop (suc i) s))
+unfolding lineLength
+line-on s i h e = rw (drop-cons s i 0 h, ne-eqb (getD s i 0) 10 e)
+
+pub free-none : (s : List ℕ) (i : ℕ) → lineLength (drop i s) ≡ 0 + lineLength (drop (i + 0) s)
+free-none s i =
+    let y : i ≡ i + 0 = omega arith in
+    let w : lineLength (drop i s) ≡ lineLength (drop (i + 0) s) = ap (λ (j : ℕ). lineLength (drop j s)) y in
+    omega arith
+
+pub free-more : (s : List ℕ) (i k most x : ℕ) → i + 16 ≤ length s → k < 16 → x ≡ cond (eqb (getD s (i + k) 0) 10) 1 most
+    → (most ≡ 0 → lineLength (drop i s) ≡ k + lineLength (drop (i + k) s)) → x ≡ 0 → lineLength (drop i s) ≡ k + 1 + lineLength (drop (i + (k + 1)) s)
+free-more s i k most x n m e inv h = go (eqb (getD s (i + k) 0) 10) refl e
+  where
+    go : (t : Bool) → eqb (getD s (i + k) 0) 10 ≡ t → x ≡ cond t 1 most → lineLength (drop i s) ≡ k + 1 + lineLength (drop (i + (k + 1)) s)
+    go true q e = absurd (omega arith)
+    go false q e =
+        let z : lineLength (drop (i + k) s) ≡ suc (lineLength (drop (suc (i + k)) s)) = line-on s (i + k) (omega arith) (eqb-false _ _ q) in
+        let y : suc (i + k) ≡ i + (k + 1) = omega arith in
+        let w : lineLength (drop (suc (i + k)) s) ≡ lineLength (drop (i + (k + 1)) s) = ap (λ (j : ℕ). lineLength (drop j s)) y in
+        let v = inv (sym e ∙ h) in
+        omega arith
+
+pub free-all : (s : List ℕ) (i k most : ℕ) → k ≤ 16 → 16 ≤ k → (most ≡ 0 → lineLength (drop i s) ≡ k + lineLength (drop (i + k) s)) → eqb most 0 ≡ true
+    → lineLength (drop i s) ≡ 16 + lineLength (drop (i + 16) s)
+free-all s i k most a b inv e =
+    let z : k ≡ 16 = omega arith in
+    subst (λ (j : ℕ). lineLength (drop i s) ≡ j + lineLength (drop (i + j) s)) z (inv (eqb-true most 0 e))
+
+pub line-block : (s : List ℕ) (i : ℕ) (r : Bool) → lineLength s ≡ i + lineLength (drop i s) → (r ≡ true → lineLength (drop i s) ≡ 16 + lineLength (drop (i + 16) s)) → r ≡ true
+    → lineLength s ≡ i + 16 + lineLength (drop (i + 16) s)
+line-block s i r inv f e = let z = f e in omega arith
 
 -- the first line, and the rest
 pub line-some : (s : List ℕ) → 0 < length s → 0 < lineLength s

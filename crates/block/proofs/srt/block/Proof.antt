@@ -1,5 +1,4 @@
-use mathlib.Core.Path.{_≡_, refl}
-use native.Mathlib.Omega.{arith}
+use mathlib.Core.Path.{refl}
 use Rattle.event.proofs.TellLaws.{tells-same, tells-refused}
 use Rattle.block.proofs.BlockLaws.{answer-1, answer-2, block-3, block-4, block-room}
 use borrow.Author.Needs.{needs}
@@ -29,9 +28,6 @@ returns-2 c = tells-same (answer-2 _ _ _ _ _ _ (c .before .before .if1 .left) (c
 locate-requires : tie.Need-locate-requires
 locate-requires c κs = search needs
 
-add-number : tie.Need-add-number
-add-number c = omega (arith, c .before .locate .ensures .1)
-
 rest-requires : tie.Need-rest-requires
 rest-requires c κs = search needs
 
@@ -45,7 +41,7 @@ rest-requires-2 : tie.Need-rest-requires-2
 rest-requires-2 c κs = search needs
 
 timed-requires : tie.Need-timed-requires
-timed-requires c κs = let A = c .before .before .before .before .before .before .before .before .before .before .before .before .before .before .args in let p = c .before .before .before .before .before .before .before .locate .result in (block-room (A .text .now) _ _ _ _ (A .out .now) (p .at) (p .size) (c .before .before .before .before .before .rest .ensures) (c .before .before .before .before .front .ensures) (c .before .before .before .front2 .ensures) (c .before .before .rest2 .ensures) (c .before .before .before .before .before .before .before .before .before .if1 .left), c .before .before .before .before .before .before .before .before .if2 .left)
+timed-requires c κs = let A = c .before .before .before .before .before .before .before .before .before .before .before .before .before .before .args in let p = c .before .before .before .before .before .before .before .locate .result in (block-room (A .text .now) _ _ _ _ (A .out .now) (p .at) (p .size) (c .before .before .before .before .before .rest .ensures) (c .before .before .before .before .front .ensures) (c .before .before .before .front2 .ensures) (c .before .before .rest2 .ensures) (c .before .before .before .before .before .before .before .before .before .if1 .left), c .before .before .before .before .before .before .before .before .if2 .left, c .before .before .before .before .before .before .before .locate .ensures .1)
 
 same-length : tie.Need-same-length
 same-length c = search needs
@@ -74,7 +70,6 @@ block-spec =
     refused-requires-2
     returns-2
     locate-requires
-    add-number
     rest-requires
     front-requires
     front-requires-2

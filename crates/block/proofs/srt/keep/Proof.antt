@@ -1,4 +1,5 @@
 use Rattle.block.specs.Block.{blockFrame}
+use Rattle.block.specs.Answer.{numberIn}
 use Rattle.block.proofs.BlockLaws.{keep-told}
 use borrow.Author.Needs.{needs}
 use Rattle.block.proofs.srt.keep.Statement.{statement}
@@ -6,7 +7,7 @@ use Rattle.block.proofs.srt.keep.Tie as tie
 use Rattle.block.proofs.srt.keep.Reads as reads
 use Rattle.block.proofs.srt.keep.Lts as lts
 use Rattle.event.proofs.counted_by.Reads as counted-by-reads
-use Rattle.block.proofs.srt.warn.Reads as warn-reads
+use Rattle.block.proofs.srt.warn_at.Reads as warn-at-reads
 use Rattle.block.proofs.srt.write_kept.Reads as write-kept-reads
 
 stamps-in-requires : tie.Need-stamps-in-requires
@@ -18,8 +19,8 @@ counted-by-requires c κs = search needs
 write-kept-requires : tie.Need-write-kept-requires
 write-kept-requires c κs = search needs
 
-warn-requires : tie.Need-warn-requires
-warn-requires c κs = search needs
+warn-at-requires : tie.Need-warn-at-requires
+warn-at-requires c κs = search needs
 
 same-length : tie.Need-same-length
 same-length c = search needs
@@ -28,7 +29,7 @@ same-length-2 : tie.Need-same-length-2
 same-length-2 c = search needs
 
 returns : tie.Need-returns
-returns c = let A = c .before .before .before .before .before .before .before .before .before .before .before .before .before .before .before .before .args in keep-told _ (A .line) (A .old .start) _ (A .old .stop) _ _ (blockFrame (A .before .now) (A .trailing .now) (A .end .now) (A .after .now)) (A .new) _ _ _ _ _ _ _ (c .before .before .before .before .before .before .before .before .counted-by .ensures) (c .before .before .before .before .before .before .write-kept .ensures) _ (c .before .before .before .before .before .before .before .before .before .stamps-in .ensures) (c .before .before .warn .ensures)
+returns c = let A = c .before .before .before .before .before .before .before .before .before .before .before .before .before .before .before .before .before .args in keep-told _ (numberIn (A .last) (A .k) (A .block .now)) (A .old .start) _ (A .old .stop) _ _ (blockFrame (A .before .now) (A .trailing .now) (A .end .now) (A .after .now)) (A .new) _ _ _ _ _ _ _ (c .before .before .before .before .before .before .before .before .counted-by .ensures) (c .before .before .before .before .before .before .write-kept .ensures) _ (c .before .before .before .before .before .before .before .before .before .stamps-in .ensures) (c .before .before .warn-at .ensures)
 
 pub keep-spec : {M : Type 1} → statement M
 keep-spec =
@@ -37,7 +38,7 @@ keep-spec =
     stamps-in-requires
     counted-by-requires
     write-kept-requires
-    warn-requires
+    warn-at-requires
     same-length
     same-length-2
     returns)

@@ -1,4 +1,5 @@
-use Rattle.lines.proofs.TellLaws.{lines-some, end-empty, end-fault, end-said, end-fits, still-small}
+use Rattle.lines.proofs.TellLaws.{end-empty, end-fault, end-said, end-fits, still-small}
+use mathlib.Core.Path.{refl}
 use Rattle.segment.specs.Segment.{segmentsOf}
 use borrow.Author.Needs.{needs}
 use Rattle.lines.proofs.closing.close_block.Statement.{statement}
@@ -7,8 +8,6 @@ use Rattle.lines.proofs.closing.close_block.Reads as reads
 use Rattle.lines.proofs.closing.close_block.Lts as lts
 use Rattle.block.proofs.block.Reads as block-reads
 use Rattle.lines.proofs.telling.count.Reads as count-reads
-use Rattle.lines.proofs.closing.first_line.Reads as first-line-reads
-use Rattle.lines.proofs.closing.lines_in.Reads as lines-in-reads
 use Rattle.lines.proofs.telling.still.Reads as still-reads
 
 still-requires : tie.Need-still-requires
@@ -18,12 +17,6 @@ returns : tie.Need-returns
 returns c =
     let a = c .before .before .before .before .before .before .args in
     (end-empty (a .config) (segmentsOf (a .map .now)) (a .n) (a .counts) (a .block .now) _ (a .out .now) (a .warnings .now) (c .before .if1 .taken) (c .still .ensures), still-small _ _ _ _ (c .still .ensures))
-
-lines-in-requires : tie.Need-lines-in-requires
-lines-in-requires c κs = search needs
-
-first-line-requires : tie.Need-first-line-requires
-first-line-requires c κs = search lines-some
 
 block-requires : tie.Need-block-requires
 block-requires c κs = search needs
@@ -39,9 +32,9 @@ same-length-2 c = search needs
 
 returns-2 : tie.Need-returns-2
 returns-2 c =
-    let a = c .before .before .before .before .before .before .before .before .before .before .before .before .before .before .before .before .before .args in
-    let r = c .before .before .before .before .before .before .before .before .before .before .before .before .before .before .before .before .before .pre in
-    (end-fault (a .config) (segmentsOf (a .map .now)) (a .n) (a .counts) (a .block .now) _ _ _ (a .out .now) _ (a .warnings .now) _ (r .room-long) (r .places-long) (c .before .before .before .before .before .before .before .before .before .before .before .before .if1 .left) (c .before .before .before .before .before .before .before .before .before .before .before .lines-in .ensures) (c .before .before .before .before .before .before .before .before .before .before .first-line .ensures) (c .before .before .before .before .before .before .before .block .ensures) _ (c .before .if2 .taken) (c .still2 .ensures), still-small _ _ _ _ (c .still2 .ensures))
+    let a = c .before .before .before .before .before .before .before .before .before .before .before .before .before .before .before .args in
+    let r = c .before .before .before .before .before .before .before .before .before .before .before .before .before .before .before .pre in
+    (end-fault (a .config) (segmentsOf (a .map .now)) (a .n) (a .counts) (a .block .now) _ _ _ (a .out .now) _ (a .warnings .now) _ (r .room-long) (r .places-long) (c .before .before .before .before .before .before .before .before .before .before .if1 .left) refl refl (c .before .before .before .before .before .before .before .block .ensures) _ (c .before .if2 .taken) (c .still2 .ensures), still-small _ _ _ _ (c .still2 .ensures))
 
 count-requires : tie.Need-count-requires
 count-requires c κs = search needs
@@ -54,10 +47,10 @@ same-length-4 c = search needs
 
 returns-3 : tie.Need-returns-3
 returns-3 c =
-    let a = c .before .before .before .before .before .before .before .before .before .before .before .before .before .before .before .before .before .args in
-    let r = c .before .before .before .before .before .before .before .before .before .before .before .before .before .before .before .before .before .pre in
+    let a = c .before .before .before .before .before .before .before .before .before .before .before .before .before .before .before .args in
+    let r = c .before .before .before .before .before .before .before .before .before .before .before .before .before .before .before .pre in
     let b = c .before .before .before .before .before .before .before .block in
-    (end-said (a .config) (segmentsOf (a .map .now)) (a .n) (a .counts) (a .block .now) _ _ _ (a .out .now) _ (a .warnings .now) _ (r .room-long) (r .places-long) (c .before .before .before .before .before .before .before .before .before .before .before .before .if1 .left) (c .before .before .before .before .before .before .before .before .before .before .before .lines-in .ensures) (c .before .before .before .before .before .before .before .before .before .before .first-line .ensures) (b .ensures) _ (c .before .if2 .left) (c .count .ensures), end-fits (a .config) (segmentsOf (a .map .now)) (a .n) (a .counts) (a .block .now) _ _ _ _ _ _ (b .ensures))
+    (end-said (a .config) (segmentsOf (a .map .now)) (a .n) (a .counts) (a .block .now) _ _ _ (a .out .now) _ (a .warnings .now) _ (r .room-long) (r .places-long) (c .before .before .before .before .before .before .before .before .before .before .if1 .left) refl refl (b .ensures) _ (c .before .if2 .left) (c .count .ensures), end-fits (a .config) (segmentsOf (a .map .now)) (a .n) (a .counts) (a .block .now) _ _ _ _ _ _ (b .ensures))
 
 pub close-block-spec : {M : Type 1} → statement M
 close-block-spec =
@@ -65,8 +58,6 @@ close-block-spec =
     (tie.spec
     still-requires
     returns
-    lines-in-requires
-    first-line-requires
     block-requires
     still-requires-2
     same-length

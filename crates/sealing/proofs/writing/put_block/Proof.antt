@@ -1,3 +1,4 @@
+use native.Mathlib.Omega.{arith}
 use Rattle.sealing.proofs.WriteLaws.{end-small, end-lies, block-made}
 use borrow.Author.Needs.{needs}
 use Rattle.sealing.proofs.writing.put_block.Statement.{statement}
@@ -11,6 +12,9 @@ bytes-at-requires c κs = search needs
 
 put-zeros-requires : tie.Need-put-zeros-requires
 put-zeros-requires c κs = (search end-small, search end-lies)
+
+add-sum : tie.Need-add-sum
+add-sum c = omega arith
 
 sum-requires : tie.Need-sum-requires
 sum-requires c κs = search needs
@@ -31,6 +35,7 @@ put-block-spec =
     put-word-requires
     bytes-at-requires
     put-zeros-requires
+    add-sum
     sum-requires
     put-word-requires-2
     same-length

@@ -8,10 +8,10 @@ use Rattle.sealing.proofs.writing.sum.Statement.{statement}
 use Rattle.sealing.proofs.writing.sum.Tie as tie
 
 abbrev Inv-loop : tie.InvT-loop
-Inv-loop s total₀ k₀ total k = (k ≤ 127) × (total ≡ sumWords s 0 k % 2 ^ 32)
+Inv-loop s m total₀ k₀ total k = (k ≤ m) × (total ≡ sumWords s 0 k % 2 ^ 32)
 
 abbrev μ-loop : tie.MeasureT-loop
-μ-loop s total₀ k₀ total k = 127 - k
+μ-loop s m total₀ k₀ total k = m - k
 
 loop-holds : tie.Need-loop-holds Inv-loop μ-loop
 loop-holds c = (omega arith, sum-none _)

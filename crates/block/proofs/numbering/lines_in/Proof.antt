@@ -3,12 +3,12 @@ use Prim.Native.Nat.{_+_, _≤_}
 use native.Mathlib.Omega.{arith}
 use lib.ListN.{length}
 use Rattle.text.specs.Line.{linesOf, lineCount}
-use Rattle.lines.proofs.TellLaws.{count-more, lines-room, lines-over}
+use Rattle.block.proofs.CountLaws.{count-more, lines-room, lines-over}
 use borrow.Author.Needs.{needs}
-use Rattle.lines.proofs.closing.lines_in.Statement.{statement}
-use Rattle.lines.proofs.closing.lines_in.Tie as tie
-use Rattle.lines.proofs.closing.lines_in.Reads as reads
-use Rattle.lines.proofs.closing.lines_in.Lts as lts
+use Rattle.block.proofs.numbering.lines_in.Statement.{statement}
+use Rattle.block.proofs.numbering.lines_in.Tie as tie
+use Rattle.block.proofs.numbering.lines_in.Reads as reads
+use Rattle.block.proofs.numbering.lines_in.Lts as lts
 use Rattle.base.proofs.rest.Reads as rest-reads
 use Rattle.text.proofs.line_length.Reads as line-length-reads
 use Rattle.text.proofs.LineLaws.{line-less}
