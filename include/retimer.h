@@ -1,5 +1,5 @@
-/* The retimer's C functions: frame sheet check, trim list check, the map of a sheet and a list, captions retimed through it, in pieces or in one call, time conversions,
- * questions about a map, and maps as JSON.
+/* The retimer's C functions: frame sheet check, trim list check, the map of a sheet and a list, captions retimed through it, in pieces or in one call, the captions of a text, time
+ * conversions, questions about a map, and maps as JSON.
  * They keep no state, write nothing but what is lent to them for that, and return on every input. Numbers: docs/NUMBERS.md. */
 #ifndef RETIMER_H
 #define RETIMER_H
@@ -130,6 +130,27 @@ enum retimer_told {
 };
 uint32_t retimer_text(uint32_t kind, uint32_t timescale, const uint64_t *map, size_t map_length, const uint8_t *text, size_t text_length, uint8_t *out, size_t out_lent,
                       uint64_t *warnings, size_t warnings_lent, uint64_t *told, size_t told_lent);
+
+/* The captions of a whole text, in its order. Refused, nothing is written: 16 for the kind, a text of more than 2^30 bytes, fewer than RETIMER_CUES_TOLD told numbers, or fewer than
+ * RETIMER_CUE_NUMBERS numbers lent for each caption. RETIMER_CUES_FOR(text_length) are enough for every text; one with few captions can do with fewer.
+ * Else 0, or 19 to 22 or 24 for the text: RETIMER_CUE_NUMBERS numbers for each caption, of a faulty text for each before the line (ASS) or block of the first fault, stand at the start of `rows`,
+ * and two numbers are told; numbers behind them stay. For every map the fates that retimer_why tells of these times, counted, are what retimer_text counts for the text. */
+#define RETIMER_CUE_NUMBERS 6
+#define RETIMER_CUES_FOR(length) (6 * ((size_t)(length) / 8 + 1))
+#define RETIMER_CUES_TOLD 2
+enum retimer_cue {
+    RETIMER_CUE_LINE = 0,   /* the line, counted from 1; in SRT and WebVTT the line of the times */
+    RETIMER_CUE_PASSED = 1, /* 0, or the warning 1 or 2 with which the caption passes; then its times are 0 */
+    RETIMER_CUE_START = 2,  /* in units of the kind */
+    RETIMER_CUE_END = 3,
+    RETIMER_CUE_AT = 4,     /* the byte of the text at which the words begin: in ASS the last field, else the lines below the times, of one that passes its whole line */
+    RETIMER_CUE_SIZE = 5    /* how many bytes they are */
+};
+enum retimer_cues_told {
+    RETIMER_CUES_COUNT = 0,     /* captions */
+    RETIMER_CUES_FAULT_LINE = 1 /* the line of the fault, or 0: of a block that is too long its first, of a time that can't be read that of the times */
+};
+uint32_t retimer_cues(uint32_t kind, const uint8_t *text, size_t text_length, uint64_t *rows, size_t rows_lent, uint64_t *told, size_t told_lent);
 
 /* Conversions. kind: 0 ASS (hundredths), 1 SRT and 2 WebVTT (thousandths); timescale: ticks a second, 1 to 1000000000.
  * A value of units is at most 2^36, one of ticks at most 2^53. Refused, they return 0; the number says so. */

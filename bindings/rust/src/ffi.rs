@@ -17,6 +17,7 @@ extern "C" {
     fn retimer_feed(session: *mut u8, session_length: usize, map: *const u64, map_length: usize, piece: *const u8, piece_length: usize, out: *mut u8, out_length: usize, warnings: *mut u64, places: usize, written: *mut u64, warned: *mut u64) -> u32;
     fn retimer_finish(session: *mut u8, session_length: usize, map: *const u64, map_length: usize, out: *mut u8, out_length: usize, warnings: *mut u64, places: usize, written: *mut u64, warned: *mut u64) -> u32;
     fn retimer_text(kind: u32, timescale: u32, map: *const u64, map_length: usize, text: *const u8, length: usize, out: *mut u8, out_length: usize, warnings: *mut u64, places: usize, told: *mut u64, told_places: usize) -> u32;
+    fn retimer_cues(kind: u32, text: *const u8, length: usize, rows: *mut u64, places: usize, told: *mut u64, told_places: usize) -> u32;
     fn retimer_rough(map: *const u64, length: usize, start_low: u64, start_high: u64, end_low: u64, end_high: u64, judgement: *mut u64) -> u32;
     fn retimer_why(map: *const u64, length: usize, timescale: u32, kind: u32, start: u64, stop: u64, causes: *mut u64, places: usize, fate: *mut u64, place: *mut u64, start_cut: *mut u64, end_cut: *mut u64) -> u32;
     fn retimer_census(map: *const u64, map_length: usize, timescale: u32, kind: u32, length: u64, count: u64, shifted: *mut u64, clipped: *mut u64, dropped: *mut u64) -> u32;
@@ -85,6 +86,12 @@ pub fn finish(session: &mut [u8], map: &[u64], out: &mut [u8], warnings: &mut [u
 /// passed, bytes taken.
 pub fn text(kind: u32, timescale: u32, map: &[u64], text: &[u8], out: &mut [u8], warnings: &mut [u64], told: &mut [u64]) -> u32 {
     unsafe { retimer_text(kind, timescale, map.as_ptr(), map.len(), text.as_ptr(), text.len(), out.as_mut_ptr(), out.len(), warnings.as_mut_ptr(), warnings.len(), told.as_mut_ptr(), told.len()) }
+}
+
+/// The captions of a whole text; refused (16), all that is lent stays as it was. Six numbers for each: line, 0 or the warning 1 or 2 with which it passes, start, end, the byte at which
+/// its words stand and how many bytes they are. The two numbers told: how many captions there are, and the line of the fault, or 0.
+pub fn cues(kind: u32, text: &[u8], rows: &mut [u64], told: &mut [u64]) -> u32 {
+    unsafe { retimer_cues(kind, text.as_ptr(), text.len(), rows.as_mut_ptr(), rows.len(), told.as_mut_ptr(), told.len()) }
 }
 
 /// What is sure of a caption known roughly: its number, and 0 dropped, 1 kept, 2 unsure.

@@ -23,7 +23,7 @@
 //! | retime captions | [`retime`], [`Session`] |
 //! | ask what becomes of a caption, and why | [`why`], [`rough`] |
 //! | ask how captions would fare | [`census`], [`best_delay`] |
-//! | show captions with lines and words | [`captions`] |
+//! | read captions: lines, times, words, and where a text is at fault | [`captions`], [`faults`] |
 //! | draw what became of captions, as SVG | [`picture`] |
 //!
 //! A refusal is a [`Refused`]: its number is that of docs/NUMBERS.md, its sentence that of docs/GUIDE.md. A fault of a caption text is a [`Stopped`], which adds the line and

@@ -4,7 +4,7 @@ mod common;
 use common::{file, play, read, run, run_play, run_with, seal, words, Folder};
 use std::process::Command;
 
-const COMMANDS: [&str; 8] = ["retime", "map", "check", "why", "census", "delay", "picture", "completions"];
+const COMMANDS: [&str; 9] = ["retime", "map", "check", "why", "cues", "census", "delay", "picture", "completions"];
 
 #[test]
 fn sound() {
@@ -73,6 +73,54 @@ fn many() {
     assert_eq!((ran.status, lines.len()), (1, 52));
     assert_eq!(lines[49], format!("refused 22: a caption's time can't be read ({subs}, line 149: \"00:00:049 --> x\")"));
     assert_eq!(lines[50..], [&*format!("and 10 more of 22 in {subs}"), "1 file checked, 60 faults in 1"]);
+    // and at most 100 are looked for
+    let subs = folder.write("many.srt", "1 --> 2\n\n".repeat(120));
+    let ran = run(&["check", "--subs", &subs]);
+    let lines: Vec<&str> = ran.text().lines().collect();
+    assert_eq!(lines[50..], [&*format!("and 50 more of 22 in {subs}"), &*format!("the search ended here: {subs} may have more faults"), "1 file checked, 100 faults in 1"]);
+}
+
+/// Captions under another kind's ending: none is found, and the kind that they look like is named. They can be retimed, so the status is 0.
+#[test]
+fn another_kind() {
+    let folder = Folder::new();
+    for (kind, ending, looks) in [("ass", "srt", "; it looks like ass: say --kind ass"), ("srt", "ass", "; it looks like srt: say --kind srt"), ("vtt", "ass", "; it looks like vtt: say --kind vtt")] {
+        let subs = folder.write(&format!("{kind}.{ending}"), read(&play(kind, &format!("subs.{kind}"))));
+        let note = format!("no caption was found in it: it was read as {ending}{looks}");
+        let ran = run(&["check", "--subs", &subs]);
+        assert_eq!((ran.status, ran.text()), (0, &*format!("{subs}: sound\nnote: {note} ({subs})\n1 file checked, all sound\n")));
+        let ran = run_play("retime", &["--subs", &subs]);
+        assert_eq!((ran.status, ran.err), (0, format!("{subs}: {note}\n{subs}: 0 shifted, 0 clipped, 0 dropped, 0 passed\n")));
+        for command in ["why", "delay", "picture", "cues"] {
+            let words: &[&str] = if command == "cues" { &["--tsv"] } else { &[] };
+            run_play(command, &[&["--subs", &subs], words].concat()).says(0, &[&format!("{subs}: {note}")]);
+        }
+    }
+    let empty = folder.write("empty.srt", "");
+    let ran = run_play("retime", &["--subs", &empty]);
+    assert_eq!(ran.err, format!("{empty}: no caption was found in it: it was read as srt\n{empty}: 0 shifted, 0 clipped, 0 dropped, 0 passed\n"));
+}
+
+/// A second timing line in one block: it is neither moved nor counted, and that is said.
+#[test]
+fn times_inside() {
+    let folder = Folder::new();
+    let text = "1\n00:00:01,200 --> 00:00:03,900\nGood evening.\n2\n00:00:04,000 --> 00:00:06,750\nListen!\n\n3\n00:00:07,100 --> 00:00:09,800\nFather!\n";
+    let subs = folder.write("subs.srt", text);
+    let note = "times inside a caption's lines; a blank line may be missing";
+    let ran = run(&["check", "--subs", &subs]);
+    let line = format!("note: {note} ({subs}, line 5: \"00:00:04,000 --> 00:00:06,750\")");
+    assert_eq!((ran.status, ran.text()), (0, &*format!("{subs}: sound\n{line}\n1 file checked, all sound\n")));
+    let ran = run_play("retime", &["--subs", &subs]);
+    assert_eq!(ran.err, format!("{subs}:5: {note}: \"00:00:04,000 --> 00:00:06,750\"\n{subs}: 2 shifted, 0 clipped, 0 dropped, 0 passed\n"));
+    assert!(ran.text().contains("\n2\n00:00:04,000 --> 00:00:06,750\nListen!\n"));
+    // the words of an ASS caption may have an arrow
+    let ass = folder.write("subs.ass", "[Events]\nFormat: Start, End, Text\nDialogue: 0:00:01.20,0:00:03.90,a --> b\n");
+    assert_eq!(run_play("retime", &["--subs", &ass]).err, format!("{ass}: 1 shifted, 0 clipped, 0 dropped, 0 passed\n"));
+    let many = folder.write("many.vtt", format!("WEBVTT\n\n00:01.000 --> 00:02.000\n{}", "x --> y\n".repeat(53)));
+    let ran = run(&["check", "--subs", &many]);
+    assert_eq!(ran.text().lines().count(), 53);
+    assert!(ran.text().ends_with(&format!("and 3 more such lines in {many}\n1 file checked, all sound\n")));
 }
 
 /// A sheet that is cut off at every block.
@@ -95,7 +143,7 @@ fn usage_of_check() {
     run(&["check", "--sheet", "-", "--list", "-"]).fails(2, &["bobbincrag check: - is standard input, which can be read once"]);
     run(&["check", "--sheet", "none.bin"]).fails(1, &["cannot read none.bin: No such file or directory"]);
     let ran = run_with(&["check", "--subs", "-", "--kind", "vtt"], b"WEBVTT\n");
-    assert_eq!((ran.status, ran.text()), (0, "standard input: sound\n1 file checked, all sound\n"));
+    assert_eq!((ran.status, ran.text()), (0, "standard input: sound\nnote: no caption was found in it: it was read as vtt (standard input)\n1 file checked, all sound\n"));
 }
 
 #[test]
@@ -158,7 +206,7 @@ fn offered(words: &[&str]) -> Vec<String> {
 #[test]
 fn completions() {
     assert_eq!(offered(&["bobbincrag", ""]), [&COMMANDS[..], &["--help", "--version"]].concat());
-    assert_eq!(offered(&["bobbincrag", "c"]), ["check", "census", "completions"]);
+    assert_eq!(offered(&["bobbincrag", "c"]), ["check", "cues", "census", "completions"]);
     assert_eq!(offered(&["bobbincrag", "retime", "--su"]), ["--subs"]);
     assert_eq!(offered(&["bobbincrag", "delay", "--kind", "s"]), ["srt"]);
     assert!(offered(&["bobbincrag", "retime", "--sheet", "x"]).is_empty());

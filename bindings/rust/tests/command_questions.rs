@@ -79,13 +79,15 @@ fn why_of_a_text() {
     let ask = |more: &[&str]| run(&[&["why", "--sheet", &sheet, "--list", &list, "--subs", &subs], more].concat());
     let (one, two) = ("segment 1 of 2 (00:00:00,000 to 00:00:00,101 of the recording, 00:00:00,000 to 00:00:00,101 of the cut)", "segment 2 of 2 (00:00:00,200 to 00:00:00,334 of the recording, 00:00:00,100 to 00:00:00,234 of the cut)");
     let gone = format!("{subs}:6: 00:00:00,120 to 00:00:00,200: \"Gone now\"\n  dropped: it meets no kept segment\n    {one} ends at or before the caption's start\n    {two} starts at or after the caption's end\n");
-    let short = format!("{subs}:11: 00:00:00.050 to 00:00:00.250: \"Short\"\n  kept in {}, at its end 4497 ticks (00:00:00.150) cut off\n", one.replace(',', ".").replace(". ", ", "));
+    let short = format!("{subs}:11: 00:00:00,050 to 00:00:00,250: \"Short\"\n  kept in {one}, at its end 4497 ticks (00:00:00,150) cut off\n");
     let ran = ask(&[]);
     assert_eq!((ran.status, ran.text()), (0, &*format!("{gone}{short}")), "{}", ran.err);
     assert_eq!(ask(&["--line", "6"]).text(), gone);
     assert_eq!(ask(&["--line", "8"]).text(), gone);
     assert_eq!(ask(&["--line", "2"]).text(), format!("{subs}:2: 00:00:00,210 to 00:00:00,250: \"kept\"\n  kept in {two}\n"));
     ask(&["--line", "1"]).fails(1, &[&format!("no caption stands at line 1 of {subs}")]);
+    assert_eq!(ask(&["--line", "12"]).text(), short);
+    ask(&["--line", "13"]).fails(1, &[&format!("no caption stands at line 13: {subs} has 12 lines")]);
     ask(&["--line", "0"]).fails(2, &["bobbincrag why: --line is a line, counted from 1"]);
     ask(&["0:0:1", "0:0:2"]).fails(2, &["bobbincrag why: it takes START and END, or --subs, not both"]);
     let whole = run(&["why", "--sheet", &sheet, "--subs", &subs]);
@@ -101,6 +103,7 @@ fn why_usage() {
     run_play("why", &["--kind", "ass", "0:00:01.00", "0:00:02.00", "--line", "2"]).fails(2, &["bobbincrag why: --line names a caption of --subs"]);
     run_play("why", &["--kind", "ass", "0:60:01.00", "0:00:02.00"]).fails(1, &["refused 22: a caption's time can't be read (0:60:01.00)"]);
     assert_eq!(run_play("why", &["--kind", "ass", "9999:59:59.99", "9999:59:59.99"]).status, 0);
+    run_play("why", &["--kind", "srt", "0:0:1,0", "0:0:2,0 --> 0:0:3,0"]).fails(1, &["refused 22: a caption's time can't be read (0:0:2,0 --> 0:0:3,0)"]);
 }
 
 #[test]

@@ -179,7 +179,7 @@ fn a_fault_has_its_place() {
     let texts: [(Kind, &[u8], u32, u64, &str); 7] = [
         (Kind::Srt, "\u{FEFF}1\n00:00:01,000 --> 00:00:02,000\nA\n\n\n2\n00:00:60,000 --> 00:00:02,000\n<i>B</i>\nC".as_bytes(), 22, 7, "00:00:60,000 --> 00:00:02,000 B C"),
         (Kind::Vtt, b"WEBVTT\n\n00:01.000 --> 00:02.000\nA\n\nx\n0:01.000 --> 00:02.000\nB\n\nC\n", 22, 7, "0:01.000 --> 00:02.000 B"),
-        (Kind::Ass, b"[Events]\nFormat: Start,End,Text\nDialogue: 0:00:01.00,0:00:02.00,A\nDialogue: 0:00:01.00,0:00:02,{\\b1}B,\\NC\n", 22, 4, "0:00:01.00 --> 0:00:02 B, C"),
+        (Kind::Ass, b"[Events]\nFormat: Start,End,Text\nDialogue: 0:00:01.00,0:00:02.00,A\nDialogue: 0:00:01.00,0:00:02,{\\b1}B,\\NC\n", 22, 4, "Dialogue: 0:00:01.00,0:00:02,B, C"),
         (Kind::Srt, b"1\n00:00:01,000 --> 00:00:02,000\nCaf\xe9\n\n", 20, 3, "Caf\u{FFFD}"),
         (Kind::Ass, long.as_bytes(), 19, 2, &format!("{}..", "x".repeat(60))),
         (Kind::Vtt, b"WEBVTT2\n", 24, 1, "WEBVTT2"),

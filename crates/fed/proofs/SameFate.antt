@@ -13,19 +13,27 @@ use Rattle.reason.proofs.Truth.{fate-is, taken-number, told-number}
 use Rattle.machine.specs.Session.{openSession}
 use Rattle.machine.proofs.Numbers.{Opened as Admitted, opened}
 use Rattle.kinds.specs.Kit.{kit}
+use Rattle.promise.specs.Hours.{AllInHours}
+use Rattle.promise.specs.Demand.{heard}
+use Rattle.promise.specs.Runs.{callsOf}
 use Rattle.promise.specs.Promise.{configOf}
 use Rattle.promise.proofs.ThePromise.{promise-opened}
+use Rattle.promise.proofs.HourLaws.{in-hours, hours-of}
 use Rattle.sequence.proofs.TheSequence.{opens}
 use Rattle.fed.specs.Reason.{SameFate, ReasonFed}
 use Rattle.fed.proofs.Cues.{fate-given}
 
-same-fates : (c : Config) (m : List ℕ) (ps : List Part) → Admitted c m → SameFate c m ps
-same-fates c m ps g q i f e hs he places room =
-    let n = taken-number m (c .timescale) (c .kind) (q .start) (q .stop) places (g .timescale-good) (g .map-good) (g .kind-known) hs he room in (
+same-fates : (c : Config) (m : List ℕ) (ps : List Part) → Admitted c m → AllInHours (c .kind) ps → SameFate c m ps
+same-fates c m ps g a q i f e places room =
+    let h = hours-of (c .kind) q ps a i in
+    let n = taken-number m (c .timescale) (c .kind) (q .start) (q .stop) places (g .timescale-good) (g .map-good) (g .kind-known) (h .0) (h .1) room in (
       told-number m (c .timescale) (c .kind) (q .start) (q .stop) places n,
       fate-is m (c .timescale) (c .kind) (q .start) (q .stop) places n ∙ ap (λ (x : Fate). countedOf (decided x)) (fate-given c (segmentsOf m) q f e),
     )
 
 pub same-fate : ReasonFed
 same-fate kind T m o a z cs p r =
-    let g = opened kit (configOf kind T) m (opens kind T m o a z) in (promise-opened kind T m o a z cs p r, same-fates (configOf kind T) m _ g)
+    let g = opened kit (configOf kind T) m (opens kind T m o a z) in (
+      promise-opened kind T m o a z cs p r,
+      same-fates (configOf kind T) m _ g (in-hours kind (heard (configOf kind T) (callsOf cs) .reader .finished) (heard (configOf kind T) (callsOf cs) .reader .text) (g .kind-known)),
+    )

@@ -1,10 +1,9 @@
 -- REQUEST 2.8. "The fate is the one that a feed would give to the same caption, where its hours are at most 9,999": a cue of the text that a list of calls
--- took, the fate that it was given, and the fate told for its two times.
+-- took, the fate that it was given, and the fate told for its two times. Each cue of a text has such hours (promise/specs/Hours: `TimesInHours`), so no premise says it.
 use mathlib.Core.Path.{_≡_}
 use mathlib.Core.List.{List, List·Memᴰ}
-use Prim.Native.Nat.{ℕ, _*_, _≤_, _<_}
+use Prim.Native.Nat.{ℕ, _≤_}
 use lib.ListN.{length}
-use Rattle.time.specs.Kind.{unitsOf}
 use Rattle.segment.specs.Segment.{segmentsOf}
 use Rattle.event.specs.declared.setting.Config.{Config}
 use Rattle.event.specs.Fates.{Fate}
@@ -19,15 +18,10 @@ use Rattle.promise.specs.Demand.{saidIn, Demand}
 use Rattle.promise.specs.Runs.{Made, callsOf, Ran, outcome}
 use Rattle.promise.specs.Promise.{configOf}
 
--- at most 9,999 hours, minutes, seconds and parts of a second beside them
-abbrev pub InHours : (kind units : ℕ) → Type 0
-InHours kind n = n < 36000000 * unitsOf kind
-
 -- asked for its times, with as many places as there are segments or more: 0, and the fate that the cue was counted by
 abbrev pub SameFate : Config → (map : List ℕ) → List Part → Type 0
 SameFate c m ps =
     (q : Cue) → List·Memᴰ (cue q) ps → (f : Fate) → emitOf c (segmentsOf m) (cue q) .caption ≡ decided f
-    → InHours (c .kind) (q .start) → InHours (c .kind) (q .stop)
     → (places : ℕ) → length (segmentsOf m) ≤ places
     → (whyOf m (c .timescale) (c .kind) (q .start) (q .stop) places .number ≡ 0)
     × (whyOf m (c .timescale) (c .kind) (q .start) (q .stop) places .fate ≡ countedOf (decided f))

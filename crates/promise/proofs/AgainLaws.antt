@@ -1,14 +1,10 @@
 -- Every cue that the plain reader reads can be written and read again.
 use mathlib.Core.Path.{_≡_, refl, sym, ap, subst, _∙_}
-use mathlib.Core.Logic.{_⊎_, inl, inr}
 use mathlib.Core.Bool.{Bool, true, false, cond, _&&_}
-use mathlib.Core.List.{List, [], _∷_, _++_, append-nil, append-assoc}
-use Prim.Native.Nat.{ℕ, zero, suc, _+_, _*_, _<_}
-use native.Mathlib.Omega.{arith}
+use mathlib.Core.List.{List, [], _∷_, _++_}
+use Prim.Native.Nat.{ℕ, zero, suc, _+_, _*_}
 use lib.Dec.{eqb}
-use lib.ListN.{length}
-use Rattle.text.specs.Line.{linesOf, lineCount, concat, endsLine, hasLf}
-use Rattle.text.proofs.LineLaws.{line-then, line-last, Finished}
+use Rattle.text.specs.Line.{lineCount, concat}
 use Rattle.time.specs.Kind.{kindBad, unitsOf}
 use Rattle.time.proofs.Limits.{by-kind}
 use Rattle.event.specs.Says.{Part, stays, cue, passes, faultNumber}
@@ -27,11 +23,10 @@ use Rattle.back.proofs.TimingBlock.{block-back}
 use Rattle.back.proofs.BlockKinds.{srt-blocked, Point, vtt-blocked}
 use Rattle.back.proofs.Stands.{line-stands, block-stands}
 use Rattle.whole.proofs.BlockShape.{blockLines, blocks-joined}
-use Rattle.machine.specs.Cut.{closedLines, unfinished}
 use Rattle.machine.specs.Reader.{Reading, fails, _⊕_}
-use Rattle.machine.proofs.CutLaws.{cut-ends, cut-open, has-none, restLines, lines-of-cut}
 use Rattle.promise.specs.Plain.{lineFault, unlessFault, lineThen, assRead, bodyFault, blockThen, bodyThen, blanksThen, markBehind, closesBlock, blocksRead, headFault, vttRead, linesRead, linesSay, opened, markLength, readBehind, markBack, plainRead}
 use Rattle.promise.specs.Again.{LineAgain, endSeconds, BlockAgain, CueAgain, PartAgain, AllAgain}
+use Rattle.promise.proofs.LinesCut.{Cut, cut-tail, cut-behind, cut-before, cut-lines, text-cut}
 
 again-append : (kind : ℕ) (xs ys : List Part) → AllAgain kind xs → AllAgain kind ys → AllAgain kind (xs ++ ys)
 again-append kind [] ys a b = b
@@ -58,48 +53,6 @@ ass-again end a x c n (l ∷ ls) h =
         → AllAgain 0 (lineThen y (λ d. assRead end 0 d (suc n) ls) .parts)
     go (faulty f) e k = tt
     go (says d p) e k = (part-line c n l h d p e, k d (subst (λ (z : LineSays). Apart (columnsAfter c z)) e (line-apart c n l h)))
-
--- ---- SRT: lines as a text has them; only the last may have no LF
-abbrev Last : List ℕ → Type 0
-Last l = (endsLine l ≡ true) ⊎ ((0 < length l) × (hasLf l ≡ false))
-
-abbrev Cut : List (List ℕ) → Type 0
-Cut [] = Unit {0}
-Cut (l ∷ []) = Last l
-Cut (l ∷ (k ∷ ls)) = (endsLine l ≡ true) × Cut (k ∷ ls)
-
-cut-tail : (l : List ℕ) (ls : List (List ℕ)) → Cut (l ∷ ls) → Cut ls
-cut-tail l [] c = tt
-cut-tail l (k ∷ ls) c = c .1
-
-cut-behind : (ks ls : List (List ℕ)) → Cut (ks ++ ls) → Cut ls
-cut-behind [] ls c = c
-cut-behind (k ∷ ks) ls c = cut-behind ks ls (cut-tail k (ks ++ ls) c)
-
-cut-before : (ks ls : List (List ℕ)) → Cut (ks ++ ls) → Cut ks
-cut-before [] ls c = tt
-cut-before (k ∷ []) [] c = c
-cut-before (k ∷ []) (l ∷ ls) c = inl (c .0)
-cut-before (k ∷ (j ∷ ks)) ls c = (c .0, cut-before (j ∷ ks) ls (c .1))
-
--- put one behind the other they are the same lines
-cut-lines : (ls : List (List ℕ)) → Cut ls → linesOf (concat ls) ≡ ls
-unfolding linesOf
-cut-lines [] c = refl
-cut-lines (l ∷ []) (inl e) = ap linesOf (sym (append-nil (l ++ []))) ∙ ap (λ (x : List ℕ). linesOf x) (append-assoc l [] []) ∙ line-then l [] e
-cut-lines (l ∷ []) (inr e) = ap linesOf (append-nil l) ∙ line-last l (e .0) (e .1)
-cut-lines (l ∷ (k ∷ ls)) c = line-then l (concat (k ∷ ls)) (c .0) ∙ ap (λ (x : List (List ℕ)). l ∷ x) (cut-lines (k ∷ ls) (c .1))
-
-finished-cut : (ls : List (List ℕ)) (r : List ℕ) → Finished ls → hasLf r ≡ false → Cut (ls ++ restLines r)
-finished-cut [] [] f h = tt
-finished-cut [] (b ∷ r) f h = inr (omega arith, h)
-finished-cut (l ∷ []) [] f h = inl (f .0)
-finished-cut (l ∷ []) (b ∷ r) f h = (f .0, inr (omega arith, h))
-finished-cut (l ∷ (k ∷ ls)) r f h = (f .0, finished-cut (k ∷ ls) r (f .1) h)
-
-text-cut : (f : Bool) (t : List ℕ) → Cut (linesRead f t)
-text-cut true t = subst Cut (sym (lines-of-cut t)) (finished-cut (closedLines t) (unfinished t) (cut-ends t) (cut-open t))
-text-cut false t = subst Cut (append-nil (closedLines t)) (finished-cut (closedLines t) [] (cut-ends t) has-none)
 
 -- ---- blocks, of a kind whose written blocks read again
 module _ (j : ℕ) (Mark : ℕ → Type 0) (K : Blocked (suc j) Mark (endSeconds (suc j) * unitsOf (suc j))) where

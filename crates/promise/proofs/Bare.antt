@@ -120,7 +120,7 @@ bom-longer : (l t : List ℕ) → hasBom l ≡ true → hasBom (l ++ t) ≡ true
 unfolding hasBom starts
 bom-longer l t e = ap (λ (x : List ℕ). starts bom (x ++ t)) (bom-behind l e)
 
-no-bom-part : (l t : List ℕ) → hasBom (l ++ t) ≡ false → hasBom l ≡ false
+pub no-bom-part : (l t : List ℕ) → hasBom (l ++ t) ≡ false → hasBom l ≡ false
 no-bom-part l t e = go (hasBom l) refl
   where
     go : (b : Bool) → hasBom l ≡ b → b ≡ false

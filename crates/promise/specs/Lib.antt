@@ -3,6 +3,7 @@
 pub mod Plain
 pub mod Whole
 pub mod Again
+pub mod Hours
 pub mod Demand
 pub mod Bounds
 pub mod Foreign

@@ -133,5 +133,8 @@ pub fn answer(head: &[u8], x: &[u8], y: &[u8], z: &[u8]) {
     if texts(head, x, y, z) {
         return;
     }
+    if cuetexts::answer(op, second, third, z) {
+        return;
+    }
     mapfile::print_number(b"unknown op ", op);
 }

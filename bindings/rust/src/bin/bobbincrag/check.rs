@@ -3,8 +3,10 @@ use crate::args::Args;
 use crate::cut::direction;
 use crate::failure::Failure;
 use crate::input::{self, Input};
+use crate::notes;
 use crate::output;
 use crate::progress::Progress;
+use retimer::captions;
 use retimer::faults::{self, Fault};
 use retimer::Kind;
 use std::ffi::OsStr;
@@ -38,7 +40,14 @@ pub fn run(args: &Args) -> Result<(), Failure> {
         let progress = Progress::new(format!("checking {}", text.name), text.bytes.len());
         let found = faults::in_captions(kind, &text.bytes, &mut |at| progress.at(at));
         drop(progress);
-        page.add(&text.name, found);
+        let sound = found.faults.is_empty();
+        page.add(&text.name, found.faults);
+        if found.more {
+            page.text += &format!("the search ended here: {} may have more faults\n", text.name);
+        }
+        if sound {
+            page.remarks(&text.name, kind, &text.bytes);
+        }
     }
     page.end()
 }
@@ -90,6 +99,21 @@ impl Page {
         }
         self.faults += found.len();
         self.faulty += usize::from(!found.is_empty());
+    }
+
+    /// What is to be said of captions that can be retimed.
+    fn remarks(&mut self, name: &str, kind: Kind, text: &[u8]) {
+        let read = captions::read(kind, text).map_or(Vec::new(), |r| r.captions);
+        if let Some(note) = notes::none_found(kind, text, &read) {
+            self.text += &format!("note: {note} ({name})\n");
+        }
+        let inside = notes::arrows_inside(kind, &read);
+        for (line, words) in inside.iter().take(MOST) {
+            self.text += &format!("note: {} ({name}, line {line}: \"{words}\")\n", notes::INSIDE);
+        }
+        if inside.len() > MOST {
+            self.text += &format!("and {} more such lines in {name}\n", inside.len() - MOST);
+        }
     }
 
     fn end(mut self) -> Result<(), Failure> {

@@ -1,7 +1,7 @@
 //! The commands: what each takes, and its help.
 use crate::args::Args;
 use crate::failure::Failure;
-use crate::{census, check, completions, delay, map, picture, retime, why};
+use crate::{census, check, completions, cues, delay, map, picture, retime, why};
 
 pub struct Opt {
     pub name: &'static str,
@@ -47,13 +47,15 @@ static OUT: Opt = Opt { name: "-o", long: "--output", value: "OUT", many: false,
 static OUTS: Opt = Opt { name: "-o", long: "--output", value: "OUT", many: false, help: "write to this file, whole or not at all; for several caption files the folder for files of the same names" };
 static WARNINGS: Opt = opt("--warnings", "FILE", "write the warnings there too: file, line, number, sentence and words, parted by tabs");
 static JSON: Opt = opt("--json", "PATH", "print the JSON that the cutter stores; PATH stands in its field input");
+static JSON_LINES: Opt = opt("--json", "", "a line of JSON for each caption");
+static TSV: Opt = opt("--tsv", "", "a line for each caption, parted by tabs, below a line with the names of the columns");
 static LINE: Opt = opt("--line", "N", "tell of the caption at this line alone, with every kept stretch");
 static BUDGET: Opt = opt("--budget", "N", "try so many shifts; without it all 12001");
 
 const INPUTS: &str = "A FILE that is - is standard input, for one of them.";
 const STATUS: &str = "Status 0: done; 1: refused, as `refused N: sentence`, or a file can't be read or written; 2: the command line is wrong.";
 
-pub static ALL: [Command; 8] = [
+pub static ALL: [Command; 9] = [
     Command {
         name: "retime",
         about: "retime captions through a cut",
@@ -93,6 +95,16 @@ pub static ALL: [Command; 8] = [
         more: "START and END are times of the whole recording, as they stand in captions. With --subs it tells of every caption that is dropped or\nclipped, with the kept stretches next to it.",
         example: "bobbincrag why --sheet play.bin --list trim.txt --kind ass 0:00:12.00 0:00:20.00",
         run: why::run,
+    },
+    Command {
+        name: "cues",
+        about: "list every caption with its fate and its new times",
+        form: "--sheet S [--list L] --subs C.. (--json | --tsv) [-o OUT]",
+        words: "",
+        options: &[&SHEET, &LIST, &MAP, &INWARD, &MANY_SUBS, &KIND, &JSON_LINES, &TSV, &OUT],
+        more: "Of each caption: file, line, start and end, fate (shifted, clipped, dropped, passed), start and end in the cut, the kept stretch, counted from 1, how\nmuch was cut off at its start and its end, rounded up, warnings, and words. Times are seconds in JSON, and as in captions with --tsv.",
+        example: "bobbincrag cues --sheet play.bin --list trim.txt --subs en.srt --tsv -o play.tsv",
+        run: cues::run,
     },
     Command {
         name: "census",

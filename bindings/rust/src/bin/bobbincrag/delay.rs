@@ -2,11 +2,11 @@
 use crate::args::Args;
 use crate::cut;
 use crate::failure::Failure;
-use crate::held;
 use crate::input;
 use crate::output;
 use crate::progress::Progress;
 use crate::stderr::say;
+use crate::subs;
 use retimer::captions::Times;
 use retimer::{best_delay, Kind};
 
@@ -23,8 +23,8 @@ pub fn run(args: &Args) -> Result<(), Failure> {
     };
     let map = cut::read(args)?.map;
     let text = input::read(name, input::MOST_TEXT)?;
-    let read = held::captions(&map, kind, &text)?.captions;
-    let captions: Vec<[u64; 2]> = read.iter().filter_map(|(c, _)| times(c.times)).collect();
+    let read = subs::read(kind, &text)?;
+    let captions: Vec<[u64; 2]> = read.iter().filter_map(|c| times(c.times)).collect();
     if captions.len() < read.len() {
         say(format_args!("{} captions are left out: they have no times that are read", read.len() - captions.len()));
     }
@@ -40,7 +40,7 @@ pub fn run(args: &Args) -> Result<(), Failure> {
 fn times(times: Times) -> Option<[u64; 2]> {
     match times {
         Times::Read { start, stop } => Some([start, stop]),
-        Times::Passed | Times::Unreadable => None,
+        Times::Passed { .. } => None,
     }
 }
 

@@ -1,0 +1,1 @@
+// Theorems alone: where the rows of a text and its fault stand.
