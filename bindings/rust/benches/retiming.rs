@@ -9,7 +9,7 @@ const CAPTIONS: u64 = 40_000;
 /// 30 segments of 240 s, 60 s cut out between two.
 fn map() -> Map {
     let numbers = (0..30u64).flat_map(|k| [k * 300, k * 300 + 240, k * 300_000, 240, k * 240_000, 240_000]).collect();
-    Map { timescale: 1000, numbers }
+    Map::from_numbers(1000, numbers)
 }
 
 fn time(kind: u32, at: u64) -> String {
@@ -54,7 +54,7 @@ fn in_one_call(kind: u32, name: &str, text: &[u8], map: &Map) {
     let (mut retimed, mut read) = (f64::INFINITY, f64::INFINITY);
     for _ in 0..9 {
         let start = now();
-        assert_eq!(raw::text(kind, map.timescale, &map.numbers, black_box(text), &mut out, &mut places, &mut told), 0);
+        assert_eq!(raw::text(kind, map.timescale(), map.numbers(), black_box(text), &mut out, &mut places, &mut told), 0);
         let middle = now();
         assert_eq!(raw::cues(kind, black_box(text), &mut rows, &mut cues), 0);
         (retimed, read) = (retimed.min(middle - start), read.min(now() - middle));
@@ -73,12 +73,12 @@ fn main() {
         for _ in 0..9 {
             let mut session = vec![0; SESSION_BYTES];
             let (mut written, mut warned) = (0, 0);
-            assert_eq!(raw::open(kind, map.timescale, &map.numbers, &mut session), 0);
+            assert_eq!(raw::open(kind, map.timescale(), map.numbers(), &mut session), 0);
             let start = Instant::now();
             for piece in text.chunks(MOST_PIECE) {
-                assert_eq!(raw::feed(black_box(&mut session), &map.numbers, piece, &mut out, &mut places, &mut written, &mut warned), 0);
+                assert_eq!(raw::feed(black_box(&mut session), map.numbers(), piece, &mut out, &mut places, &mut written, &mut warned), 0);
             }
-            assert_eq!(raw::finish(&mut session, &map.numbers, &mut out, &mut places, &mut written, &mut warned), 0);
+            assert_eq!(raw::finish(&mut session, map.numbers(), &mut out, &mut places, &mut written, &mut warned), 0);
             best = best.min(start.elapsed().as_secs_f64());
         }
         println!("retimer_feed, {name}: {} bytes, {:.2} ns a byte, {:.0} ns a call", text.len(), best * 1e9 / text.len() as f64, best * 1e9 / (text.len() as f64 / 1024.0));

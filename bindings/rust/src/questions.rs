@@ -46,7 +46,7 @@ impl Fate {
     ///
     /// ```
     /// use retimer::{why, Kind, Map};
-    /// let map = Map { timescale: 30_000, numbers: vec![0, 3, 0, 3, 0, 3_003, 6, 10, 6_006, 4, 3_003, 4_004] };
+    /// let map = Map::from_numbers(30_000, vec![0, 3, 0, 3, 0, 3_003, 6, 10, 6_006, 4, 3_003, 4_004]);
     /// let fate = why(&map, Kind::Ass, 21, 25)?;
     /// assert_eq!(fate.moved(&map, Kind::Ass, 21, 25)?, Some([10, 15]));
     /// # Ok::<(), retimer::Refused>(())
@@ -66,7 +66,7 @@ impl Fate {
 ///
 /// ```
 /// use retimer::{why, Cause, Fate, Kind, Map};
-/// let map = Map { timescale: 30_000, numbers: vec![0, 3, 0, 3, 0, 3_003, 6, 10, 6_006, 4, 3_003, 4_004] };
+/// let map = Map::from_numbers(30_000, vec![0, 3, 0, 3, 0, 3_003, 6, 10, 6_006, 4, 3_003, 4_004]);
 /// assert_eq!(why(&map, Kind::Ass, 5, 25), Ok(Fate::Kept { place: 0, start_cut: 0, end_cut: 4_497 }));
 /// assert_eq!(why(&map, Kind::Ass, 12, 20), Ok(Fate::Dropped(vec![Cause::EndsBefore, Cause::StartsAfter])));
 /// ```
@@ -101,7 +101,7 @@ pub enum Judgement {
 ///
 /// ```
 /// use retimer::{rough, Judgement, Map};
-/// let map = Map { timescale: 30_000, numbers: vec![0, 3, 0, 3, 0, 3_003, 6, 10, 6_006, 4, 3_003, 4_004] };
+/// let map = Map::from_numbers(30_000, vec![0, 3, 0, 3, 0, 3_003, 6, 10, 6_006, 4, 3_003, 4_004]);
 /// assert_eq!(rough(&map, 3_003..=6_000, 3_003..=6_006), Ok(Judgement::SurelyDropped));
 /// assert_eq!(rough(&map, 3_003..=6_000, 3_003..=6_007), Ok(Judgement::Unsure));
 /// ```
@@ -131,7 +131,7 @@ pub struct Starts {
 ///
 /// ```
 /// use retimer::{census, Kind, Map, Starts};
-/// let map = Map { timescale: 30_000, numbers: vec![0, 3, 0, 3, 0, 3_003, 6, 10, 6_006, 4, 3_003, 4_004] };
+/// let map = Map::from_numbers(30_000, vec![0, 3, 0, 3, 0, 3_003, 6, 10, 6_006, 4, 3_003, 4_004]);
 /// assert_eq!(census(&map, Kind::Ass, 4, 40), Ok(Starts { shifted: 16, clipped: 12, dropped: 12 }));
 /// ```
 pub fn census(map: &Map, kind: Kind, length: u64, count: u64) -> Result<Starts, Refused> {
@@ -158,7 +158,7 @@ pub struct BestDelay {
 ///
 /// ```
 /// use retimer::{best_delay, BestDelay, Kind, Map};
-/// let map = Map { timescale: 30_000, numbers: vec![0, 3, 0, 3, 0, 3_003, 6, 10, 6_006, 4, 3_003, 4_004] };
+/// let map = Map::from_numbers(30_000, vec![0, 3, 0, 3, 0, 3_003, 6, 10, 6_006, 4, 3_003, 4_004]);
 /// let best = best_delay(&map, Kind::Ass, &[[9, 12]], 5)?;
 /// assert_eq!(best, BestDelay { delay: -2, loss: 0, tried: 5, off: 0 });
 /// # Ok::<(), retimer::Refused>(())

@@ -75,7 +75,7 @@ impl From<Refused> for Stopped {
 ///
 /// ```
 /// use retimer::{Kind, Map, Session};
-/// let map = Map { timescale: 30_000, numbers: vec![0, 3, 0, 3, 0, 3_003, 6, 10, 6_006, 4, 3_003, 4_004] };
+/// let map = Map::from_numbers(30_000, vec![0, 3, 0, 3, 0, 3_003, 6, 10, 6_006, 4, 3_003, 4_004]);
 /// let mut session = Session::open(Kind::Vtt, &map)?;
 /// let first = session.feed(b"WEBVTT\n\n00:00.210 --> 00:0")?;
 /// assert_eq!(first.text, b"WEBVTT\n\n");
@@ -250,7 +250,7 @@ pub struct Retimed {
 ///
 /// ```
 /// use retimer::{retime, Kind, Map, Refused};
-/// let map = Map { timescale: 30_000, numbers: vec![0, 3, 0, 3, 0, 3_003, 6, 10, 6_006, 4, 3_003, 4_004] };
+/// let map = Map::from_numbers(30_000, vec![0, 3, 0, 3, 0, 3_003, 6, 10, 6_006, 4, 3_003, 4_004]);
 /// let retimed = retime(Kind::Srt, &map, b"1\n00:00:00,050 --> 00:00:00,250\nA line\n")?;
 /// assert_eq!(retimed.text, b"1\n00:00:00,050 --> 00:00:00,101\nA line\n");
 /// assert_eq!((retimed.counts.clipped, retimed.warnings[0].number), (1, 4));

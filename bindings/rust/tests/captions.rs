@@ -17,7 +17,7 @@ fn map(random: &mut Random) -> Map {
         numbers.extend([k, k + 1, source, 1, output, duration]);
         output += duration;
     }
-    Map { timescale, numbers }
+    Map::from_numbers(timescale, numbers)
 }
 
 /// A time of a kind, mostly good, in the ways in which it can be written.
@@ -195,7 +195,32 @@ fn bad_times() {
 /// Any bytes: nothing panics, there is a fault where the retimer refuses, and once all that is told is set right there is none.
 #[test]
 fn any_bytes() {
-    let parts: [&[u8]; 24] = [b"\n", b"\n", b"\n\n", b"\r\n", b"\r", b"-->", b" ", b":", b"0", b"00:00:01,000", b"00:01.000", b"0:00:01.00", b",", b".", b"\xff", b"\xe3\x80\x80", b"\xe3\x80", b"\xef\xbb\xbf", b"[Events]\n", b"Format:Start,End\n", b"Dialogue:", b"WEBVTT", b"<", b"{"];
+    let parts: [&[u8]; 24] = [
+        b"\n",
+        b"\n",
+        b"\n\n",
+        b"\r\n",
+        b"\r",
+        b"-->",
+        b" ",
+        b":",
+        b"0",
+        b"00:00:01,000",
+        b"00:01.000",
+        b"0:00:01.00",
+        b",",
+        b".",
+        b"\xff",
+        b"\xe3\x80\x80",
+        b"\xe3\x80",
+        b"\xef\xbb\xbf",
+        b"[Events]\n",
+        b"Format:Start,End\n",
+        b"Dialogue:",
+        b"WEBVTT",
+        b"<",
+        b"{",
+    ];
     let mut random = Random(4);
     let (mut sound, map) = (0, map(&mut Random(5)));
     for k in 0..60_000 {
@@ -238,18 +263,10 @@ fn all_faults() {
     let srt = format!("1\n00:00:01,000 --> never\nA\n\n2\n00:00:02,000 --> 00:00:03,000\n{x}\nfine\n\n{}\n\n4\n00:00:60,000 --> 00:00:61,000\nD", "y\n".repeat(2_500));
     assert_eq!(
         told(Kind::Srt, srt.as_bytes()),
-        [
-            "22: line 2: \"00:00:01,000 --> never A\"".to_string(),
-            format!("19: line 7: \"{}..\"", "x".repeat(60)),
-            "21: line 10: \"y\"".to_string(),
-            format!("22: line {}: \"00:00:60,000 --> 00:00:61,000 D\"", 10 + 2_500 + 3),
-        ]
+        ["22: line 2: \"00:00:01,000 --> never A\"".to_string(), format!("19: line 7: \"{}..\"", "x".repeat(60)), "21: line 10: \"y\"".to_string(), format!("22: line {}: \"00:00:60,000 --> 00:00:61,000 D\"", 10 + 2_500 + 3),]
     );
     let two = b"1\n00:00:01,000 --> x\nA\xff\nB\nC\xfe\n\n2\n00:00:02,000 --> y\nD\n";
-    assert_eq!(
-        told(Kind::Srt, two),
-        ["20: line 3: \"A\u{FFFD}\"", "20: line 5: \"C\u{FFFD}\"", "22: line 2: \"00:00:01,000 --> x A\u{FFFD} B C\u{FFFD}\"", "22: line 8: \"00:00:02,000 --> y D\""]
-    );
+    assert_eq!(told(Kind::Srt, two), ["20: line 3: \"A\u{FFFD}\"", "20: line 5: \"C\u{FFFD}\"", "22: line 2: \"00:00:01,000 --> x A\u{FFFD} B C\u{FFFD}\"", "22: line 8: \"00:00:02,000 --> y D\""]);
     let ass = format!("[Events]\nFormat: Start, End, Text\nDialogue: 1,0:00:02.00,A\n{x}\nDialogue: 0:00:01.00,0:00:02.00,B\nDialogue: 0:00:01.00,2,C");
     assert_eq!(told(Kind::Ass, ass.as_bytes()), ["22: line 3: \"Dialogue: 1,0:00:02.00,A\"".to_string(), format!("19: line 4: \"{}..\"", "x".repeat(60)), "22: line 6: \"Dialogue: 0:00:01.00,2,C\"".to_string()]);
     let vtt = "\u{FEFF}WEBVTT!\n\n0:01.000 --> 00:02.000\nA\n";

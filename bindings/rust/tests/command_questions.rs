@@ -25,7 +25,7 @@ fn a_map() {
     assert!(text.ends_with("      \"duration\": 4004\n    }\n  ]\n}\n"));
     assert_eq!(run(&["map", "--map", &json]).out, read(&file("crates/mapper/stdout")));
     assert_eq!(run(&["map", "--map", &json, "--json", "a.mp4"]).text(), text);
-    run(&["map", "--sheet", &sheet, "--json", &"a".repeat(1025)]).fails(1, &["refused 16: an argument is out of range, or a lent buffer too short"]);
+    run(&["map", "--sheet", &sheet, "--json", &"a".repeat(1025)]).fails(1, &["refused 16: an argument is out of range, or a lent buffer too short (the path has 1025 bytes, at most 1,024 can stand there)"]);
     run(&["map", "--sheet", &sheet, "--json", ""]).fails(2, &["bobbincrag map: --json needs PATH"]);
     run(&["map", "--sheet", &json, "-o", &json]).fails(2, &[&format!("bobbincrag map: {json} is read, and would be lost: write to another file")]);
 }
@@ -128,7 +128,7 @@ fn the_census() {
         assert_eq!(run_play("census", &[length, span]).status, 2, "{length} {span}");
     }
     for length in ["100:00:00.01", "99999999999999999999", "9999999999999999:00"] {
-        run_play("census", &[length, "1"]).fails(1, &["refused 16: an argument is out of range, or a lent buffer too short"]);
+        run_play("census", &[length, "1"]).fails(1, &["refused 16: an argument is out of range, or a lent buffer too short (LENGTH and SPAN are at most 100:00:00)"]);
     }
     run_play("census", &["2"]).fails(2, &["bobbincrag census: it takes LENGTH and SPAN, which are times: 2.5, 1:30, 1:00:00"]);
     run_play("census", &["2", "3", "4"]).fails(2, &["bobbincrag census: 4 is one word too many"]);
@@ -147,10 +147,10 @@ fn the_delay() {
     assert_eq!(ask(&[]).text(), "Of 12001 shifts tried, -0.02 s loses fewest: 0 of 1 captions. No shift at all loses fewer than 0.\n");
     assert_eq!(ask(&["--budget", "3"]).text(), "Of 3 shifts tried, +0.00 s loses fewest: 1 of 1 captions. No shift at all loses fewer than 0.\n");
     let none = "more than 4,096 captions are to be shifted, or no shift is to be tried";
-    ask(&["--budget", "0"]).fails(1, &[&format!("refused 29: {none} ({subs})")]);
+    ask(&["--budget", "0"]).fails(1, &[&format!("refused 29: {none} ({subs}: say --budget 1 or more)")]);
     ask(&["--budget", "x"]).fails(2, &["bobbincrag delay: --budget is how many shifts to try"]);
     let many = "00:00.000 --> 00:00.010\n\n".repeat(4_097);
     let many = folder.write("many.vtt", format!("WEBVTT\n\n{many}"));
-    run(&["delay", "--sheet", &sheet, "--subs", &many]).fails(1, &[&format!("refused 29: {none} ({many})")]);
+    run(&["delay", "--sheet", &sheet, "--subs", &many]).fails(1, &[&format!("refused 29: {none} ({many}: it has 4097 captions, and 4096 at most can be shifted: split it in 2 files)")]);
     run(&["delay", "--sheet", &sheet]).fails(2, &["bobbincrag delay: name the captions with --subs"]);
 }

@@ -187,7 +187,7 @@ fn refused_texts() {
     let wide: Vec<u8> = [0xFEFF].into_iter().chain("1\r\n".encode_utf16()).flat_map(u16::to_le_bytes).collect();
     let wide = folder.write("wide.srt", wide);
     let ran = run_play("retime", &["--subs", &wide]);
-    assert!(ran.fails(1, &[]).err.starts_with(&format!("{bytes} ({wide}, line 1: ")) && ran.err.ends_with("(this is UTF-16: save it as UTF-8))\n"), "{}", ran.err);
+    assert!(ran.fails(1, &[]).err.starts_with(&format!("{bytes} ({wide}, line 1: ")) && ran.err.contains("(this is UTF-16: save it as UTF-8))\n"), "{}", ran.err);
     let empty = folder.write("empty.vtt", "");
     run_play("retime", &["--subs", &empty]).fails(1, &[&format!("refused 24: the WebVTT captions do not begin with the line WEBVTT ({empty}, line 1: \"\")")]);
 }

@@ -1,5 +1,5 @@
 //! The lines of a text. A line ends in LF or CR LF; a lone CR is text.
-use crate::Kind;
+use crate::{Encoding, Kind};
 use std::ops::Range;
 
 pub(crate) const BOM: &[u8] = "\u{FEFF}".as_bytes();
@@ -54,12 +54,11 @@ pub(crate) fn trimmed(text: &[u8]) -> &[u8] {
     }
 }
 
-/// A word more about a text that is not UTF-8, where it is UTF-16 by its byte order mark.
+/// A word more about a text that is not UTF-8, where it is UTF-16 or UTF-32.
 pub(crate) fn hint(number: u32, text: &[u8]) -> &'static str {
-    let wide = text.starts_with(b"\xff\xfe") || text.starts_with(b"\xfe\xff");
-    if number == 20 && wide {
-        " (this is UTF-16: save it as UTF-8)"
-    } else {
-        ""
+    match (number == 20).then(|| Encoding::of(text)).flatten() {
+        Some(Encoding::Utf16 | Encoding::Utf16Be) => " (this is UTF-16: save it as UTF-8)",
+        Some(Encoding::Utf32) => " (this is UTF-32: save it as UTF-8)",
+        _ => "",
     }
 }

@@ -39,7 +39,15 @@ impl Rest {
     }
 
     fn format(&self) -> String {
-        let name = |k| if k == self.start { "Start" } else if k == self.stop { "End" } else { "" };
+        let name = |k| {
+            if k == self.start {
+                "Start"
+            } else if k == self.stop {
+                "End"
+            } else {
+                ""
+            }
+        };
         format!("[Events]\nFormat:{}\n", (1..=self.columns).map(name).collect::<Vec<_>>().join(","))
     }
 }

@@ -8,7 +8,7 @@ mod list;
 mod sheet;
 
 pub use captions::{in_captions, InText};
-pub use cut::in_cut;
+pub use cut::{in_cut, in_cut_up_to, MOST_IN_CUT};
 pub use list::in_list;
 pub use sheet::in_sheet;
 

@@ -26,7 +26,7 @@ pub fn run(args: &Args) -> Result<(), Failure> {
     let outs: Vec<PathBuf> = args.one("-o").map(PathBuf::from).into_iter().collect();
     output::apart(args, &outs)?;
     let map = cut::read(args)?.map;
-    let texts = names.iter().map(|s| input::read(s, input::MOST_TEXT)).collect::<Result<Vec<Input>, _>>()?;
+    let texts = names.iter().map(|s| input::captions(args, s)).collect::<Result<Vec<Input>, _>>()?;
     let mut page = if json { String::new() } else { HEAD.join("\t") + "\n" };
     for (text, kind) in texts.iter().zip(kinds) {
         let rows = rows(&map, kind, text)?;
@@ -67,24 +67,19 @@ fn rows<'t>(map: &Map, kind: Kind, text: &'t Input) -> Result<Vec<Row<'t>>, Fail
 }
 
 fn row<'t>(map: &Map, kind: Kind, file: &'t str, (caption, fate): &Fared<'t>, warned: &mut BTreeMap<u64, Vec<u32>>) -> Result<Row<'t>, Refused> {
-    let mut row = Row {
-        file,
-        kind,
-        line: caption.line,
-        times: None,
-        fate: "passed",
-        new: None,
-        stretch: None,
-        cut: None,
-        warnings: warned.remove(&caption.line).unwrap_or_default(),
-        words: caption.words(),
-    };
+    let mut row = Row { file, kind, line: caption.line, times: None, fate: "passed", new: None, stretch: None, cut: None, warnings: warned.remove(&caption.line).unwrap_or_default(), words: caption.words() };
     let (Times::Read { start, stop }, Some(fate)) = (caption.times, fate) else { return Ok(row) };
     row.times = Some([start, stop]);
-    row.fate = if fate.is_dropped() { "dropped" } else if fate.is_shifted() { "shifted" } else { "clipped" };
+    row.fate = if fate.is_dropped() {
+        "dropped"
+    } else if fate.is_shifted() {
+        "shifted"
+    } else {
+        "clipped"
+    };
     row.new = fate.moved(map, kind, start, stop)?;
     if let Fate::Kept { place, start_cut, end_cut } = fate {
-        let length = |ticks: &u64| ticks_to_units_ceil(*ticks, map.timescale, kind);
+        let length = |ticks: &u64| ticks_to_units_ceil(*ticks, map.timescale(), kind);
         (row.stretch, row.cut) = (Some(place + 1), Some([length(start_cut)?, length(end_cut)?]));
     }
     Ok(row)

@@ -20,7 +20,7 @@ pub fn run(args: &Args) -> Result<(), Failure> {
     let outs: Vec<PathBuf> = args.one("-o").map(PathBuf::from).into_iter().collect();
     output::apart(args, &outs)?;
     let cut = cut::read(args)?;
-    let text = input::read(name, input::MOST_TEXT)?;
+    let text = input::captions(args, name)?;
     let retimed = retime(kind, &cut.map, &text.bytes).map_err(|stopped| Failure::text(&stopped, &text))?;
     let read = subs::fates(&cut.map, kind, &text)?;
     let scale = Scale::of(&cut.map, kind);
@@ -56,8 +56,8 @@ struct Scale<'m> {
 
 impl Scale<'_> {
     fn of(map: &Map, kind: Kind) -> Scale<'_> {
-        let parts = if map.timescale < COARSE { PARTS } else { 1 };
-        Scale { map, kind, parts, timescale: map.timescale * parts }
+        let parts = if map.timescale() < COARSE { PARTS } else { 1 };
+        Scale { map, kind, parts, timescale: map.timescale() * parts }
     }
 
     /// Ticks of the recording.

@@ -1,5 +1,5 @@
 //! The captions of a file, as the proved reader tells them.
-use crate::failure::Failure;
+use crate::failure::{fault_text, Failure};
 use crate::input::Input;
 use crate::notes;
 use crate::stderr::say;
@@ -11,7 +11,7 @@ use retimer::{Fate, Kind, Map};
 pub fn read(kind: Kind, text: &Input) -> Result<Vec<Caption<'_>>, Failure> {
     let reading = captions::read(kind, &text.bytes).map_err(|refused| Failure::refused(format!("{refused} ({})", text.name)))?;
     if let Some(fault) = Fault::of_reading(&reading, &text.bytes) {
-        return Err(Failure::refused(format!("{} ({}, {})", fault.refused, text.name, fault.place)));
+        return Err(Failure::refused(fault_text(&fault, text)));
     }
     if let Some(note) = notes::none_found(kind, &text.bytes, &reading.captions) {
         say(format_args!("{}: {note}", text.name));

@@ -40,7 +40,7 @@ fn of_text(args: &Args) -> Result<(), Failure> {
     let kind = input::kind_of(args, name)?;
     let line = args.one("--line").map(|n| number(args, n)).transpose()?;
     let map = cut::read(args)?.map;
-    let text = input::read(name, input::MOST_TEXT)?;
+    let text = input::captions(args, name)?;
     let read = subs::fates(&map, kind, &text)?;
     let page = match line {
         Some(line) if line > lines(&text.bytes) => {
