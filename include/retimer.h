@@ -195,7 +195,7 @@ uint32_t retimer_text(uint32_t kind, uint32_t timescale, const uint64_t *map, si
                       uint64_t *warnings, size_t warnings_lent, uint64_t *told, size_t told_lent);
 
 /* The captions of a whole text, in its order. Refused, nothing is written: 16 for the kind, a text of more than 2^30 bytes, fewer than RETIMER_CUES_TOLD told numbers, or fewer than
- * RETIMER_CUE_NUMBERS numbers lent for each caption. RETIMER_CUES_FOR(text_length) are enough for every text; one with few captions can do with fewer.
+ * RETIMER_CUE_NUMBERS numbers lent for each caption. RETIMER_CUES_FOR(text_length) are enough for every text, which is proved, and then the text is walked once; with fewer it is walked twice.
  * Else 0, or 19 to 22 or 24 for the text: RETIMER_CUE_NUMBERS numbers for each caption, of a faulty text for each before the line (ASS) or block of the first fault, stand at the start of `rows`,
  * and two numbers are told; numbers behind them stay. For every map the fates that retimer_why tells of these times, counted, are what retimer_text counts for the text. */
 #define RETIMER_CUE_NUMBERS 6

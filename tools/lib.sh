@@ -2,7 +2,7 @@
 # `name` is the tool's name, for what is said. Lines go to standard error. It is read by `.`, and gives `root`, `library`, `program` and `built`.
 
 root=$(cd -P "$(dirname "$0")/.." && pwd -P)
-library=$root/target/staticlib/libcutter.a
+library=$root/target/staticlib/libc_api.a
 program=$root/target/bindings/release/bobbincrag
 
 said() {
@@ -80,13 +80,13 @@ made() {
 proved() {
     log=$(mktemp) && exec 3>"$log" 4<"$log" && rm -f "$log" || return 1
     # the status of rt, not that of the count
-    failed=$({ { (cd "$root" && exec rt staticlib cutter) </dev/null 2>&1 3>&- 4<&- 5>&-; echo $? >&5; } | counted "$(below cutter)" >/dev/null; } 5>&1)
+    failed=$({ { (cd "$root" && exec rt staticlib c_api) </dev/null 2>&1 3>&- 4<&- 5>&-; echo $? >&5; } | counted "$(below c_api)" >/dev/null; } 5>&1)
     [ "$failed" = 0 ] || cat <&4 >&2
     exec 3>&- 4<&-
     [ "$failed" = 0 ] && kept "$library" crates crates.txt
 }
 
-sources="bindings/rust/src bindings/rust/build.rs bindings/rust/Cargo.toml bindings/rust/Cargo.lock target/staticlib/libcutter.a.sum"
+sources="bindings/rust/src bindings/rust/build.rs bindings/rust/Cargo.toml bindings/rust/Cargo.lock target/staticlib/libc_api.a.sum"
 
 compiled() {
     made cargo build --quiet --release --offline --manifest-path bindings/rust/Cargo.toml --target-dir target/bindings --bin bobbincrag && kept "$program" $sources
@@ -97,7 +97,7 @@ built() {
     if older "$library" crates crates.txt; then
         needs rt "the toolchain that README.md names proves and builds the library"
         needs cargo "a Rust toolchain builds the command (README.md names the version)"
-        said "proving $(below cutter) crates and building the library: some 10 minutes on 2 cores where nothing is proved yet, and once"
+        said "proving $(below c_api) crates and building the library: some 10 minutes on 2 cores where nothing is proved yet, and once"
         proved && compiled
     elif older "$program" $sources; then
         needs cargo "a Rust toolchain builds the command (README.md names the version)"

@@ -35,8 +35,8 @@ fn library(root: &Path, out: &Path) {
     println!("cargo:rerun-if-changed={}", made.display());
     println!("cargo:rustc-link-search=native={}", made.display());
     println!("cargo:rustc-link-search=native={}", out.display());
-    if fs::copy(made.join("libcutter.a"), out.join("libretimer.a")).is_err() {
-        println!("cargo:warning=target/staticlib/libcutter.a is not there: tools/bindings proves and builds it");
+    if fs::copy(made.join("libc_api.a"), out.join("libretimer.a")).is_err() {
+        println!("cargo:warning=target/staticlib/libc_api.a is not there: tools/bindings proves and builds it");
     }
 }
 

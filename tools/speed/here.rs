@@ -1,5 +1,5 @@
 //! The proved functions of captions.
-#[link(name = "cutter", kind = "static")]
+#[link(name = "c_api", kind = "static")]
 extern "C" {
     fn retimer_open(kind: u32, timescale: u32, map: *const u64, map_length: usize, session: *mut u8, session_lent: usize) -> u32;
     fn retimer_feed(session: *mut u8, session_lent: usize, map: *const u64, map_length: usize, piece: *const u8, piece_length: usize, out: *mut u8, out_lent: usize, warnings: *mut u64, warnings_lent: usize, written: *mut u64, warned: *mut u64) -> u32;

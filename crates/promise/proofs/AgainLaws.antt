@@ -4,26 +4,26 @@ use mathlib.Core.Bool.{Bool, true, false, cond, _&&_}
 use mathlib.Core.List.{List, [], _∷_, _++_}
 use Prim.Native.Nat.{ℕ, zero, suc, _+_, _*_}
 use lib.Dec.{eqb}
-use Rattle.text.specs.Line.{lineCount, concat}
-use Rattle.time.specs.Kind.{kindBad, unitsOf}
-use Rattle.time.proofs.Limits.{by-kind}
-use Rattle.event.specs.Says.{Part, stays, cue, passes, faultNumber}
-use Rattle.event.specs.Mark.{marked, behindMark, markWritten}
-use Rattle.columns.specs.declared.layout.Columns.{Columns}
-use Rattle.columns.proofs.ColumnLaws.{Apart}
-use Rattle.ass.specs.Line.{LineSays, lineSays, faulty, says}
-use Rattle.ass.specs.Answer.{columnsAfter}
-use Rattle.columns.specs.Columns.{noColumns}
-use Rattle.back.proofs.AssLine.{line-back, line-apart}
-use Rattle.timing.specs.Style.{styleOf}
-use Rattle.block.specs.Block.{BlockSays, blockSays, faulty as blockFaulty, says as blockSaid}
-use Rattle.whole.specs.Srt.{Block, blocksOf}
-use Rattle.back.proofs.TimingLine.{TimeMark, Blocked}
-use Rattle.back.proofs.TimingBlock.{block-back}
-use Rattle.back.proofs.BlockKinds.{srt-blocked, Point, vtt-blocked}
-use Rattle.back.proofs.Stands.{line-stands, block-stands}
-use Rattle.whole.proofs.BlockShape.{blockLines, blocks-joined}
-use Rattle.machine.specs.Reader.{Reading, fails, _⊕_}
+use Rattle.spec_text.specs.text.Line.{lineCount, concat}
+use Rattle.spec_caption.specs.caption_time.Kind.{kindBad, unitsOf}
+use Rattle.spec_caption.proofs.caption_time.Limits.{by-kind}
+use Rattle.spec_caption.specs.caption_fate.Says.{Part, stays, cue, passes, faultNumber}
+use Rattle.spec_caption.specs.caption_fate.Mark.{marked, behindMark, markWritten}
+use Rattle.spec_format.specs.declared.ass_columns.Columns.{Columns}
+use Rattle.spec_format.proofs.ass_columns.ColumnLaws.{Apart}
+use Rattle.spec_format.specs.ass_line.Line.{LineSays, lineSays, faulty, says}
+use Rattle.spec_format.specs.ass_line.Answer.{columnsAfter}
+use Rattle.spec_format.specs.ass_columns.Columns.{noColumns}
+use Rattle.spec_format.proofs.back.AssLine.{line-back, line-apart}
+use Rattle.spec_format.specs.block_timing.Style.{styleOf}
+use Rattle.spec_format.specs.block_cue.Block.{BlockSays, blockSays, faulty as blockFaulty, says as blockSaid}
+use Rattle.spec_format.specs.whole.Srt.{Block, blocksOf}
+use Rattle.spec_format.proofs.back.TimingLine.{TimeMark, Blocked}
+use Rattle.spec_format.proofs.back.TimingBlock.{block-back}
+use Rattle.spec_format.proofs.back.BlockKinds.{srt-blocked, Point, vtt-blocked}
+use Rattle.spec_format.proofs.back.Stands.{line-stands, block-stands}
+use Rattle.spec_format.proofs.whole.BlockShape.{blockLines, blocks-joined}
+use Rattle.spec_session.specs.session_counts.Reader.{Reading, fails, _⊕_}
 use Rattle.promise.specs.Plain.{lineFault, unlessFault, lineThen, assRead, bodyFault, blockThen, bodyThen, blanksThen, markBehind, closesBlock, blocksRead, headFault, vttRead, linesRead, linesSay, opened, markLength, readBehind, markBack, plainRead}
 use Rattle.promise.specs.Again.{LineAgain, endSeconds, BlockAgain, CueAgain, PartAgain, AllAgain}
 use Rattle.promise.proofs.LinesCut.{Cut, cut-tail, cut-behind, cut-before, cut-lines, text-cut}

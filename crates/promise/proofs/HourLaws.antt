@@ -6,22 +6,22 @@ use mathlib.Core.List.{List, [], _∷_, List·Memᴰ, List·Memᴰ·not-nil, Lis
 use Prim.Native.Nat.{ℕ, zero, suc, _+_}
 use lib.Dec.{eqb, ltb}
 use lib.ListN.{length, drop}
-use Rattle.white.specs.White.{trim}
-use Rattle.pattern.specs.Find.{starts, equals, upTo}
-use Rattle.text.specs.Line.{linesOf, concat, lineCount, textOf, terminatorOf}
-use Rattle.stamp.specs.declared.read.Time.{Time}
-use Rattle.stamp.specs.declared.read.Time.the-variants.{At, Bad}
-use Rattle.stamp.specs.Read.{timeIn}
-use Rattle.stamp.proofs.Reading.{time-below}
-use Rattle.time.specs.Kind.{kindBad}
-use Rattle.event.specs.Says.{Piece, unplaced, short, Cue, Part, stays, passes, cue}
-use Rattle.columns.specs.declared.layout.Columns.{Columns}
-use Rattle.columns.specs.Columns.{columnsIn, fields, fieldAt}
-use Rattle.columns.specs.Section.{eventsName, bracketed, inside, inSection}
-use Rattle.ass.specs.Line.{formatWord, dialogueWord, commentWord, LineSays, faulty, says, timesSay, captionSays, wordSays, textSays, lineSays}
-use Rattle.timing.specs.Style.{styleOf, stampsIn}
-use Rattle.timing.specs.Arrow.{arrow, Timing, untimed, timed, timingOf}
-use Rattle.block.specs.Block.{BlockSays, faulty as blockFaulty, says as blockSaid, blockFrame, bothSay, endText, trailing, timingLineSays, timingSays, blockSays}
+use Rattle.spec_text.specs.whitespace.White.{trim}
+use Rattle.spec_text.specs.pattern.Find.{starts, equals, upTo}
+use Rattle.spec_text.specs.text.Line.{linesOf, concat, lineCount, textOf, terminatorOf}
+use Rattle.spec_caption.specs.declared.caption_stamp.Time.{Time}
+use Rattle.spec_caption.specs.declared.caption_stamp.Time.the-variants.{At, Bad}
+use Rattle.spec_caption.specs.caption_stamp.Read.{timeIn}
+use Rattle.spec_caption.proofs.caption_stamp.Reading.{time-below}
+use Rattle.spec_caption.specs.caption_time.Kind.{kindBad}
+use Rattle.spec_caption.specs.caption_fate.Says.{Piece, unplaced, short, Cue, Part, stays, passes, cue}
+use Rattle.spec_format.specs.declared.ass_columns.Columns.{Columns}
+use Rattle.spec_format.specs.ass_columns.Columns.{columnsIn, fields, fieldAt}
+use Rattle.spec_format.specs.ass_columns.Section.{eventsName, bracketed, inside, inSection}
+use Rattle.spec_format.specs.ass_line.Line.{formatWord, dialogueWord, commentWord, LineSays, faulty, says, timesSay, captionSays, wordSays, textSays, lineSays}
+use Rattle.spec_format.specs.block_timing.Style.{styleOf, stampsIn}
+use Rattle.spec_format.specs.block_timing.Arrow.{arrow, Timing, untimed, timed, timingOf}
+use Rattle.spec_format.specs.block_cue.Block.{BlockSays, faulty as blockFaulty, says as blockSaid, blockFrame, bothSay, endText, trailing, timingLineSays, timingSays, blockSays}
 use Rattle.promise.specs.Plain.{plainRead}
 use Rattle.promise.specs.Again.{PartAgain, AllAgain}
 use Rattle.promise.specs.Hours.{InHours, PartInHours, AllInHours, TimesInHours}

@@ -16,5 +16,7 @@ pub mod Examples
 pub mod BoundLaws
 pub mod ForeignRows
 pub mod RunLaws
+pub mod OnlyEmits
+pub mod TheDemand
 pub mod ThePromise
 pub mod Numbers17

@@ -6,10 +6,10 @@ use mathlib.Core.List.{List, [], _∷_, _++_, append-nil, append-assoc}
 use Prim.Native.Nat.{ℕ, _+_, _<_}
 use native.Mathlib.Omega.{arith}
 use lib.ListN.{length}
-use Rattle.text.specs.Line.{linesOf, concat, lineCount, endsLine, hasLf}
-use Rattle.text.proofs.LineLaws.{line-then, line-last, Finished}
-use Rattle.machine.specs.Cut.{closedLines, unfinished}
-use Rattle.machine.proofs.CutLaws.{cut-ends, cut-open, has-none, restLines, lines-of-cut}
+use Rattle.spec_text.specs.text.Line.{linesOf, concat, lineCount, endsLine, hasLf}
+use Rattle.spec_text.proofs.text.LineLaws.{line-then, line-last, Finished}
+use Rattle.spec_session.specs.session_counts.Cut.{closedLines, unfinished}
+use Rattle.spec_session.proofs.session_counts.CutLaws.{cut-ends, cut-open, has-none, restLines, lines-of-cut}
 use Rattle.promise.specs.Plain.{linesRead}
 
 abbrev pub Cut : List (List ℕ) → Type 0

@@ -4,14 +4,14 @@ use mathlib.Core.Bool.{Bool, true, false, cond}
 use mathlib.Core.List.{List, [], _∷_, _++_, map, append-nil, append-assoc}
 use Prim.Native.Nat.{ℕ, zero, suc, _+_, _<_}
 use native.Mathlib.Omega.{arith}
-use Rattle.base.specs.Refusal.{_orElse_}
-use Rattle.text.specs.Line.{lineCount}
-use Rattle.event.specs.Says.{Part, stays, faultNumber}
-use Rattle.timing.specs.Style.{styleOf}
-use Rattle.block.specs.Block.{BlockSays, blockSays, faulty as blockFaulty, says as blockSaid}
-use Rattle.whole.specs.Srt.{Block, blockOf, blockSaidThen, bodySaid, blocksSaid}
-use Rattle.whole.proofs.BlockShape.{blockLines, AllBlank, Lines, BlankBehind, Others, Blocks, lines-more, others-blocks}
-use Rattle.machine.specs.Reader.{Reading, fails, _⊕_}
+use Rattle.spec_base.specs.base.Refusal.{_orElse_}
+use Rattle.spec_text.specs.text.Line.{lineCount}
+use Rattle.spec_caption.specs.caption_fate.Says.{Part, stays, faultNumber}
+use Rattle.spec_format.specs.block_timing.Style.{styleOf}
+use Rattle.spec_format.specs.block_cue.Block.{BlockSays, blockSays, faulty as blockFaulty, says as blockSaid}
+use Rattle.spec_format.specs.whole.Srt.{Block, blockOf, blockSaidThen, bodySaid, blocksSaid}
+use Rattle.spec_format.proofs.whole.BlockShape.{blockLines, AllBlank, Lines, BlankBehind, Others, Blocks, lines-more, others-blocks}
+use Rattle.spec_session.specs.session_counts.Reader.{Reading, fails, _⊕_}
 use Rattle.promise.specs.Plain.{lineFault, unlessFault, bodyFault, blockThen, bodyThen, blanksThen, markBehind, closesBlock, blocksRead}
 use Rattle.promise.specs.Whole.{blockTimeFault, bodyTimeFault, firstBlankFault, blockFault, BlocksStop, endsBlank}
 use Rattle.promise.proofs.LinesCut.{many-append}

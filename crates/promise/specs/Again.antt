@@ -5,16 +5,16 @@ use mathlib.Core.Bool.{cond}
 use mathlib.Core.List.{List, [], _∷_}
 use Prim.Native.Nat.{ℕ, zero, suc, _*_, _<_}
 use lib.Dec.{eqb}
-use Rattle.text.specs.Line.{linesOf}
-use Rattle.time.specs.Kind.{unitsOf}
-use Rattle.stamp.specs.Write.{timeText}
-use Rattle.event.specs.Says.{Cue, withTimes, Part, stays, passes, cue}
-use Rattle.event.specs.Emit.{render}
-use Rattle.columns.specs.declared.layout.Columns.{Columns}
-use Rattle.ass.specs.Line.{lineSays, says}
-use Rattle.timing.specs.Style.{styleOf}
-use Rattle.block.specs.Block.{blockSays, blockCue, says as blockSaid}
-use Rattle.back.specs.Stands.{LineStands, BlockStands}
+use Rattle.spec_text.specs.text.Line.{linesOf}
+use Rattle.spec_caption.specs.caption_time.Kind.{unitsOf}
+use Rattle.spec_caption.specs.caption_stamp.Write.{timeText}
+use Rattle.spec_caption.specs.caption_fate.Says.{Cue, withTimes, Part, stays, passes, cue}
+use Rattle.spec_caption.specs.caption_fate.Emit.{render}
+use Rattle.spec_format.specs.declared.ass_columns.Columns.{Columns}
+use Rattle.spec_format.specs.ass_line.Line.{lineSays, says}
+use Rattle.spec_format.specs.block_timing.Style.{styleOf}
+use Rattle.spec_format.specs.block_cue.Block.{blockSays, blockCue, says as blockSaid}
+use Rattle.spec_format.specs.back.Stands.{LineStands, BlockStands}
 
 -- its frame with these times in the places of the old ones, as it is written
 abbrev pub written : (kind : ℕ) → Cue → (s e : ℕ) → List ℕ

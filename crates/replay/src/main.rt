@@ -19,9 +19,9 @@ fn print_head(k: u64) {
 
 // One case, of which the head is read; its parts go to the lent slices. `too large` where one does not fit.
 fn run_case(head: &[u8], x: &mut [u8], y: &mut [u8], z: &mut [u8]) {
-    let n = blocks::word(head, 5) as usize;
-    let m = blocks::word(head, 6) as usize;
-    let l = blocks::word(head, 7) as usize;
+    let n = checked_blocks::word(head, 5) as usize;
+    let m = checked_blocks::word(head, 6) as usize;
+    let l = checked_blocks::word(head, 7) as usize;
     if !input::take_parts(x, n, y, m, z, l) {
         io::write_all(STDOUT_FILENO, b"too large\n");
         return;

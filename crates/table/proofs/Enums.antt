@@ -8,24 +8,24 @@ use native.Mathlib.Omega.{arith}
 use lib.Dec.{leb}
 use lib.ListN.{length}
 use borrow.Author.Tests.{lt-ltb}
-use Rattle.text.specs.declared.decimal.Number.{Number}
-use Rattle.text.specs.declared.decimal.Number.the-variants.{Value, Bad}
-use Rattle.text.specs.Number.{digits, valueFrom, natural, unsigned, number, numberFault, numberValues}
-use Rattle.stamp.specs.declared.read.Time.{Time}
-use Rattle.stamp.specs.declared.read.Time.the-variants.{At, Bad as NoTime}
-use Rattle.stamp.specs.Read.{timeIn}
-use Rattle.stamp.proofs.Reading.{time-below}
-use Rattle.sheet.specs.Sheet.{numberOf, valuesOf}
-use Rattle.sheet.proofs.SheetLaws.{number-is}
-use Rattle.sheet.proofs.AnswerLaws.{sheet-values}
-use Rattle.time.specs.Convert.{ticksWithin}
-use Rattle.segment.specs.Segment.{sourceOf, outputStartOf, endBad}
-use Rattle.event.specs.declared.setting.Config.{Config}
-use Rattle.event.specs.declared.retiming.Decision.the-variants.{Strange, Kept}
-use Rattle.event.specs.declared.retiming.Retimed.{Retimed}
-use Rattle.event.specs.Hit.{Found, miss, hit, findHit, hitOf}
-use Rattle.event.specs.Decide.{limitedHit, decideIn}
-use Rattle.event.specs.Cases.{told, hitCase, decisionCase}
+use Rattle.spec_text.specs.declared.text.Number.{Number}
+use Rattle.spec_text.specs.declared.text.Number.the-variants.{Value, Bad}
+use Rattle.spec_text.specs.text.Number.{digits, valueFrom, natural, unsigned, number, numberFault, numberValues}
+use Rattle.spec_caption.specs.declared.caption_stamp.Time.{Time}
+use Rattle.spec_caption.specs.declared.caption_stamp.Time.the-variants.{At, Bad as NoTime}
+use Rattle.spec_caption.specs.caption_stamp.Read.{timeIn}
+use Rattle.spec_caption.proofs.caption_stamp.Reading.{time-below}
+use Rattle.spec_sheet.specs.sheet.Sheet.{numberOf, valuesOf}
+use Rattle.spec_sheet.proofs.sheet.SheetLaws.{number-is}
+use Rattle.spec_sheet.proofs.sheet.AnswerLaws.{sheet-values}
+use Rattle.spec_caption.specs.caption_time.Convert.{ticksWithin}
+use Rattle.spec_map.specs.segment.Segment.{sourceOf, outputStartOf, endBad}
+use Rattle.spec_caption.specs.declared.caption_fate.Config.{Config}
+use Rattle.spec_caption.specs.declared.caption_fate.Decision.the-variants.{Strange, Kept}
+use Rattle.spec_caption.specs.declared.caption_fate.Retimed.{Retimed}
+use Rattle.spec_caption.specs.caption_fate.Hit.{Found, miss, hit, findHit, hitOf}
+use Rattle.spec_caption.specs.caption_fate.Decide.{limitedHit, decideIn}
+use Rattle.spec_caption.specs.caption_fate.Cases.{told, hitCase, decisionCase}
 use Rattle.table.specs.Enums.{isNatural, SaysNumber, SaysTime, foundCase, decidedCase, Enums}
 
 -- ---- decimal numbers

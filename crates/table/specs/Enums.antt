@@ -1,5 +1,5 @@
 -- Document 01: "Where an answer is an enum, there is a definition that gives this paper's number and values for each of its cases." Each premise here is the contract of the
--- functions named; what follows is their number and values, at every input. (`json::plain_value` has its own: `plain-number`, `plain-values` in json/proofs/NumberLaws.)
+-- functions named; what follows is their number and values, at every input. (`json::plain_value` has its own: `plain-number`, `plain-values` in spec_json/proofs/json/NumberLaws.)
 use mathlib.Core.Path.{_≡_}
 use mathlib.Core.Logic.{_⊎_}
 use mathlib.Core.Bool.{Bool, _&&_, cond}
@@ -7,24 +7,24 @@ use mathlib.Core.List.{List, [], _∷_}
 use Prim.Native.Nat.{ℕ, _*_, _<_}
 use lib.Dec.{eqb, leb, ltb}
 use lib.ListN.{length}
-use Rattle.text.specs.declared.decimal.Number.{Number}
-use Rattle.text.specs.Number.{digits, valueFrom, natural, unsigned, number, numberFault, numberValues}
-use Rattle.time.specs.Kind.{unitsOf}
-use Rattle.stamp.specs.declared.read.Time.{Time}
-use Rattle.stamp.specs.Read.{timeIn, timeNumber, timeUnits, timeMark}
-use Rattle.frames.specs.Frames.{timescaleOf, framesOf, rateNumOf, rateDenOf}
-use Rattle.sheet.specs.declared.answer.Sheet.{Sheet}
-use Rattle.sheet.specs.Sheet.{sheetNumber, sheetOf, numberOf, valuesOf}
-use Rattle.segment.specs.declared.segment.Segment.{Segment}
-use Rattle.segment.specs.Segment.{sourceOf, outputStartOf, endBad}
-use Rattle.event.specs.declared.setting.Config.{Config}
-use Rattle.event.specs.declared.meeting.Hit.{Hit}
-use Rattle.event.specs.declared.retiming.Decision.{Decision}
-use Rattle.time.specs.Convert.{ticksWithin, startWithin, endWithin}
-use Rattle.event.specs.Hit.{Found, miss, hit, findHit, hitOf, metOf}
-use Rattle.event.specs.Lost.{lostRule}
-use Rattle.event.specs.Decide.{retimedBy, decideIn}
-use Rattle.event.specs.Cases.{Case, told, hitCase, decisionCase}
+use Rattle.spec_text.specs.declared.text.Number.{Number}
+use Rattle.spec_text.specs.text.Number.{digits, valueFrom, natural, unsigned, number, numberFault, numberValues}
+use Rattle.spec_caption.specs.caption_time.Kind.{unitsOf}
+use Rattle.spec_caption.specs.declared.caption_stamp.Time.{Time}
+use Rattle.spec_caption.specs.caption_stamp.Read.{timeIn, timeNumber, timeUnits, timeMark}
+use Rattle.spec_sheet.specs.sheet_frames.Frames.{timescaleOf, framesOf, rateNumOf, rateDenOf}
+use Rattle.spec_sheet.specs.declared.sheet.Sheet.{Sheet}
+use Rattle.spec_sheet.specs.sheet.Sheet.{sheetNumber, sheetOf, numberOf, valuesOf}
+use Rattle.spec_map.specs.declared.segment.Segment.{Segment}
+use Rattle.spec_map.specs.segment.Segment.{sourceOf, outputStartOf, endBad}
+use Rattle.spec_caption.specs.declared.caption_fate.Config.{Config}
+use Rattle.spec_caption.specs.declared.caption_fate.Hit.{Hit}
+use Rattle.spec_caption.specs.declared.caption_fate.Decision.{Decision}
+use Rattle.spec_caption.specs.caption_time.Convert.{ticksWithin, startWithin, endWithin}
+use Rattle.spec_caption.specs.caption_fate.Hit.{Found, miss, hit, findHit, hitOf, metOf}
+use Rattle.spec_caption.specs.caption_fate.Lost.{lostRule}
+use Rattle.spec_caption.specs.caption_fate.Decide.{retimedBy, decideIn}
+use Rattle.spec_caption.specs.caption_fate.Cases.{Case, told, hitCase, decisionCase}
 
 -- one or more digits, the value at most `most`
 abbrev pub isNatural : (most : ℕ) → List ℕ → Bool

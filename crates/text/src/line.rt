@@ -4,7 +4,7 @@ ghost use mathlib.Core.Bool.{true, cond};
 ghost use Prim.Native.Nat.{_≤_, _+_};
 ghost use lib.Dec.{eqb};
 ghost use lib.ListN.{length, drop};
-ghost use Rattle.text.specs.Line.{lineLength, terminatorLength, textOf, terminatorOf, blank};
+ghost use Rattle.spec_text.specs.text.Line.{lineLength, terminatorLength, textOf, terminatorOf, blank};
 
 // 1 for LF, else `most`.
 fn lf_or(most: u8, b: u8) -> u8
@@ -80,5 +80,5 @@ pub fn terminator_of(l: &[u8]) -> &[u8]
 pub fn is_blank(l: &[u8]) -> bool
     ensures { λ r. ⌜ r ≡ blank (now (l .entry)) ⌝ }
 {
-    white::trim_head(l).len() == 0
+    whitespace::trim_head(l).len() == 0
 }

@@ -1,4 +1,4 @@
-use Rattle.json.proofs.StringLaws.{piece-size, plain-size}
+use Rattle.spec_json.proofs.json.StringLaws.{piece-size, plain-size}
 use borrow.Author.Needs.{needs}
 use Rattle.json.proofs.piece.char_size.Statement.{statement}
 use Rattle.json.proofs.piece.char_size.Tie as tie

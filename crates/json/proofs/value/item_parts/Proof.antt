@@ -1,4 +1,4 @@
-use Rattle.json.proofs.ItemLaws.{item-fits, item-fits-2, parts-none, parts-some}
+use Rattle.spec_json.proofs.json.ItemLaws.{item-fits, item-fits-2, parts-none, parts-some}
 use borrow.Author.Needs.{needs}
 use Rattle.json.proofs.value.item_parts.Statement.{statement}
 use Rattle.json.proofs.value.item_parts.Tie as tie

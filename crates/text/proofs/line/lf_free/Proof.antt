@@ -3,8 +3,8 @@ use borrow.Author.Needs.{needs}
 use Prim.Native.Nat.{_≤_, _<_, _-_, _+_}
 use mathlib.Core.Path.{_≡_}
 use lib.ListN.{length, drop}
-use Rattle.text.proofs.LineLaws.{free-none, free-more, free-all}
-use Rattle.text.specs.Line.{lineLength}
+use Rattle.spec_text.proofs.text.LineLaws.{free-none, free-more, free-all}
+use Rattle.spec_text.specs.text.Line.{lineLength}
 use Rattle.text.proofs.line.lf_free.Statement.{statement}
 use Rattle.text.proofs.line.lf_free.Tie as tie
 

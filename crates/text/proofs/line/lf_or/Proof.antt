@@ -1,4 +1,4 @@
-use Rattle.base.proofs.Laws.{chain}
+use Rattle.spec_base.proofs.base.Laws.{chain}
 use Rattle.text.proofs.line.lf_or.Statement.{statement}
 use Rattle.text.proofs.line.lf_or.Tie as tie
 

@@ -4,8 +4,8 @@ use Prim.Native.Nat.{_≤_, _-_, _+_}
 use mathlib.Core.Path.{_≡_, sym}
 use native.Mathlib.Nat.{zero-add}
 use lib.ListN.{length, drop}
-use Rattle.text.proofs.LineLaws.{line-hit, line-miss, line-end, line-block}
-use Rattle.text.specs.Line.{lineLength}
+use Rattle.spec_text.proofs.text.LineLaws.{line-hit, line-miss, line-end, line-block}
+use Rattle.spec_text.specs.text.Line.{lineLength}
 use Rattle.text.proofs.line.line_length.Statement.{statement}
 use Rattle.text.proofs.line.line_length.Tie as tie
 

@@ -1,1 +1,0 @@
-// Theorems alone: where the rows of a text and its fault stand.

@@ -1,5 +1,0 @@
-pub mod Answer
-pub mod Slots
-pub mod Fields
-pub mod Walk
-pub mod Steps
