@@ -1,5 +1,5 @@
-/* The retimer's C functions: frame sheet check, trim list check, the map of a sheet and a list, captions retimed through it, in pieces or in one call, time conversions,
- * questions about a map, and maps as JSON.
+/* The retimer's C functions: frame sheet check, trim list check, the map of a sheet and a list, captions retimed through it, in pieces or in one call, the captions of a text, time
+ * conversions, questions about a map, and maps as JSON.
  * They keep no state, write nothing but what is lent to them for that, and return on every input. Numbers: docs/NUMBERS.md. */
 #ifndef RETIMER_H
 #define RETIMER_H
@@ -47,6 +47,40 @@ enum retimer_number {
     RETIMER_NO_TRIES = 29          /* budget 0, or more than 4096 captions */
 };
 
+/* What each number says, for messages: `static const char *const sentence[] = RETIMER_SENTENCES;` gives sentence[number]. docs/GUIDE.md says what to do. */
+#define RETIMER_SENTENCES { \
+    "done", \
+    "no longer given: a blank trim list keeps the whole play", \
+    "an entry of the list is not Trim(a,b)", \
+    "a or b is no whole number below 4,294,967,296", \
+    "a is greater than b", \
+    "b is 4,294,967,295", \
+    "a trim begins before the one before it has ended", \
+    "the list has more than 65,536 bytes or 1,024 trims", \
+    "two trims overlap once they are widened to cutting places", \
+    "a trim begins after it ends once it is narrowed (only when cutting inward)", \
+    "too few frames are stored behind the first frame of a trim", \
+    "the sheet has a wrong length", \
+    "a block of the sheet is damaged", \
+    "the sheet's head is wrong: ticks a second, frame count, or a spare word", \
+    "a frame's entry in the sheet is wrong", \
+    "the map, or the ticks a second, is out of range", \
+    "an argument is out of range, or a lent buffer too short", \
+    "a session that this library did not make", \
+    "the session has ended", \
+    "a line of the captions has more than 4,096 bytes", \
+    "the captions, the trim list or the path of a map's JSON are not UTF-8", \
+    "an SRT or WebVTT block has more than 4,096 bytes", \
+    "a caption's time can't be read", \
+    "a text is no segment map as the cutter stores it", \
+    "the WebVTT captions do not begin with the line WEBVTT", \
+    "two frames of the sheet name the same stored picture", \
+    "the recording, or what is kept of it, lasts longer than 2^53 ticks", \
+    "the stored bytes are no parked session", \
+    "the kept stretches do not follow the recording in order, so starts can't be counted through them", \
+    "more than 4,096 captions are to be shifted, or no shift is to be tried" \
+}
+
 /* The warnings of a text, each with the line, counted from 1. */
 enum retimer_warning {
     RETIMER_UNKNOWN_COLUMN = 1,    /* an ASS caption passes: Start or End is unknown */
@@ -55,6 +89,15 @@ enum retimer_warning {
     RETIMER_LOST_PART = 4,         /* the end was cut, and a segment later in the list has a part of the caption */
     RETIMER_TIMES_INSIDE = 5       /* a WebVTT caption has times inside its lines */
 };
+
+/* What each warning says: sentence[warning - 1]. */
+#define RETIMER_WARNING_SENTENCES { \
+    "an ASS caption passed unchanged: its Format line names no Start or no End", \
+    "an ASS caption passed unchanged: it has fewer fields than the Format line", \
+    "the start was cut off, and the caption has tags that count from its start (fades, moves, karaoke)", \
+    "the end was cut off, and a kept stretch further on has a part of the same caption", \
+    "a WebVTT caption that is kept has times inside its lines (<00:00:18.500>), which stay as they were" \
+}
 
 /* The kinds of captions. */
 enum retimer_kind { RETIMER_ASS = 0, RETIMER_SRT = 1, RETIMER_VTT = 2 };
@@ -90,6 +133,26 @@ uint32_t retimer_map(const uint8_t *sheet, size_t sheet_length, const uint8_t *l
  * A map is 64-bit numbers, six to a segment (below). A piece has at most RETIMER_MOST_PIECE bytes, cut anywhere; for every call at least RETIMER_LEAST_OUTPUT bytes of
  * output and RETIMER_LEAST_PLACES places for warnings are lent. */
 #define RETIMER_SESSION_BYTES 9216
+/* The words of a session's block 0, 32 bits each, least byte first: word k stands at byte 4 * k. Word 0 and word 127 of each of the 18 blocks are its number and its sum, as in a frame sheet (docs/SHEET.md); the
+ * held bytes stand in blocks 1 to 17. A caller may read them, and change none: a sum that is wrong is 27. */
+enum retimer_session_word {
+    RETIMER_WORD_MARK = 1,        /* 2; 1 where an older program stored the session */
+    RETIMER_WORD_KIND = 2,
+    RETIMER_WORD_TIMESCALE = 3,
+    RETIMER_WORD_ENDED = 4,       /* 1 once the text has ended or was refused */
+    RETIMER_WORD_OUTCOME = 5,     /* the number with which it ended */
+    RETIMER_WORD_TAKEN = 6,       /* bytes of the text */
+    RETIMER_WORD_LINES = 7,       /* lines that have ended; once the session has ended, this and the last five are 0 */
+    RETIMER_WORD_SHIFTED = 8,     /* the counts: captions moved whole, */
+    RETIMER_WORD_CLIPPED = 9,     /* shortened, */
+    RETIMER_WORD_DROPPED = 10,    /* dropped, */
+    RETIMER_WORD_PASSED = 11,     /* and passed */
+    RETIMER_WORD_EVENTS = 12,     /* 1 within ASS's section Events */
+    RETIMER_WORD_COLUMNS = 13,    /* columns of its Format line, */
+    RETIMER_WORD_START = 14,      /* and the places of Start */
+    RETIMER_WORD_END = 15,        /* and End */
+    RETIMER_WORD_HELD = 16        /* bytes of a line or block that is not complete */
+};
 #define RETIMER_MOST_PIECE 1024
 #define RETIMER_LEAST_OUTPUT 32768
 #define RETIMER_LEAST_PLACES 4096
@@ -102,8 +165,8 @@ uint32_t retimer_open(uint32_t kind, uint32_t timescale, const uint64_t *map, si
  * the RETIMER_SESSION_BYTES bytes that a call left, 17 where they name a session that no call leads to, 18 where it has ended, 15 for the map, 16 for a length, or
  * where more than 2^30 bytes would be taken together.
  * Else 0, and the retimed text that is complete stands at the start of `out`, the warnings, two numbers to each (which, and the line), at the start of `warnings`;
- * `written` and `warned` tell how many bytes and how many numbers; bytes and numbers behind them stay. The session is the one to hand to the next call.
- * 19 to 22 and 24 end the session: what stands before the fault is written and told likewise. */
+ * `written` and `warned` tell how many bytes and how many numbers; bytes and numbers behind them stay. The session is the one to hand to the next call;
+ * an empty piece leaves its bytes as they were. 19 to 22 and 24 end the session: what stands before the fault is written and told likewise. */
 uint32_t retimer_feed(uint8_t *session, size_t session_lent, const uint64_t *map, size_t map_length, const uint8_t *piece, size_t piece_length, uint8_t *out,
                       size_t out_lent, uint64_t *warnings, size_t warnings_lent, uint64_t *written, uint64_t *warned);
 
@@ -130,6 +193,27 @@ enum retimer_told {
 };
 uint32_t retimer_text(uint32_t kind, uint32_t timescale, const uint64_t *map, size_t map_length, const uint8_t *text, size_t text_length, uint8_t *out, size_t out_lent,
                       uint64_t *warnings, size_t warnings_lent, uint64_t *told, size_t told_lent);
+
+/* The captions of a whole text, in its order. Refused, nothing is written: 16 for the kind, a text of more than 2^30 bytes, fewer than RETIMER_CUES_TOLD told numbers, or fewer than
+ * RETIMER_CUE_NUMBERS numbers lent for each caption. RETIMER_CUES_FOR(text_length) are enough for every text, which is proved, and then the text is walked once; with fewer it is walked twice.
+ * Else 0, or 19 to 22 or 24 for the text: RETIMER_CUE_NUMBERS numbers for each caption, of a faulty text for each before the line (ASS) or block of the first fault, stand at the start of `rows`,
+ * and two numbers are told; numbers behind them stay. For every map the fates that retimer_why tells of these times, counted, are what retimer_text counts for the text. */
+#define RETIMER_CUE_NUMBERS 6
+#define RETIMER_CUES_FOR(length) (6 * ((size_t)(length) / 8 + 1))
+#define RETIMER_CUES_TOLD 2
+enum retimer_cue {
+    RETIMER_CUE_LINE = 0,   /* the line, counted from 1; in SRT and WebVTT the line of the times */
+    RETIMER_CUE_PASSED = 1, /* 0, or the warning 1 or 2 with which the caption passes; then its times are 0 */
+    RETIMER_CUE_START = 2,  /* in units of the kind */
+    RETIMER_CUE_END = 3,
+    RETIMER_CUE_AT = 4,     /* the byte of the text at which the words begin: in ASS the last field, else the lines below the times, of one that passes its whole line */
+    RETIMER_CUE_SIZE = 5    /* how many bytes they are */
+};
+enum retimer_cues_told {
+    RETIMER_CUES_COUNT = 0,     /* captions */
+    RETIMER_CUES_FAULT_LINE = 1 /* the line of the fault, or 0: of a block that is too long its first, of a time that can't be read that of the times */
+};
+uint32_t retimer_cues(uint32_t kind, const uint8_t *text, size_t text_length, uint64_t *rows, size_t rows_lent, uint64_t *told, size_t told_lent);
 
 /* Conversions. kind: 0 ASS (hundredths), 1 SRT and 2 WebVTT (thousandths); timescale: ticks a second, 1 to 1000000000.
  * A value of units is at most 2^36, one of ticks at most 2^53. Refused, they return 0; the number says so. */

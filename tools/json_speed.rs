@@ -24,7 +24,7 @@ use segmap::{Segment, SegmentMap};
 use std::hint::black_box;
 use std::time::Instant;
 
-#[link(name = "cutter", kind = "static")]
+#[link(name = "c_api", kind = "static")]
 extern "C" {
     fn retimer_map_write(map: *const u64, length: usize, timescale: u32, rate_num: u32, rate_den: u32, path: *const u8, path_length: usize, frames: u32, text: *mut u8, places: usize, written: *mut u64) -> u32;
     fn retimer_map_read(text: *const u8, length: usize, map: *mut u64, map_places: usize, path: *mut u8, path_places: usize, timescale: *mut u32, rate_num: *mut u32, rate_den: *mut u32, frames: *mut u32, numbers: *mut u64, path_length: *mut u64) -> u32;

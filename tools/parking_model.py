@@ -10,6 +10,7 @@ import sys
 
 sys.path.insert(0, os.path.dirname(os.path.abspath(__file__)))
 import lib
+import rows_model
 import vtt_model
 import worked_model
 from vtt_model import BOM, SPACE, bare, lines_of
@@ -380,8 +381,8 @@ def store():
         size = 32 + sum(struct.unpack_from('<3I', stream, at + 20))
         kept.append(stream[at:at + size])
         at += size
-    sample = [(c, w) for c, w in worked_model.without(zip(kept, lib.each_answer(['stdout'], want, len(kept)))) if c[0] not in (13, 14, 15)]
-    sample += stored(sample) + worked_model.PINS
+    sample = [(c, w) for c, w in worked_model.without(zip(kept, lib.each_answer(['stdout'], want, len(kept)))) if c[0] not in (13, 14, 15, 16)]
+    sample += stored(sample) + worked_model.PINS + rows_model.stored()
     for path, content in zip(paths, (b''.join(c for c, _ in sample), b''.join(b'case %d\n' % k + w for k, (_, w) in enumerate(sample)))):
         with open(path, 'wb') as f:
             f.write(content)

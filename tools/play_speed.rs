@@ -29,7 +29,7 @@ use order::{DecodeIdx, DisplayIdx, OrderMap};
 use segmap::SegmentMap;
 use std::hint::black_box;
 
-#[link(name = "cutter", kind = "static")]
+#[link(name = "c_api", kind = "static")]
 extern "C" {
     fn retimer_map(sheet: *const u8, sheet_length: usize, list: *const u8, list_length: usize, direction: u32, work: *mut u8, work_lent: usize, map: *mut u64, map_lent: usize, timescale: *mut u32, count: *mut u64) -> u32;
     fn retimer_open(kind: u32, timescale: u32, map: *const u64, map_length: usize, session: *mut u8, session_lent: usize) -> u32;
@@ -39,7 +39,7 @@ extern "C" {
     fn retimer_text(kind: u32, timescale: u32, map: *const u64, map_length: usize, text: *const u8, text_length: usize, out: *mut u8, out_lent: usize, warnings: *mut u64, warnings_lent: usize, told: *mut u64, told_lent: usize) -> u32;
 }
 #[cfg(with_direct)]
-#[link(name = "bench", kind = "static")]
+#[link(name = "c_bench", kind = "static")]
 extern "C" {
     /// The number of a text that a session takes in pieces of 1,024 bytes, without parking; what it writes is thrown away.
     fn bench_feed(kind: u32, timescale: u32, map: *const u64, map_length: usize, text: *const u8, text_length: usize) -> u32;
@@ -282,5 +282,5 @@ fn main() {
         beside_direct(&map, kind, name, text, 200);
     }
     #[cfg(not(with_direct))]
-    println!("no direct feed in libbench.a: retimer_feed and retimer_text are not held against it");
+    println!("no direct feed in libc_bench.a: retimer_feed and retimer_text are not held against it");
 }

@@ -1,8 +1,8 @@
 #!/usr/bin/env python3
-"""reading.py [--lines] [--write]: which definitions must be believed for which claim, as README's table; --write puts it there, --lines says how many
-lines that are.
+"""reading.py [--lines] [--write]: which definitions must be believed for which claim, as the table of docs/TREE.md; --write puts it there, --lines says
+how many lines that are.
 A definition is behind `Promise` where its name is reached from there, through definitions, without going through what open, feed and finish answer
-(session/specs/Answer, which the promise takes as met); else behind contracts, where one of an exported function or the promise's other forms reach it; else behind
+(spec_session/specs/session/Answer, which the promise takes as met); else behind contracts, where one of an exported function or the promise's other forms reach it; else behind
 contracts of private functions; else it belongs to examples and other theorems. Names are resolved by the `use` lines. A file stands where its first such definition does."""
 import importlib.machinery
 import importlib.util
@@ -24,7 +24,7 @@ def note():
 
 
 TITLES = ('The promise', 'Contracts of exported functions', 'Contracts of private functions', 'Examples, other theorems')
-MET = {('session', 'Answer', 'Answered'), ('session', 'Answer', 'OpenAnswered')}
+MET = {('spec_session', 'session.Answer', 'Answered'), ('spec_session', 'session.Answer', 'OpenAnswered')}
 
 
 def tokens(text):
@@ -57,10 +57,12 @@ class Definitions:
         if os.path.exists(os.path.join(base, 'Lib.antt')):
             with open(os.path.join(base, 'Lib.antt')) as f:
                 first = [m + end for m in re.findall(r'^pub mod (\w+)', f.read(), re.M)]
-        for folder, _, names in sorted(os.walk(base)):
-            for f in sorted(names, key=lambda f: (first.index(f) if f in first else len(first), f)):
-                if f.endswith(end) and f != 'Lib.antt':
-                    yield f[:-len(end)], os.path.join(folder, f)
+        found = []
+        for folder, _, names in os.walk(base):
+            inner = os.path.relpath(folder, base).replace(os.sep, '.') + '.' if folder != base else ''
+            found += [(inner + f[:-len(end)], os.path.join(folder, f)) for f in names if f.endswith(end) and f != 'Lib.antt']
+        # in the order of Lib.antt, of a floor's folders too
+        yield from sorted(found, key=lambda x: (next((i for i, m in enumerate(first) if m[:-len(end)] == x[0].split('.')[0]), len(first)), x))
 
     def read(self, crate, file, path):
         with open(path) as f:
@@ -80,14 +82,14 @@ class Definitions:
                 for p in parts(n):
                     here[p] = (c, f, item)
         for n, path in known.items():
-            m = re.fullmatch(r'Rattle·(\w+)\.specs\.(\w+)\.(.+)', path)
+            m = re.fullmatch(r'Rattle·(\w+)\.specs\.((?:[a-z]\w*\.)?[A-Z]\w*)\.(.+)', path)
             if m and (m[1], m[2], m[3]) in self.names:
                 for p in parts(n):
                     here[p] = (m[1], m[2], self.names[m[1], m[2], m[3]])
         found = {here[t] for t in tokens(text) if t in here}
         for t in tokens(text):
             for bit in t.split('.')[1:]:
-                m = re.fullmatch(r'Rattle·(\w+)\.specs\.(\w+)', known.get(t.split('.')[0], ''))
+                m = re.fullmatch(r'Rattle·(\w+)\.specs\.((?:[a-z]\w*\.)?[A-Z]\w*)', known.get(t.split('.')[0], ''))
                 if m and (m[1], m[2], bit) in self.names:
                     found.add((m[1], m[2], self.names[m[1], m[2], bit]))
         return found
@@ -120,7 +122,7 @@ class Definitions:
 def sorts():
     d = Definitions()
     exported, private = d.contracts()
-    promise = {k for k in d.text if k[:2] == ('promise', 'Promise')}
+    promise = {k for k in d.text if k[0] == 'promise' and k[1] in ('Promise', 'Stronger')}
     first = d.closure({('promise', 'Promise', 'Promise')}, MET)
     second = d.closure(exported | promise | {('promise', 'Promise', 'Promise')}) - first
     third = d.closure(private) - first - second
@@ -129,16 +131,15 @@ def sorts():
 
 def table():
     d, found = sorts()
-    lines = ['| Crate | ' + ' | '.join(TITLES) + ' |', '|---|---|---|---|---|']
-    for crate in d.crates:
-        cells = [[], [], [], []]
-        for c, file in d.order:
-            if c == crate:
-                k = next((k for k, keys in enumerate(found) if any(x[:2] == (c, file) for x in keys)), None)
-                if k is not None:
-                    cells[k].append(file)
-        if any(cells):
-            lines.append(f'| {crate} | ' + ' | '.join(', '.join(c) for c in cells) + ' |')
+    lines = ['| Crate, folder | ' + ' | '.join(TITLES) + ' |', '|---|---|---|---|---|']
+    rows = {}
+    for crate, file in d.order:
+        k = next((k for k, keys in enumerate(found) if any(x[:2] == (crate, file) for x in keys)), None)
+        if k is not None:
+            folder, _, name = file.rpartition('.')
+            rows.setdefault((crate, folder), [[], [], [], []])[k].append(name)
+    for (crate, folder), cells in rows.items():
+        lines.append(f'| {crate}{" " + folder if folder else ""} | ' + ' | '.join(', '.join(c) for c in cells) + ' |')
     lines.append('| all: lines of definitions | ' + ' | '.join(f'{count(d, keys):,}' for keys in found) + ' |')
     return '\n'.join(lines)
 
@@ -151,11 +152,11 @@ def count(d, keys):
 def main():
     lib.words('[--lines] [--write]', __doc__)
     if lib.chosen('--write'):
-        path = os.path.join(lib.root, 'README.md')
+        path = os.path.join(lib.root, 'docs/TREE.md')
         with open(path) as f:
             text = f.read()
         with open(path, 'w') as f:
-            f.write(re.sub(r'^\| Crate \| The promise (?:.*\n)(?:\|.*\n)*', lambda m: table() + '\n', text, count=1, flags=re.M))
+            f.write(re.sub(r'^\| Crate, folder \| The promise (?:.*\n)(?:\|.*\n)*', lambda m: table() + '\n', text, count=1, flags=re.M))
         return
     if not lib.chosen('--lines'):
         print(table())

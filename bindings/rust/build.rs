@@ -1,18 +1,16 @@
-// Links the static libraries that `rt staticlib` wrote, and lays the Rust of Tachikaze beside the benchmarks where its
-// folder is given in TACHIKAZE_SRC (it is not part of this repository).
-use std::{env, fs, path::Path};
+// Links the static library: that of RETIMER_LIB_DIR, a folder with libretimer.a as tools/install writes it, or the one that `rt staticlib` wrote in this checkout. Tells the command its commit and the logic that its proofs were
+// checked by. Lays the Rust of Tachikaze beside the benchmarks where its folder is given in TACHIKAZE_SRC (it is not part of this repository).
+use std::path::{Path, PathBuf};
+use std::process::Command;
+use std::{env, fs};
 
 fn main() {
     let root = Path::new(&env::var("CARGO_MANIFEST_DIR").unwrap()).join("../..");
-    let libs = root.join("target/staticlib");
-    println!("cargo:rustc-link-search=native={}", libs.display());
-    println!("cargo:rerun-if-changed={}", libs.display());
-    if !libs.join("libcutter.a").exists() {
-        println!("cargo:warning=target/staticlib/libcutter.a is not there: tools/bindings proves and builds it");
-    }
+    let out = env::var("OUT_DIR").unwrap();
+    library(&root, Path::new(&out));
+    version(&root);
     println!("cargo:rerun-if-env-changed=TACHIKAZE_SRC");
     println!("cargo::rustc-check-cfg=cfg(tachikaze)");
-    let out = env::var("OUT_DIR").unwrap();
     if let Ok(src) = env::var("TACHIKAZE_SRC") {
         for file in ["order.rs", "trim.rs"] {
             let text = fs::read_to_string(Path::new(&src).join(file)).unwrap();
@@ -22,4 +20,39 @@ fn main() {
         }
         println!("cargo:rustc-cfg=tachikaze");
     }
+}
+
+fn library(root: &Path, out: &Path) {
+    println!("cargo:rerun-if-env-changed=RETIMER_LIB_DIR");
+    if let Some(folder) = env::var_os("RETIMER_LIB_DIR") {
+        let folder = PathBuf::from(folder);
+        println!("cargo:rustc-link-search=native={}", folder.display());
+        println!("cargo:rerun-if-changed={}", folder.join("libretimer.a").display());
+        return;
+    }
+    // in a checkout it is named for its crate
+    let made = root.join("target/staticlib");
+    println!("cargo:rerun-if-changed={}", made.display());
+    println!("cargo:rustc-link-search=native={}", made.display());
+    println!("cargo:rustc-link-search=native={}", out.display());
+    if fs::copy(made.join("libc_api.a"), out.join("libretimer.a")).is_err() {
+        println!("cargo:warning=target/staticlib/libc_api.a is not there: tools/bindings proves and builds it");
+    }
+}
+
+/// The commit and the logic, in the words of `bobbincrag --version`; what is not known is left out.
+fn version(root: &Path) {
+    let told = |program: &str, words: &[&str]| {
+        let output = Command::new(program).args(words).current_dir(root).output().ok().filter(|o| o.status.success())?;
+        Some(String::from_utf8_lossy(&output.stdout).trim().to_string()).filter(|t| !t.is_empty())
+    };
+    let commit = told("git", &["rev-parse", "--short=12", "HEAD"]).map(|c| format!("commit {c}"));
+    let logic = told("rt", &["version"]).and_then(|v| v.split_once("logic ").map(|(_, sum)| format!("logic {sum}")));
+    let both: Vec<String> = commit.into_iter().chain(logic).collect();
+    let more = if both.is_empty() { String::new() } else { format!(" ({})", both.join(", ")) };
+    println!("cargo:rustc-env=RETIMER_VERSION={}{more}", env::var("CARGO_PKG_VERSION").unwrap());
+    if let Some(log) = told("git", &["rev-parse", "--git-path", "logs/HEAD"]).map(|p| root.join(p)).filter(|p| p.exists()) {
+        println!("cargo:rerun-if-changed={}", log.display());
+    }
+    println!("cargo:rerun-if-changed=build.rs");
 }

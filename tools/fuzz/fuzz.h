@@ -5,7 +5,7 @@
 #include "retimer.h"
 
 /* ---- the run (main.c) */
-enum function { SHEET_CHECK, LIST_CHECK, MAP, OPEN, FEED, FINISH, TEXT, TO_TICKS, TO_UNITS_FLOOR, TO_UNITS_CEIL, UNITS_NUMBER, TICKS_NUMBER, ROUGH, WHY, CENSUS, BEST_DELAY, MAP_WRITE, MAP_READ, FUNCTIONS };
+enum function { SHEET_CHECK, LIST_CHECK, MAP, OPEN, FEED, FINISH, TEXT, CUES, TO_TICKS, TO_UNITS_FLOOR, TO_UNITS_CEIL, UNITS_NUMBER, TICKS_NUMBER, ROUGH, WHY, CENSUS, BEST_DELAY, MAP_WRITE, MAP_READ, FUNCTIONS };
 
 uint32_t answered(enum function f, uint32_t number);              /* counts a call; its number must be one that the header gives to the function */
 void expect(int holds, enum function f, const char *what);        /* ends the run with seed and case where it does not hold */
@@ -17,6 +17,7 @@ struct calls {
     uint32_t (*list_check)(const uint8_t *, size_t);
     uint32_t (*open)(uint32_t, uint32_t, const uint64_t *, size_t, uint8_t *, size_t);
     uint32_t (*feed)(uint8_t *, size_t, const uint64_t *, size_t, const uint8_t *, size_t, uint8_t *, size_t, uint64_t *, size_t, uint64_t *, uint64_t *);
+    uint32_t (*cues)(uint32_t, const uint8_t *, size_t, uint64_t *, size_t, uint64_t *, size_t);
     uint32_t (*units_number)(uint64_t, uint32_t, uint32_t);
     uint32_t (*census)(const uint64_t *, size_t, uint32_t, uint32_t, uint64_t, uint64_t, uint64_t *, uint64_t *, uint64_t *);
     uint32_t (*map_write)(const uint64_t *, size_t, uint32_t, uint32_t, uint32_t, const uint8_t *, size_t, uint32_t, uint8_t *, size_t, uint64_t *);
@@ -39,7 +40,7 @@ struct slot {
     size_t room;
 };
 extern struct slot in_sheet, in_list, in_map, in_text, in_captions, in_path;
-extern struct slot lent_work, lent_map, lent_session, lent_out, lent_warnings, lent_told, lent_causes, lent_json, lent_path, lent_place[8];
+extern struct slot lent_work, lent_map, lent_session, lent_out, lent_warnings, lent_rows, lent_told, lent_causes, lent_json, lent_path, lent_place[8];
 void make_slots(void);
 const void *given(struct slot *s, const void *bytes, size_t length); /* an input, read-only, at the slot's end or start */
 uint8_t *lend(struct slot *s, size_t length);                        /* bytes of any value, likewise */
@@ -96,6 +97,7 @@ void case_map(void);
 void case_session(void);
 void case_forged(void);
 void case_text(void);
+void case_cues(void);
 void case_conversions(void);
 void case_rough(void);
 void case_why(void);

@@ -12,7 +12,7 @@
 #define AROUND 512 /* bytes beside a lent buffer that are watched too */
 
 struct slot in_sheet, in_list, in_map, in_text, in_captions, in_path;
-struct slot lent_work, lent_map, lent_session, lent_out, lent_warnings, lent_told, lent_causes, lent_json, lent_path, lent_place[8];
+struct slot lent_work, lent_map, lent_session, lent_out, lent_warnings, lent_rows, lent_told, lent_causes, lent_json, lent_path, lent_place[8];
 static uint8_t pattern[PATTERN];
 
 static void stop(const char *what) {
@@ -69,6 +69,7 @@ void make_slots(void) {
     make(&lent_session, RETIMER_SESSION_BYTES + 4096, 1);
     make(&lent_out, 3 * MOST_CAPTIONS + RETIMER_LEAST_OUTPUT + 4096, 1);
     make(&lent_warnings, 8 * (MOST_CAPTIONS / 3 + RETIMER_LEAST_PLACES + 512), 1);
+    make(&lent_rows, 8 * (RETIMER_CUES_FOR(MOST_CAPTIONS) + 512), 1);
     make(&lent_told, 4096, 1);
     make(&lent_causes, 8 * 1600, 1);
     make(&lent_json, RETIMER_MOST_TEXT + 4096, 1);

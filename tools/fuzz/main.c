@@ -31,6 +31,7 @@ static const struct {
     {"retimer_feed", CALLS},
     {"retimer_finish", CALLS},
     {"retimer_text", ASKED | TEXTS},
+    {"retimer_cues", NUMBER(0) | NUMBER(16) | TEXTS},
     {"retimer_units_to_ticks", NUMBER(0)},
     {"retimer_ticks_to_units_floor", NUMBER(0)},
     {"retimer_ticks_to_units_ceil", NUMBER(0)},
@@ -76,7 +77,7 @@ uint32_t answered(enum function f, uint32_t number) {
 static const struct {
     void (*run)(void);
     unsigned weight;
-} cases[] = {{case_sheet, 10}, {case_list, 10}, {case_map, 12}, {case_session, 24}, {case_forged, 14}, {case_text, 12}, {case_conversions, 10}, {case_rough, 10}, {case_why, 12}, {case_census, 8}, {case_delay, 4}, {case_stored, 4}, {case_json, 6}};
+} cases[] = {{case_sheet, 10}, {case_list, 10}, {case_map, 12}, {case_session, 24}, {case_forged, 14}, {case_text, 12}, {case_cues, 10}, {case_conversions, 10}, {case_rough, 10}, {case_why, 12}, {case_census, 8}, {case_delay, 4}, {case_stored, 4}, {case_json, 6}};
 
 static void one_case(uint64_t number) {
     unsigned sum = 0, k;

@@ -117,9 +117,11 @@ void case_census(void) {
     as = timescale_bad(timescale) || map_bad(map_numbers, numbers) ? 15 : !ascends(map_numbers, numbers) ? 28 : kind > 2 || length > most || count > most ? 16 : 0;
     number = answered(CENSUS, call.census(given(&in_map, map_numbers, 8 * numbers), numbers, timescale, kind, length, count, place(0), place(1), place(2)));
     expect_number(CENSUS, number, as);
-    if (number)
-        expect(!*place(0) && !*place(1) && !*place(2), CENSUS, "counts of a refused call");
-    else
+    if (number) {
+        place_kept(CENSUS, 0);
+        place_kept(CENSUS, 1);
+        place_kept(CENSUS, 2);
+    } else
         expect(*place(0) + *place(1) + *place(2) == count, CENSUS, "the sum of the counts");
     if (!number && count <= 400 && numbers <= 600)
         counted(numbers, timescale, kind, length, count);
@@ -189,9 +191,11 @@ void case_delay(void) {
     number = answered(BEST_DELAY, retimer_best_delay(given(&in_map, map_numbers, 8 * numbers), numbers, timescale, kind, given(&in_captions, captions, 8 * count), count, budget,
                                                      (int64_t *)(void *)place(0), place32(1), place32(2), place32(3)));
     expect_number(BEST_DELAY, number, as);
-    if (number)
-        expect(!*place(0) && !*place32(1) && !*place32(2) && !*place32(3), BEST_DELAY, "places of a refused call");
-    else
+    if (number) {
+        place_kept(BEST_DELAY, 0);
+        for (k = 1; k < 4; k++)
+            kept(BEST_DELAY, &lent_place[k], place32((unsigned)k), 4, 0, "a place for an answer");
+    } else
         told_delay(numbers, timescale, kind, count, budget);
     place_done(BEST_DELAY, 0);
     for (k = 1; k < 4; k++)

@@ -59,10 +59,14 @@ static void nothing_written(const struct lot *l) {
     place_kept(l->f, 1);
 }
 
-/* The session that a call left: sealed, of the same kind and timescale, with the piece taken, ended by a fault or a finish. */
+/* The session that a call left: sealed, of the same kind and timescale, with the piece taken, ended by a fault or a finish. An empty piece leaves it as it was. */
 static void went_on(const struct lot *l, const uint8_t *before, uint32_t number) {
     const uint8_t *s = l->session;
     uint32_t ended = number || l->f == FINISH;
+    if (l->f == FEED && l->length == 0) {
+        expect(number == 0 && memcmp(s, before, SIZE) == 0, l->f, "a session that an empty piece changed");
+        return;
+    }
     expect(is_parked(s, SIZE) && word_at(s, 1) == 2, l->f, "a session that is not sealed");
     expect(word_at(s, 2) == word_at(before, 2) && word_at(s, 3) == word_at(before, 3), l->f, "kind or timescale of the session");
     expect(word_at(s, 6) == word_at(before, 6) + l->length, l->f, "bytes taken");
@@ -352,6 +356,10 @@ static void other_mark(const struct run *r, size_t numbers, size_t length) {
     seal(second.session, 0);
     one_call(&first, FEED, map_numbers, numbers, text_bytes, length, 0);
     one_call(&second, FEED, map_numbers, numbers, text_bytes, length, 0);
+    if (length == 0) { /* an empty piece leaves the mark too */
+        word_to(second.session, 1, 2);
+        seal(second.session, 0);
+    }
     same(&first, &second, FEED);
     expect(!memcmp(first.session, second.session, SIZE), FEED, "another session under mark 1");
 }

@@ -38,7 +38,11 @@ fn paint(rows: &[Row], start: u64, stop: u64, marks: &mut [u8; 12001]) {
 }
 
 fn delay_of(k: usize) -> i64 {
-    if k % 2 == 1 { k as i64 / 2 + 1 } else { -(k as i64 / 2) }
+    if k % 2 == 1 {
+        k as i64 / 2 + 1
+    } else {
+        -(k as i64 / 2)
+    }
 }
 
 fn plain(rows: &[Row], captions: &[[u64; 2]]) -> BestDelay {
@@ -83,7 +87,7 @@ fn maps() -> Vec<(&'static str, Vec<Row>)> {
 fn main() {
     for (what, rows) in maps() {
         let numbers = rows.iter().enumerate().flat_map(|(k, &[q, o, d])| [k as u64, k as u64 + 1, q, 1, o, d]).collect();
-        let map = Map { timescale: TIMESCALE as u32, numbers };
+        let map = Map::from_numbers(TIMESCALE as u32, numbers);
         let span = rows.iter().map(|r| r[0] + r[2]).max().unwrap() / 30;
         let captions: Vec<[u64; 2]> = (0..4096).map(|i| i * 9_973_001 % span).zip((0..4096).map(|i| 20 + i * 7_919 % 2_000)).map(|(s, l)| [s, s + if s % 2 == 0 { l } else { l % 50 }]).collect();
         let (mut here, mut rust) = (f64::INFINITY, f64::INFINITY);

@@ -3,7 +3,7 @@
 use std::hint::black_box;
 use std::time::Instant;
 
-#[link(name = "bench", kind = "static")]
+#[link(name = "c_bench", kind = "static")]
 extern "C" {
     fn bench_is_utf8(text: *const u8, length: usize) -> u32;
 }

@@ -68,14 +68,11 @@ fn main() {
         let t = u64::from(timescale);
         let scaled: Vec<[u64; 3]> = rows.iter().map(|r| r.map(|x| x * t / 1000)).collect();
         let numbers = scaled.iter().enumerate().flat_map(|(k, &[q, o, d])| [k as u64, k as u64 + 1, q, 1, o, d]).collect();
-        let map = Map { timescale, numbers };
+        let map = Map::from_numbers(timescale, numbers);
         let (here, told) = timed(200, || census(black_box(&map), Kind::Srt, length, STARTS).unwrap());
         let (next, same) = timed(3, || following(black_box(&scaled), t, length));
         let (each, again) = timed(1, || searching(black_box(&scaled), t, length));
         assert_eq!((told, told), (same, again));
-        println!(
-            "census, {timescale} ticks a second, {length} ms: {told:?}; here {:.1} us, start by start {:.2} s, start by start from the segment before {:.3} s",
-            here * 1e6, each, next
-        );
+        println!("census, {timescale} ticks a second, {length} ms: {told:?}; here {:.1} us, start by start {:.2} s, start by start from the segment before {:.3} s", here * 1e6, each, next);
     }
 }

@@ -3,7 +3,7 @@
 //! these functions take slices of any length; include/retimer.h says what each reads, writes and answers.
 use crate::{BestDelay, Refused, Starts};
 
-#[link(name = "cutter", kind = "static")]
+#[link(name = "retimer", kind = "static")]
 extern "C" {
     fn retimer_sheet_check(sheet: *const u8, length: usize, work: *mut u8, work_length: usize) -> u32;
     fn retimer_list_check(list: *const u8, length: usize) -> u32;
@@ -14,15 +14,42 @@ extern "C" {
     fn retimer_ticks_number(value: u64, timescale: u32, kind: u32) -> u32;
     fn retimer_map(sheet: *const u8, sheet_length: usize, list: *const u8, list_length: usize, direction: u32, work: *mut u8, work_length: usize, map: *mut u64, map_numbers: usize, timescale: *mut u32, count: *mut u64) -> u32;
     fn retimer_open(kind: u32, timescale: u32, map: *const u64, map_length: usize, session: *mut u8, session_length: usize) -> u32;
-    fn retimer_feed(session: *mut u8, session_length: usize, map: *const u64, map_length: usize, piece: *const u8, piece_length: usize, out: *mut u8, out_length: usize, warnings: *mut u64, places: usize, written: *mut u64, warned: *mut u64) -> u32;
+    fn retimer_feed(
+        session: *mut u8,
+        session_length: usize,
+        map: *const u64,
+        map_length: usize,
+        piece: *const u8,
+        piece_length: usize,
+        out: *mut u8,
+        out_length: usize,
+        warnings: *mut u64,
+        places: usize,
+        written: *mut u64,
+        warned: *mut u64,
+    ) -> u32;
     fn retimer_finish(session: *mut u8, session_length: usize, map: *const u64, map_length: usize, out: *mut u8, out_length: usize, warnings: *mut u64, places: usize, written: *mut u64, warned: *mut u64) -> u32;
     fn retimer_text(kind: u32, timescale: u32, map: *const u64, map_length: usize, text: *const u8, length: usize, out: *mut u8, out_length: usize, warnings: *mut u64, places: usize, told: *mut u64, told_places: usize) -> u32;
+    fn retimer_cues(kind: u32, text: *const u8, length: usize, rows: *mut u64, places: usize, told: *mut u64, told_places: usize) -> u32;
     fn retimer_rough(map: *const u64, length: usize, start_low: u64, start_high: u64, end_low: u64, end_high: u64, judgement: *mut u64) -> u32;
     fn retimer_why(map: *const u64, length: usize, timescale: u32, kind: u32, start: u64, stop: u64, causes: *mut u64, places: usize, fate: *mut u64, place: *mut u64, start_cut: *mut u64, end_cut: *mut u64) -> u32;
     fn retimer_census(map: *const u64, map_length: usize, timescale: u32, kind: u32, length: u64, count: u64, shifted: *mut u64, clipped: *mut u64, dropped: *mut u64) -> u32;
     fn retimer_best_delay(map: *const u64, map_length: usize, timescale: u32, kind: u32, captions: *const u64, captions_length: usize, budget: u32, delay: *mut i64, loss: *mut u32, tried: *mut u32, off: *mut u32) -> u32;
     fn retimer_map_write(map: *const u64, length: usize, timescale: u32, rate_num: u32, rate_den: u32, path: *const u8, path_length: usize, frames: u32, text: *mut u8, places: usize, written: *mut u64) -> u32;
-    fn retimer_map_read(text: *const u8, length: usize, map: *mut u64, map_places: usize, path: *mut u8, path_places: usize, timescale: *mut u32, rate_num: *mut u32, rate_den: *mut u32, frames: *mut u32, numbers: *mut u64, path_length: *mut u64) -> u32;
+    fn retimer_map_read(
+        text: *const u8,
+        length: usize,
+        map: *mut u64,
+        map_places: usize,
+        path: *mut u8,
+        path_places: usize,
+        timescale: *mut u32,
+        rate_num: *mut u32,
+        rate_den: *mut u32,
+        frames: *mut u32,
+        numbers: *mut u64,
+        path_length: *mut u64,
+    ) -> u32;
 }
 
 /// The number of a sheet: as [`check_sheet`](crate::check_sheet), and 16 where fewer work bytes are lent than n / 8, rounded up. With 0, 25 and 26
@@ -87,6 +114,12 @@ pub fn text(kind: u32, timescale: u32, map: &[u64], text: &[u8], out: &mut [u8],
     unsafe { retimer_text(kind, timescale, map.as_ptr(), map.len(), text.as_ptr(), text.len(), out.as_mut_ptr(), out.len(), warnings.as_mut_ptr(), warnings.len(), told.as_mut_ptr(), told.len()) }
 }
 
+/// The captions of a whole text; refused (16), all that is lent stays as it was. Six numbers for each: line, 0 or the warning 1 or 2 with which it passes, start, end, the byte at which
+/// its words stand and how many bytes they are. The two numbers told: how many captions there are, and the line of the fault, or 0.
+pub fn cues(kind: u32, text: &[u8], rows: &mut [u64], told: &mut [u64]) -> u32 {
+    unsafe { retimer_cues(kind, text.as_ptr(), text.len(), rows.as_mut_ptr(), rows.len(), told.as_mut_ptr(), told.len()) }
+}
+
 /// What is sure of a caption known roughly: its number, and 0 dropped, 1 kept, 2 unsure.
 pub fn rough(map: &[u64], start: (u64, u64), end: (u64, u64)) -> (u32, u64) {
     let mut told = 0;
@@ -110,11 +143,7 @@ pub fn census(map: &[u64], timescale: u32, kind: u32, length: u64, count: u64, t
 /// The delay that loses least, for any row of times, start and end in turn (an odd number of them is 16): the number. The answer goes to `told`, which
 /// stays as it was where it is refused.
 pub fn flat_delay(map: &[u64], timescale: u32, kind: u32, captions: &[u64], budget: u32, told: &mut BestDelay) -> u32 {
-    unsafe {
-        retimer_best_delay(
-            map.as_ptr(), map.len(), timescale, kind, captions.as_ptr(), captions.len(), budget, &mut told.delay, &mut told.loss, &mut told.tried, &mut told.off,
-        )
-    }
+    unsafe { retimer_best_delay(map.as_ptr(), map.len(), timescale, kind, captions.as_ptr(), captions.len(), budget, &mut told.delay, &mut told.loss, &mut told.tried, &mut told.off) }
 }
 
 /// The JSON text of a map: any bytes as the path (20 where they are not UTF-8), and the text's bytes lent (16 where it does not fit). The

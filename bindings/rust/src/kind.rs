@@ -1,6 +1,8 @@
 //! The kinds of captions, their times, and conversions between these and ticks of the recording.
 use crate::{ffi, Refused};
+use std::fmt;
 use std::path::Path;
+use std::str::FromStr;
 
 /// The caption format that a time or a text belongs to.
 #[derive(Clone, Copy, Debug, PartialEq, Eq, Hash)]
@@ -88,6 +90,39 @@ impl Kind {
             Kind::Ass => format!("{h}:{m:02}:{s:02}{mark}{part:02}"),
             Kind::Srt | Kind::Vtt => format!("{h:02}:{m:02}:{s:02}{mark}{part:03}"),
         }
+    }
+}
+
+impl fmt::Display for Kind {
+    fn fmt(&self, f: &mut fmt::Formatter<'_>) -> fmt::Result {
+        f.write_str(self.name())
+    }
+}
+
+/// A name that is no kind's.
+#[derive(Clone, Copy, Debug, PartialEq, Eq)]
+pub struct UnknownKind;
+
+impl fmt::Display for UnknownKind {
+    fn fmt(&self, f: &mut fmt::Formatter<'_>) -> fmt::Result {
+        f.write_str("captions are ass, srt or vtt")
+    }
+}
+
+impl std::error::Error for UnknownKind {}
+
+impl FromStr for Kind {
+    type Err = UnknownKind;
+
+    /// By its name.
+    ///
+    /// ```
+    /// use retimer::{Kind, UnknownKind};
+    /// assert_eq!(("srt".parse(), "sub".parse::<Kind>()), (Ok(Kind::Srt), Err(UnknownKind)));
+    /// assert_eq!(Kind::Srt.to_string(), "srt");
+    /// ```
+    fn from_str(name: &str) -> Result<Kind, UnknownKind> {
+        Kind::named(name).ok_or(UnknownKind)
     }
 }
 

@@ -15,16 +15,19 @@
 //! # Ok::<(), Box<dyn std::error::Error>>(())
 //! ```
 //!
-//! | To | take |
-//! |---|---|
-//! | write a frame sheet from numbers, or read one | [`Sheet`] |
-//! | check a sheet or a list | [`check_sheet`], [`check_list`]; with places [`faults`] |
-//! | build a map, store it as JSON, read it back | [`Map`] |
-//! | retime captions | [`retime`], [`Session`] |
-//! | ask what becomes of a caption, and why | [`why`], [`rough`] |
-//! | ask how captions would fare | [`census`], [`best_delay`] |
-//! | show captions with lines and words | [`captions`] |
-//! | draw what became of captions, as SVG | [`picture`] |
+//! | To | take | proved or tested |
+//! |---|---|---|
+//! | write a frame sheet from numbers, or read one | [`Sheet`] | its check is proved; writing and reading are tested |
+//! | get the frame sheet of a film, or the list by which ffmpeg cuts it | [`film`] | tested, with real films |
+//! | check a sheet or a list | [`check_sheet`], [`check_list`]; with places [`faults`] | the numbers are proved; places are tested |
+//! | build a map, store it as JSON, read it back | [`Map`] | proved |
+//! | retime captions | [`retime`], [`Session`] | proved |
+//! | delay captions before they are retimed | [`Map::delayed`] | the moved map is tested; what becomes of captions through it is proved |
+//! | ask what becomes of a caption, and why | [`why`], [`rough`] | proved |
+//! | ask how captions would fare | [`census`], [`best_delay`] | proved |
+//! | read captions: lines, times, words, and where a text is at fault | [`captions`], [`faults`] | lines, times, the words' place and the first fault are proved; faults behind it, and words without tags, are tested |
+//! | read captions in other encodings | [`Encoding`] | tested |
+//! | draw what became of captions, as SVG | [`picture`] | tested |
 //!
 //! A refusal is a [`Refused`]: its number is that of docs/NUMBERS.md, its sentence that of docs/GUIDE.md. A fault of a caption text is a [`Stopped`], which adds the line and
 //! the words. The command `bobbincrag` in this package does all of this from files.
@@ -32,9 +35,12 @@
 #![warn(missing_docs)]
 
 pub mod captions;
+mod delayed;
+mod encoding;
 pub mod faults;
 #[allow(unsafe_code)]
 mod ffi;
+pub mod film;
 mod kind;
 mod map;
 pub mod picture;
@@ -43,7 +49,9 @@ mod refused;
 mod session;
 mod sheet;
 
-pub use kind::{ticks_to_units_ceil, ticks_to_units_floor, units_to_ticks, Kind};
+pub use delayed::{ends_at_zero, Undelayed};
+pub use encoding::Encoding;
+pub use kind::{ticks_to_units_ceil, ticks_to_units_floor, units_to_ticks, Kind, UnknownKind};
 pub use map::{check_list, About, Direction, Map, Segment, MAP_NUMBERS, MOST_PATH, MOST_TEXT};
 pub use questions::{best_delay, census, rough, why, BestDelay, Cause, Fate, Judgement, Starts};
 pub use refused::{Refused, Warning};

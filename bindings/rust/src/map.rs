@@ -28,7 +28,7 @@ pub enum Direction {
 /// use retimer::{About, Direction, Map, Sheet};
 /// let sheet = Sheet::in_order(30_000, (30_000, 1_001), vec![1_001; 10], [0, 3, 6]).to_bytes()?;
 /// let map = Map::new(&sheet, b"Trim(0,2) ++ Trim(6,8)", Direction::Outward)?;
-/// assert_eq!((map.timescale, &map.numbers[..]), (30_000, &[0, 3, 0, 3, 0, 3_003, 6, 10, 6_006, 4, 3_003, 4_004][..]));
+/// assert_eq!((map.timescale(), map.numbers()), (30_000, &[0, 3, 0, 3, 0, 3_003, 6, 10, 6_006, 4, 3_003, 4_004][..]));
 /// assert_eq!(map.segments().map(|s| s.duration).sum::<u64>(), 7_007);
 /// // as the cutter stores it, and back
 /// let about = About::of_sheet(&sheet, "play.mp4").unwrap();
@@ -37,16 +37,16 @@ pub enum Direction {
 /// assert_eq!(Map::from_json(json.as_bytes())?, (map, about));
 /// # Ok::<(), retimer::Refused>(())
 /// ```
-#[derive(Clone, Debug, PartialEq, Eq)]
+#[derive(Clone, Debug, PartialEq, Eq, Hash)]
 pub struct Map {
     /// Ticks a second.
-    pub timescale: u32,
+    pub(crate) timescale: u32,
     /// Six numbers a segment: start frame, end frame, source start, frame count, output start, duration.
-    pub numbers: Vec<u64>,
+    pub(crate) numbers: Vec<u64>,
 }
 
 /// A kept stretch.
-#[derive(Clone, Copy, Debug, PartialEq, Eq)]
+#[derive(Clone, Copy, Debug, Default, PartialEq, Eq, Hash)]
 pub struct Segment {
     /// Its first frame.
     pub start_frame: u64,
@@ -92,6 +92,35 @@ impl Map {
         Refused::unless_done(ffi::map_of(sheet, list, direction, &mut work, &mut numbers, &mut timescale, &mut count))?;
         numbers.truncate(6 * count as usize);
         Ok(Map { timescale, numbers })
+    }
+
+    /// A map of stretches that are worked out elsewhere. Any are taken: what is asked through a map outside the limits is refused with 15.
+    ///
+    /// ```
+    /// use retimer::{Map, Segment};
+    /// let kept = Segment { start_frame: 6, end_frame: 10, source: 6_006, frames: 4, output: 0, duration: 4_004 };
+    /// let map = Map::from_segments(30_000, &[kept]);
+    /// assert_eq!((map.timescale(), map.numbers()), (30_000, &[6, 10, 6_006, 4, 0, 4_004][..]));
+    /// assert_eq!(map.segments().collect::<Vec<_>>(), [kept]);
+    /// ```
+    pub fn from_segments(timescale: u32, segments: &[Segment]) -> Map {
+        let six = |s: &Segment| [s.start_frame, s.end_frame, s.source, s.frames, s.output, s.duration];
+        Map { timescale, numbers: segments.iter().flat_map(six).collect() }
+    }
+
+    /// A map of flat numbers, as the C functions have it; any are taken.
+    pub fn from_numbers(timescale: u32, numbers: Vec<u64>) -> Map {
+        Map { timescale, numbers }
+    }
+
+    /// Ticks a second.
+    pub fn timescale(&self) -> u32 {
+        self.timescale
+    }
+
+    /// Six numbers a segment: start frame, end frame, source start, frame count, output start, duration.
+    pub fn numbers(&self) -> &[u64] {
+        &self.numbers
     }
 
     /// The kept stretches, in the order of the trim list.

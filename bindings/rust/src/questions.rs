@@ -1,6 +1,6 @@
 //! Questions about a cut: what becomes of one caption and why, what is sure of one whose times are known only roughly, how starts fare, and
 //! which delay loses least.
-use crate::{ffi, Kind, Map, Refused};
+use crate::{ffi, ticks_to_units_ceil, ticks_to_units_floor, units_to_ticks, Kind, Map, Refused};
 use std::ops::RangeInclusive;
 
 /// Why a caption does not meet a segment: the first that applies.
@@ -40,6 +40,25 @@ impl Fate {
     pub fn is_dropped(&self) -> bool {
         matches!(self, Fate::Dropped(_))
     }
+
+    /// Start and end in the cut, in units of the kind, as [`retime`](crate::retime) writes them; nothing of a dropped caption. `start` and `stop` are the times that the fate was
+    /// asked for: as ticks, without what was cut off and moved with the segment, the start is rounded down, the end up.
+    ///
+    /// ```
+    /// use retimer::{why, Kind, Map};
+    /// let map = Map::from_numbers(30_000, vec![0, 3, 0, 3, 0, 3_003, 6, 10, 6_006, 4, 3_003, 4_004]);
+    /// let fate = why(&map, Kind::Ass, 21, 25)?;
+    /// assert_eq!(fate.moved(&map, Kind::Ass, 21, 25)?, Some([10, 15]));
+    /// # Ok::<(), retimer::Refused>(())
+    /// ```
+    pub fn moved(&self, map: &Map, kind: Kind, start: u64, stop: u64) -> Result<Option<[u64; 2]>, Refused> {
+        let Fate::Kept { place, start_cut, end_cut } = self else { return Ok(None) };
+        let Some(segment) = map.segments().nth(*place) else { return Ok(None) };
+        let moved = |tick: u64| tick.saturating_sub(segment.source).saturating_add(segment.output);
+        let from = units_to_ticks(start, map.timescale, kind)?.saturating_add(*start_cut);
+        let to = units_to_ticks(stop, map.timescale, kind)?.saturating_sub(*end_cut);
+        Ok(Some([ticks_to_units_floor(moved(from), map.timescale, kind)?, ticks_to_units_ceil(moved(to), map.timescale, kind)?]))
+    }
 }
 
 /// What becomes of a caption from `start` to `stop`, in units of its kind, at most 2^36 each, and why: it is what [`retime`](crate::retime) does with it. 15 for a
@@ -47,7 +66,7 @@ impl Fate {
 ///
 /// ```
 /// use retimer::{why, Cause, Fate, Kind, Map};
-/// let map = Map { timescale: 30_000, numbers: vec![0, 3, 0, 3, 0, 3_003, 6, 10, 6_006, 4, 3_003, 4_004] };
+/// let map = Map::from_numbers(30_000, vec![0, 3, 0, 3, 0, 3_003, 6, 10, 6_006, 4, 3_003, 4_004]);
 /// assert_eq!(why(&map, Kind::Ass, 5, 25), Ok(Fate::Kept { place: 0, start_cut: 0, end_cut: 4_497 }));
 /// assert_eq!(why(&map, Kind::Ass, 12, 20), Ok(Fate::Dropped(vec![Cause::EndsBefore, Cause::StartsAfter])));
 /// ```
@@ -82,7 +101,7 @@ pub enum Judgement {
 ///
 /// ```
 /// use retimer::{rough, Judgement, Map};
-/// let map = Map { timescale: 30_000, numbers: vec![0, 3, 0, 3, 0, 3_003, 6, 10, 6_006, 4, 3_003, 4_004] };
+/// let map = Map::from_numbers(30_000, vec![0, 3, 0, 3, 0, 3_003, 6, 10, 6_006, 4, 3_003, 4_004]);
 /// assert_eq!(rough(&map, 3_003..=6_000, 3_003..=6_006), Ok(Judgement::SurelyDropped));
 /// assert_eq!(rough(&map, 3_003..=6_000, 3_003..=6_007), Ok(Judgement::Unsure));
 /// ```
@@ -112,7 +131,7 @@ pub struct Starts {
 ///
 /// ```
 /// use retimer::{census, Kind, Map, Starts};
-/// let map = Map { timescale: 30_000, numbers: vec![0, 3, 0, 3, 0, 3_003, 6, 10, 6_006, 4, 3_003, 4_004] };
+/// let map = Map::from_numbers(30_000, vec![0, 3, 0, 3, 0, 3_003, 6, 10, 6_006, 4, 3_003, 4_004]);
 /// assert_eq!(census(&map, Kind::Ass, 4, 40), Ok(Starts { shifted: 16, clipped: 12, dropped: 12 }));
 /// ```
 pub fn census(map: &Map, kind: Kind, length: u64, count: u64) -> Result<Starts, Refused> {
@@ -139,7 +158,7 @@ pub struct BestDelay {
 ///
 /// ```
 /// use retimer::{best_delay, BestDelay, Kind, Map};
-/// let map = Map { timescale: 30_000, numbers: vec![0, 3, 0, 3, 0, 3_003, 6, 10, 6_006, 4, 3_003, 4_004] };
+/// let map = Map::from_numbers(30_000, vec![0, 3, 0, 3, 0, 3_003, 6, 10, 6_006, 4, 3_003, 4_004]);
 /// let best = best_delay(&map, Kind::Ass, &[[9, 12]], 5)?;
 /// assert_eq!(best, BestDelay { delay: -2, loss: 0, tried: 5, off: 0 });
 /// # Ok::<(), retimer::Refused>(())

@@ -6,7 +6,7 @@ use std::fmt;
 /// ```
 /// use retimer::{check_list, Refused};
 /// let refused = check_list(b"Trim(5,1)").unwrap_err();
-/// assert_eq!(refused, Refused(4));
+/// assert_eq!(refused, Refused::BACKWARD);
 /// assert_eq!(refused.number(), 4);
 /// assert_eq!(refused.sentence(), "a is greater than b");
 /// assert_eq!(refused.to_string(), "refused 4: a is greater than b");
@@ -37,6 +37,49 @@ impl Refused {
     }
 }
 
+/// The numbers by the names of include/retimer.h.
+macro_rules! named {
+    ($($name:ident = $number:literal;)*) => {
+        impl Refused {
+            $(#[doc = concat!("Number ", $number, ".")] pub const $name: Refused = Refused($number);)*
+        }
+
+        #[cfg(test)]
+        const NAMES: &[(&str, u32)] = &[$((stringify!($name), $number)),*];
+    };
+}
+
+named! {
+    SHAPE = 2;
+    NOT_A_NUMBER = 3;
+    BACKWARD = 4;
+    LAST_FRAME = 5;
+    CROSSING = 6;
+    LIST_TOO_LONG = 7;
+    OVERLAP = 8;
+    TURNED_OVER = 9;
+    PAST_THE_END = 10;
+    SHEET_LENGTH = 11;
+    SHEET_BLOCK = 12;
+    SHEET_HEAD = 13;
+    SHEET_RECORD = 14;
+    BAD_MAP = 15;
+    BAD_ARGUMENT = 16;
+    FOREIGN_SESSION = 17;
+    ENDED = 18;
+    LONG_LINE = 19;
+    NOT_UTF8 = 20;
+    LONG_BLOCK = 21;
+    BAD_TIME = 22;
+    NO_MAP_TEXT = 23;
+    FIRST_LINE = 24;
+    NAMED_TWICE = 25;
+    TOO_MANY_TICKS = 26;
+    NO_PARKED_SESSION = 27;
+    OUT_OF_ORDER = 28;
+    NO_TRIES = 29;
+}
+
 impl fmt::Display for Refused {
     fn fmt(&self, f: &mut fmt::Formatter<'_>) -> fmt::Result {
         write!(f, "refused {}: {}", self.0, self.sentence())
@@ -49,7 +92,7 @@ impl std::error::Error for Refused {}
 ///
 /// ```
 /// use retimer::Warning;
-/// let warning = Warning { number: 2, line: 14 };
+/// let warning = Warning { number: Warning::FEW_FIELDS, line: 14 };
 /// assert_eq!(warning.to_string(), "line 14: warning 2: an ASS caption passed unchanged: it has fewer fields than the Format line");
 /// ```
 #[derive(Clone, Copy, Debug, PartialEq, Eq, Hash)]
@@ -61,6 +104,17 @@ pub struct Warning {
 }
 
 impl Warning {
+    /// An ASS caption passes: Start or End is unknown.
+    pub const UNKNOWN_COLUMN: u32 = 1;
+    /// An ASS caption passes: it has fewer fields than columns.
+    pub const FEW_FIELDS: u32 = 2;
+    /// The start was cut, and the caption has a tag that counts from its start.
+    pub const RELATIVE_TAG: u32 = 3;
+    /// The end was cut, and a segment later in the list has a part of the caption.
+    pub const LOST_PART: u32 = 4;
+    /// A WebVTT caption has times inside its lines.
+    pub const TIMES_INSIDE: u32 = 5;
+
     /// What the warning says.
     pub fn sentence(self) -> &'static str {
         said(&WARNINGS, self.number)
@@ -133,6 +187,40 @@ mod tests {
     fn held(table: &[(u32, &str)], part: &str) {
         let here: Vec<(u32, String)> = table.iter().map(|(n, says)| (*n, says.to_string())).collect();
         assert_eq!(here, rows(part));
+    }
+
+    /// The rows `NAME = N` of an enum of include/retimer.h.
+    fn header(part: &str) -> Vec<(String, u32)> {
+        let text = std::fs::read_to_string(concat!(env!("CARGO_MANIFEST_DIR"), "/../../include/retimer.h")).unwrap();
+        let body = text.split_once(&format!("enum {part} {{")).unwrap().1.split_once("};").unwrap().0.to_string();
+        let rows = body.lines().filter_map(|l| l.trim().strip_prefix("RETIMER_")?.split_once(" = "));
+        rows.map(|(name, rest)| (name.to_string(), rest.split(|c: char| !c.is_ascii_digit()).next().unwrap().parse().unwrap())).collect()
+    }
+
+    /// Names and sentences are those of the header.
+    #[test]
+    fn as_in_the_header() {
+        let named: Vec<(String, u32)> = [("DONE", 0)].iter().chain(NAMES).map(|(n, k)| (n.to_string(), *k)).collect();
+        assert_eq!(named, header("retimer_number"));
+        let warnings = [("UNKNOWN_COLUMN", Warning::UNKNOWN_COLUMN), ("FEW_FIELDS", Warning::FEW_FIELDS), ("RELATIVE_TAG", Warning::RELATIVE_TAG), ("LOST_PART", Warning::LOST_PART), ("TIMES_INSIDE", Warning::TIMES_INSIDE)];
+        assert_eq!(warnings.map(|(n, k)| (n.to_string(), k)).to_vec(), header("retimer_warning"));
+        let text = std::fs::read_to_string(concat!(env!("CARGO_MANIFEST_DIR"), "/../../include/retimer.h")).unwrap();
+        for (of, table) in [("RETIMER_SENTENCES", &REFUSALS[..]), ("RETIMER_WARNING_SENTENCES", &WARNINGS[..])] {
+            let part = text.split_once(&format!("#define {of} ")).unwrap().1.split_once('}').unwrap().0;
+            let there: Vec<&str> = part.lines().filter_map(|l| l.trim().strip_prefix('"')?.rsplit_once('"').map(|(words, _)| words)).collect();
+            assert_eq!(there, table.iter().map(|row| row.1).collect::<Vec<_>>());
+        }
+    }
+
+    /// Every sentence stands in the manual page, below its number.
+    #[test]
+    fn as_in_the_manual() {
+        let page = std::fs::read_to_string(concat!(env!("CARGO_MANIFEST_DIR"), "/bobbincrag.1")).unwrap().replace("\\-", "-");
+        let (numbers, warnings) = page.split_once("\n.SH NUMBERS\n").unwrap().1.split_once("\n.SH WARNINGS\n").unwrap();
+        for (part, table) in [(numbers, &REFUSALS[1..]), (warnings.split("\n.SH").next().unwrap(), &WARNINGS[..])] {
+            let there: Vec<(u32, String)> = part.split(".TP\n.B ").skip(1).filter_map(|row| row.split_once('\n')).map(|(n, rest)| (n.parse().unwrap(), rest.lines().next().unwrap().trim_end_matches('.').to_string())).collect();
+            assert_eq!(there, table.iter().map(|(n, says)| (*n, says.to_string())).collect::<Vec<_>>());
+        }
     }
 
     /// Both tables are those of docs/GUIDE.md, row for row.

@@ -1,5 +1,5 @@
 //! A caption text retimed: in pieces, by a session that can be parked, or as a whole.
-use crate::captions::{place_of, Columns, Place, Start};
+use crate::captions::{self, Place, Rest};
 use crate::sheet::{word, BLOCK};
 use crate::{ffi, Kind, Map, Refused, Warning};
 use std::borrow::Borrow;
@@ -75,7 +75,7 @@ impl From<Refused> for Stopped {
 ///
 /// ```
 /// use retimer::{Kind, Map, Session};
-/// let map = Map { timescale: 30_000, numbers: vec![0, 3, 0, 3, 0, 3_003, 6, 10, 6_006, 4, 3_003, 4_004] };
+/// let map = Map::from_numbers(30_000, vec![0, 3, 0, 3, 0, 3_003, 6, 10, 6_006, 4, 3_003, 4_004]);
 /// let mut session = Session::open(Kind::Vtt, &map)?;
 /// let first = session.feed(b"WEBVTT\n\n00:00.210 --> 00:0")?;
 /// assert_eq!(first.text, b"WEBVTT\n\n");
@@ -207,20 +207,27 @@ fn counts_in(session: &[u8]) -> Counts {
     Counts { shifted, clipped, dropped, passed }
 }
 
-/// Nothing for 0, else the number with what was written before it, and its place: the bytes of the session before the call hold an open block and an unfinished
-/// line, the number of lines before these, and the columns.
+/// Nothing for 0, else the number with what was written before it, and its place.
 fn unless_faulty(number: u32, session: &[u8], part: &[u8], all: &mut Written) -> Result<(), Stopped> {
     if number == 0 {
         return Ok(());
     }
+    Err(Stopped { refused: Refused(number), place: place_in(number, session, part), before: std::mem::take(all) })
+}
+
+/// Where a piece is at fault: the bytes of the session before the call hold an open block and an unfinished line, the number of lines before these, and the columns, and with the piece behind them
+/// they are read.
+fn place_in(number: u32, session: &[u8], part: &[u8]) -> Option<Place> {
+    if !matches!(number, 19..=22 | 24) {
+        return None;
+    }
     let word = |k| word(session, k) as usize;
     let mut text: Vec<u8> = session[BLOCK..].chunks_exact(BLOCK).flat_map(|block| &block[4..508]).copied().take(word(16)).collect();
     let ended = text.iter().filter(|b| **b == b'\n').count();
-    let columns = Columns { events: word(12) == 1, count: word(13), start: word(14), stop: word(15) };
-    let start = Start { line: (word(7) + 1).saturating_sub(ended) as u64, columns };
     text.extend_from_slice(part);
-    let kind = Kind::ALL.into_iter().find(|k| k.number() as usize == word(2)).unwrap_or(Kind::Ass);
-    Err(Stopped { refused: Refused(number), place: place_of(number, kind, &text, start), before: std::mem::take(all) })
+    let kind = Kind::ALL.into_iter().find(|k| k.number() as usize == word(2))?;
+    let line = (word(7) + 1).saturating_sub(ended) as u64;
+    Rest { kind, line, events: word(12) == 1, columns: word(13), start: word(14), stop: word(15) }.place(number, &text)
 }
 
 /// Warnings as the C functions tell them: two numbers each.
@@ -243,7 +250,7 @@ pub struct Retimed {
 ///
 /// ```
 /// use retimer::{retime, Kind, Map, Refused};
-/// let map = Map { timescale: 30_000, numbers: vec![0, 3, 0, 3, 0, 3_003, 6, 10, 6_006, 4, 3_003, 4_004] };
+/// let map = Map::from_numbers(30_000, vec![0, 3, 0, 3, 0, 3_003, 6, 10, 6_006, 4, 3_003, 4_004]);
 /// let retimed = retime(Kind::Srt, &map, b"1\n00:00:00,050 --> 00:00:00,250\nA line\n")?;
 /// assert_eq!(retimed.text, b"1\n00:00:00,050 --> 00:00:00,101\nA line\n");
 /// assert_eq!((retimed.counts.clipped, retimed.warnings[0].number), (1, 4));
@@ -259,7 +266,7 @@ pub fn retime(kind: Kind, map: &Map, text: &[u8]) -> Result<Retimed, Stopped> {
         return Ok(retimed);
     }
     let before = Written { text: retimed.text, warnings: retimed.warnings };
-    Err(Stopped { refused: Refused(number), place: place_of(number, kind, text, Start::default()), before })
+    Err(Stopped { refused: Refused(number), place: captions::read(kind, text).ok().and_then(|r| r.place()), before })
 }
 
 /// Bytes of a text that is retimed by one call; the output that is lent to it is three times as long, so longer texts go through a session.

@@ -60,7 +60,17 @@ fn samples_named_once() {
         for lent in [0, need - 1, need, need + 3] {
             let mut work = vec![170u8; lent];
             let got = raw::sheet_check(&s, &mut work);
-            assert_eq!(got, if number == 14 { 14 } else if lent < need { 16 } else { number }, "{n} frames, {lent} bytes");
+            assert_eq!(
+                got,
+                if number == 14 {
+                    14
+                } else if lent < need {
+                    16
+                } else {
+                    number
+                },
+                "{n} frames, {lent} bytes"
+            );
             let zeros = if number == 14 || lent < need { 0 } else { need };
             assert!(work.iter().enumerate().all(|(k, b)| *b == if k < zeros { 0 } else { 170 }), "{n} frames, {lent} bytes");
         }
@@ -72,18 +82,7 @@ fn lists() {
     for good in ["Trim(0,2) ++ Trim(6,8)", "Trim(0,1)++Trim(2,+3)", "\u{3000}Trim( 0 , 0 )\n", "", " \n", "\u{3000}\t\u{85}"] {
         assert_eq!(check_list(good.as_bytes()), Ok(()), "{good}");
     }
-    for (list, number) in [
-        ("++", 2),
-        ("Trim(0,2)++ ", 2),
-        ("\u{FEFF}", 2),
-        ("Trim(0,++1)", 2),
-        ("Trim(0,1,2)", 2),
-        ("Trim(0,x)", 3),
-        ("Trim(0,4294967296)", 3),
-        ("Trim(2,1)", 4),
-        ("Trim(0,4294967295)", 5),
-        ("Trim(0,2)++Trim(2,3)", 6),
-    ] {
+    for (list, number) in [("++", 2), ("Trim(0,2)++ ", 2), ("\u{FEFF}", 2), ("Trim(0,++1)", 2), ("Trim(0,1,2)", 2), ("Trim(0,x)", 3), ("Trim(0,4294967296)", 3), ("Trim(2,1)", 4), ("Trim(0,4294967295)", 5), ("Trim(0,2)++Trim(2,3)", 6)] {
         assert_eq!(check_list(list.as_bytes()), Err(Refused(number)), "{list}");
     }
     assert_eq!(check_list(&[0xFF]), Err(Refused(20)));

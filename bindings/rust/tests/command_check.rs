@@ -4,7 +4,7 @@ mod common;
 use common::{file, play, read, run, run_play, run_with, seal, words, Folder};
 use std::process::Command;
 
-const COMMANDS: [&str; 8] = ["retime", "map", "check", "why", "census", "delay", "picture", "completions"];
+const COMMANDS: [&str; 10] = ["sheet", "retime", "map", "check", "why", "cues", "census", "delay", "picture", "completions"];
 
 #[test]
 fn sound() {
@@ -39,6 +39,7 @@ fn faults() {
         format!("refused 6: a trim begins before the one before it has ended ({list}, entry 3, line 2: Trim(8,9), behind entry 1: Trim(0,9))"),
         format!("refused 22: a caption's time can't be read ({subs}, line 2: \"00:00:01,000 --> x A\")"),
         format!("refused 20: the captions, the trim list or the path of a map's JSON are not UTF-8 ({subs}, line 7: \"B\u{FFFD}\")"),
+        format!("{subs} is not UTF-8: it looks like windows-1252. Save it as UTF-8; captions can be read by --encoding windows-1252"),
         "3 files checked, 7 faults in 3".to_string(),
     ];
     assert_eq!((ran.status, ran.text().lines().collect::<Vec<_>>()), (1, page.iter().map(String::as_str).collect::<Vec<_>>()));
@@ -73,6 +74,54 @@ fn many() {
     assert_eq!((ran.status, lines.len()), (1, 52));
     assert_eq!(lines[49], format!("refused 22: a caption's time can't be read ({subs}, line 149: \"00:00:049 --> x\")"));
     assert_eq!(lines[50..], [&*format!("and 10 more of 22 in {subs}"), "1 file checked, 60 faults in 1"]);
+    // and at most 100 are looked for
+    let subs = folder.write("many.srt", "1 --> 2\n\n".repeat(120));
+    let ran = run(&["check", "--subs", &subs]);
+    let lines: Vec<&str> = ran.text().lines().collect();
+    assert_eq!(lines[50..], [&*format!("and 50 more of 22 in {subs}"), &*format!("the search ended here: {subs} may have more faults"), "1 file checked, 100 faults or more in 1"]);
+}
+
+/// Captions under another kind's ending: none is found, and the kind that they look like is named. They can be retimed, so the status is 0.
+#[test]
+fn another_kind() {
+    let folder = Folder::new();
+    for (kind, ending, looks) in [("ass", "srt", "; it looks like ass: say --kind ass"), ("srt", "ass", "; it looks like srt: say --kind srt"), ("vtt", "ass", "; it looks like vtt: say --kind vtt")] {
+        let subs = folder.write(&format!("{kind}.{ending}"), read(&play(kind, &format!("subs.{kind}"))));
+        let note = format!("no caption was found in it: it was read as {ending}{looks}");
+        let ran = run(&["check", "--subs", &subs]);
+        assert_eq!((ran.status, ran.text()), (0, &*format!("{subs}: sound\nnote: {note} ({subs})\n1 file checked, all sound\n")));
+        let ran = run_play("retime", &["--subs", &subs]);
+        assert_eq!((ran.status, ran.err), (0, format!("{subs}: {note}\n{subs}: 0 shifted, 0 clipped, 0 dropped, 0 passed\n")));
+        for command in ["why", "delay", "picture", "cues"] {
+            let words: &[&str] = if command == "cues" { &["--tsv"] } else { &[] };
+            run_play(command, &[&["--subs", &subs], words].concat()).says(0, &[&format!("{subs}: {note}")]);
+        }
+    }
+    let empty = folder.write("empty.srt", "");
+    let ran = run_play("retime", &["--subs", &empty]);
+    assert_eq!(ran.err, format!("{empty}: no caption was found in it: it was read as srt\n{empty}: 0 shifted, 0 clipped, 0 dropped, 0 passed\n"));
+}
+
+/// A second timing line in one block: it is neither moved nor counted, and that is said.
+#[test]
+fn times_inside() {
+    let folder = Folder::new();
+    let text = "1\n00:00:01,200 --> 00:00:03,900\nGood evening.\n2\n00:00:04,000 --> 00:00:06,750\nListen!\n\n3\n00:00:07,100 --> 00:00:09,800\nFather!\n";
+    let subs = folder.write("subs.srt", text);
+    let note = "times inside a caption's lines; a blank line may be missing";
+    let ran = run(&["check", "--subs", &subs]);
+    let line = format!("note: {note} ({subs}, line 5: \"00:00:04,000 --> 00:00:06,750\")");
+    assert_eq!((ran.status, ran.text()), (0, &*format!("{subs}: sound\n{line}\n1 file checked, all sound\n")));
+    let ran = run_play("retime", &["--subs", &subs]);
+    assert_eq!(ran.err, format!("{subs}:5: {note}: \"00:00:04,000 --> 00:00:06,750\"\n{subs}: 2 shifted, 0 clipped, 0 dropped, 0 passed\n"));
+    assert!(ran.text().contains("\n2\n00:00:04,000 --> 00:00:06,750\nListen!\n"));
+    // the words of an ASS caption may have an arrow
+    let ass = folder.write("subs.ass", "[Events]\nFormat: Start, End, Text\nDialogue: 0:00:01.20,0:00:03.90,a --> b\n");
+    assert_eq!(run_play("retime", &["--subs", &ass]).err, format!("{ass}: 1 shifted, 0 clipped, 0 dropped, 0 passed\n"));
+    let many = folder.write("many.vtt", format!("WEBVTT\n\n00:01.000 --> 00:02.000\n{}", "x --> y\n".repeat(53)));
+    let ran = run(&["check", "--subs", &many]);
+    assert_eq!(ran.text().lines().count(), 53);
+    assert!(ran.text().ends_with(&format!("and 3 more such lines in {many}\n1 file checked, all sound\n")));
 }
 
 /// A sheet that is cut off at every block.
@@ -95,7 +144,7 @@ fn usage_of_check() {
     run(&["check", "--sheet", "-", "--list", "-"]).fails(2, &["bobbincrag check: - is standard input, which can be read once"]);
     run(&["check", "--sheet", "none.bin"]).fails(1, &["cannot read none.bin: No such file or directory"]);
     let ran = run_with(&["check", "--subs", "-", "--kind", "vtt"], b"WEBVTT\n");
-    assert_eq!((ran.status, ran.text()), (0, "standard input: sound\n1 file checked, all sound\n"));
+    assert_eq!((ran.status, ran.text()), (0, "standard input: sound\nnote: no caption was found in it: it was read as vtt (standard input)\n1 file checked, all sound\n"));
 }
 
 #[test]
@@ -110,7 +159,9 @@ fn help() {
             assert!(ran.text().contains(&format!("usage: bobbincrag {command} ")) && ran.text().contains(&format!("Example:\n  bobbincrag {command} ")), "{}", ran.text());
         }
     }
-    assert_eq!(run(&["--version"]).text(), format!("bobbincrag {}\n", env!("CARGO_PKG_VERSION")));
+    let version = run(&["--version"]);
+    let rest = version.text().strip_prefix(concat!("bobbincrag ", env!("CARGO_PKG_VERSION"))).unwrap().trim_end();
+    assert!(rest.is_empty() || rest.starts_with(" (") && rest.ends_with(')') && (rest.contains("commit ") || rest.contains("logic ")), "{rest}");
     run(&[]).fails(2, &["bobbincrag: no command is named", "usage: bobbincrag COMMAND .., see bobbincrag --help"]);
     run(&["cut"]).fails(2, &["bobbincrag: there is no command cut"]);
     run(&["--colour"]).fails(2, &["bobbincrag: there is no command --colour"]);
@@ -146,10 +197,7 @@ fn manual() {
 
 /// What bash offers behind some words.
 fn offered(words: &[&str]) -> Vec<String> {
-    let script = format!(
-        "eval \"$('{}' completions bash)\"; COMP_WORDS=(\"$@\"); COMP_CWORD=$(($# - 1)); _bobbincrag; printf '%s\\n' \"${{COMPREPLY[@]}}\"",
-        common::COMMAND
-    );
+    let script = format!("eval \"$('{}' completions bash)\"; COMP_WORDS=(\"$@\"); COMP_CWORD=$(($# - 1)); _bobbincrag; printf '%s\\n' \"${{COMPREPLY[@]}}\"", common::COMMAND);
     let output = Command::new("bash").args(["-c", &script, "bash"]).args(words).output().unwrap();
     assert_eq!(String::from_utf8_lossy(&output.stderr), "");
     String::from_utf8(output.stdout).unwrap().lines().filter(|l| !l.is_empty()).map(String::from).collect()
@@ -158,7 +206,7 @@ fn offered(words: &[&str]) -> Vec<String> {
 #[test]
 fn completions() {
     assert_eq!(offered(&["bobbincrag", ""]), [&COMMANDS[..], &["--help", "--version"]].concat());
-    assert_eq!(offered(&["bobbincrag", "c"]), ["check", "census", "completions"]);
+    assert_eq!(offered(&["bobbincrag", "c"]), ["check", "cues", "census", "completions"]);
     assert_eq!(offered(&["bobbincrag", "retime", "--su"]), ["--subs"]);
     assert_eq!(offered(&["bobbincrag", "delay", "--kind", "s"]), ["srt"]);
     assert!(offered(&["bobbincrag", "retime", "--sheet", "x"]).is_empty());

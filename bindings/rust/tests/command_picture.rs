@@ -68,9 +68,9 @@ fn drawn(ran: &Ran) -> &str {
 /// Every caption of `before` in a picture: with its line and times, and with those of `after`, the retimed text, where it is there.
 fn told(kind: Kind, picture: &str, before: &[u8], after: &[u8]) -> usize {
     let titles = inside(picture, "title");
-    let mut kept = captions::read(kind, after).into_iter().peekable();
+    let mut kept = captions::read(kind, after).unwrap().captions.into_iter().peekable();
     let mut dropped = 0;
-    for caption in captions::read(kind, before) {
+    for caption in captions::read(kind, before).unwrap().captions {
         let head = format!("line {}: {}, ", caption.line, times(kind, &caption));
         let told = titles.iter().find(|t| t.starts_with(&head)).unwrap_or_else(|| panic!("no {head}"));
         let words = caption.words().replace('&', "&amp;").replace('<', "&lt;").replace('>', "&gt;").replace('"', "&quot;");

@@ -25,7 +25,7 @@ fn a_map() {
     assert!(text.ends_with("      \"duration\": 4004\n    }\n  ]\n}\n"));
     assert_eq!(run(&["map", "--map", &json]).out, read(&file("crates/mapper/stdout")));
     assert_eq!(run(&["map", "--map", &json, "--json", "a.mp4"]).text(), text);
-    run(&["map", "--sheet", &sheet, "--json", &"a".repeat(1025)]).fails(1, &["refused 16: an argument is out of range, or a lent buffer too short"]);
+    run(&["map", "--sheet", &sheet, "--json", &"a".repeat(1025)]).fails(1, &["refused 16: an argument is out of range, or a lent buffer too short (the path has 1025 bytes, at most 1,024 can stand there)"]);
     run(&["map", "--sheet", &sheet, "--json", ""]).fails(2, &["bobbincrag map: --json needs PATH"]);
     run(&["map", "--sheet", &json, "-o", &json]).fails(2, &[&format!("bobbincrag map: {json} is read, and would be lost: write to another file")]);
 }
@@ -79,13 +79,15 @@ fn why_of_a_text() {
     let ask = |more: &[&str]| run(&[&["why", "--sheet", &sheet, "--list", &list, "--subs", &subs], more].concat());
     let (one, two) = ("segment 1 of 2 (00:00:00,000 to 00:00:00,101 of the recording, 00:00:00,000 to 00:00:00,101 of the cut)", "segment 2 of 2 (00:00:00,200 to 00:00:00,334 of the recording, 00:00:00,100 to 00:00:00,234 of the cut)");
     let gone = format!("{subs}:6: 00:00:00,120 to 00:00:00,200: \"Gone now\"\n  dropped: it meets no kept segment\n    {one} ends at or before the caption's start\n    {two} starts at or after the caption's end\n");
-    let short = format!("{subs}:11: 00:00:00.050 to 00:00:00.250: \"Short\"\n  kept in {}, at its end 4497 ticks (00:00:00.150) cut off\n", one.replace(',', ".").replace(". ", ", "));
+    let short = format!("{subs}:11: 00:00:00,050 to 00:00:00,250: \"Short\"\n  kept in {one}, at its end 4497 ticks (00:00:00,150) cut off\n");
     let ran = ask(&[]);
     assert_eq!((ran.status, ran.text()), (0, &*format!("{gone}{short}")), "{}", ran.err);
     assert_eq!(ask(&["--line", "6"]).text(), gone);
     assert_eq!(ask(&["--line", "8"]).text(), gone);
     assert_eq!(ask(&["--line", "2"]).text(), format!("{subs}:2: 00:00:00,210 to 00:00:00,250: \"kept\"\n  kept in {two}\n"));
     ask(&["--line", "1"]).fails(1, &[&format!("no caption stands at line 1 of {subs}")]);
+    assert_eq!(ask(&["--line", "12"]).text(), short);
+    ask(&["--line", "13"]).fails(1, &[&format!("no caption stands at line 13: {subs} has 12 lines")]);
     ask(&["--line", "0"]).fails(2, &["bobbincrag why: --line is a line, counted from 1"]);
     ask(&["0:0:1", "0:0:2"]).fails(2, &["bobbincrag why: it takes START and END, or --subs, not both"]);
     let whole = run(&["why", "--sheet", &sheet, "--subs", &subs]);
@@ -101,6 +103,7 @@ fn why_usage() {
     run_play("why", &["--kind", "ass", "0:00:01.00", "0:00:02.00", "--line", "2"]).fails(2, &["bobbincrag why: --line names a caption of --subs"]);
     run_play("why", &["--kind", "ass", "0:60:01.00", "0:00:02.00"]).fails(1, &["refused 22: a caption's time can't be read (0:60:01.00)"]);
     assert_eq!(run_play("why", &["--kind", "ass", "9999:59:59.99", "9999:59:59.99"]).status, 0);
+    run_play("why", &["--kind", "srt", "0:0:1,0", "0:0:2,0 --> 0:0:3,0"]).fails(1, &["refused 22: a caption's time can't be read (0:0:2,0 --> 0:0:3,0)"]);
 }
 
 #[test]
@@ -125,7 +128,7 @@ fn the_census() {
         assert_eq!(run_play("census", &[length, span]).status, 2, "{length} {span}");
     }
     for length in ["100:00:00.01", "99999999999999999999", "9999999999999999:00"] {
-        run_play("census", &[length, "1"]).fails(1, &["refused 16: an argument is out of range, or a lent buffer too short"]);
+        run_play("census", &[length, "1"]).fails(1, &["refused 16: an argument is out of range, or a lent buffer too short (LENGTH and SPAN are at most 100:00:00)"]);
     }
     run_play("census", &["2"]).fails(2, &["bobbincrag census: it takes LENGTH and SPAN, which are times: 2.5, 1:30, 1:00:00"]);
     run_play("census", &["2", "3", "4"]).fails(2, &["bobbincrag census: 4 is one word too many"]);
@@ -144,10 +147,10 @@ fn the_delay() {
     assert_eq!(ask(&[]).text(), "Of 12001 shifts tried, -0.02 s loses fewest: 0 of 1 captions. No shift at all loses fewer than 0.\n");
     assert_eq!(ask(&["--budget", "3"]).text(), "Of 3 shifts tried, +0.00 s loses fewest: 1 of 1 captions. No shift at all loses fewer than 0.\n");
     let none = "more than 4,096 captions are to be shifted, or no shift is to be tried";
-    ask(&["--budget", "0"]).fails(1, &[&format!("refused 29: {none} ({subs})")]);
+    ask(&["--budget", "0"]).fails(1, &[&format!("refused 29: {none} ({subs}: say --budget 1 or more)")]);
     ask(&["--budget", "x"]).fails(2, &["bobbincrag delay: --budget is how many shifts to try"]);
     let many = "00:00.000 --> 00:00.010\n\n".repeat(4_097);
     let many = folder.write("many.vtt", format!("WEBVTT\n\n{many}"));
-    run(&["delay", "--sheet", &sheet, "--subs", &many]).fails(1, &[&format!("refused 29: {none} ({many})")]);
+    run(&["delay", "--sheet", &sheet, "--subs", &many]).fails(1, &[&format!("refused 29: {none} ({many}: it has 4097 captions, and 4096 at most can be shifted: split it in 2 files)")]);
     run(&["delay", "--sheet", &sheet]).fails(2, &["bobbincrag delay: name the captions with --subs"]);
 }

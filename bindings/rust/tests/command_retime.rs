@@ -130,9 +130,9 @@ fn the_table() {
     let four = "the end was cut off, and a kept stretch further on has a part of the same caption";
     let three = "the start was cut off, and the caption has tags that count from its start (fades, moves, karaoke)";
     let two = "an ASS caption passed unchanged: it has fewer fields than the Format line";
-    let told = format!("{subs}:3: warning 4: {four}: \"one\"\n{subs}:6: warning 3: {three}: \"four\"\n{subs}:7: warning 2: {two}: \"five\"\n{subs}: 1 shifted, 2 clipped, 1 dropped, 1 passed\n");
+    let told = format!("{subs}:3: warning 4: {four}: \"one\"\n{subs}:6: warning 3: {three}: \"four\"\n{subs}:7: warning 2: {two}: \"Dialogue: five\"\n{subs}: 1 shifted, 2 clipped, 1 dropped, 1 passed\n");
     assert_eq!(ran.err, told);
-    let table = format!("{subs}\t3\t4\t{four}\tone\n{subs}\t6\t3\t{three}\tfour\n{subs}\t7\t2\t{two}\tfive\n");
+    let table = format!("{subs}\t3\t4\t{four}\tone\n{subs}\t6\t3\t{three}\tfour\n{subs}\t7\t2\t{two}\tDialogue: five\n");
     assert_eq!(String::from_utf8(folder.read("warnings.tsv")).unwrap(), table);
 }
 
@@ -187,7 +187,7 @@ fn refused_texts() {
     let wide: Vec<u8> = [0xFEFF].into_iter().chain("1\r\n".encode_utf16()).flat_map(u16::to_le_bytes).collect();
     let wide = folder.write("wide.srt", wide);
     let ran = run_play("retime", &["--subs", &wide]);
-    assert!(ran.fails(1, &[]).err.starts_with(&format!("{bytes} ({wide}, line 1: ")) && ran.err.ends_with("(this is UTF-16: save it as UTF-8))\n"), "{}", ran.err);
+    assert!(ran.fails(1, &[]).err.starts_with(&format!("{bytes} ({wide}, line 1: ")) && ran.err.contains("(this is UTF-16: save it as UTF-8))\n"), "{}", ran.err);
     let empty = folder.write("empty.vtt", "");
     run_play("retime", &["--subs", &empty]).fails(1, &[&format!("refused 24: the WebVTT captions do not begin with the line WEBVTT ({empty}, line 1: \"\")")]);
 }

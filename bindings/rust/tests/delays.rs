@@ -7,7 +7,7 @@ fn map(rows: &[(u64, u64, u64)]) -> Vec<u64> {
 
 /// The delay through a map of these numbers.
 fn best_delay(numbers: &[u64], timescale: u32, kind: Kind, captions: &[[u64; 2]], budget: u32) -> Result<BestDelay, Refused> {
-    retimer::best_delay(&Map { timescale, numbers: numbers.to_vec() }, kind, captions, budget)
+    retimer::best_delay(&Map::from_numbers(timescale, numbers.to_vec()), kind, captions, budget)
 }
 
 fn found(delay: i64, loss: u32, tried: u32, off: u32) -> BestDelay {

@@ -71,10 +71,7 @@ fn cuts() {
     assert!(told("Trim(0,9) ++ Trim(20,29)", Direction::Outward).is_empty());
     assert_eq!(
         told("Trim(0,12) ++ Trim(15,20) ++ Trim(40,45)\n++ Trim(46,47)", Direction::Outward),
-        [
-            "8: entry 2, line 1: Trim(15,20), which becomes frames 10 to 29; entry 1, Trim(0,12), becomes frames 0 to 19",
-            "8: entry 4, line 2: Trim(46,47), which becomes frames 40 to 49; entry 3, Trim(40,45), becomes frames 40 to 49",
-        ]
+        ["8: entry 2, line 1: Trim(15,20), which becomes frames 10 to 29; entry 1, Trim(0,12), becomes frames 0 to 19", "8: entry 4, line 2: Trim(46,47), which becomes frames 40 to 49; entry 3, Trim(40,45), becomes frames 40 to 49",]
     );
     assert_eq!(told("Trim(0,12) ++ Trim(22,23) ++ Trim(31,32)", Direction::Inward), ["9: entry 2, line 1: Trim(22,23)", "9: entry 3, line 1: Trim(31,32)"]);
     let none = common::sheet(10, 100);

@@ -87,7 +87,7 @@ fn the_sides_of_a_small_play() {
     let times = [(150, 750), (3600, 6000), (6300, 7500), (6000, 6300)];
     let all: Vec<Drawn> = times.iter().zip(1..).map(|(&(a, b), n)| through(n, a, b, &map, "words")).collect();
     let text = draw(300, 10010, &map, &all);
-    assert!(text.contains("Of 4 captions </tspan><tspan class=\"bd\">1 is dropped</tspan>, 2 shifted, 1 clipped, 0 passed unchanged; 0 are warned of."), "{text}");
+    assert!(text.contains("Of 4 captions </tspan><a href=\"#vanished\"><tspan class=\"bd\">1 is dropped</tspan></a>, <a href=\"#others\">2 shifted, 1 clipped, 0 passed unchanged; 0 are warned of.</a>"), "{text}");
     assert!(text.contains("<title>line 2: 0:00:12.00 – 0:00:20.00, dropped: words</title>"));
     assert!(text.contains("<title>line 3: 0:00:21.00 – 0:00:25.00, shifted to 0:00:10.99 – 0:00:14.99 of the cut: words</title>"));
     assert_eq!(dropped(&text), (1, 0));
@@ -216,4 +216,64 @@ fn three_hours_and_seven_thousand_captions() {
     assert!(lost > 1100 && alone == lost && in_blocks == 0, "{lost} {alone} {in_blocks}");
     assert!(text.contains(&format!(">and {} more</text>", lost - 1000)));
     assert!(text.len() < 4 << 20, "{}", text.len());
+}
+
+/// Counts lead to the lists, which have the names that they lead to; where a list is empty, nothing leads there.
+#[test]
+fn counts_lead_to_the_lists() {
+    let map = [stretch(0, 0, 300)];
+    let lost = draw(100, 1000, &map, &[through(1, 400, 500, &map, "gone")]);
+    assert_eq!((lost.matches("href=\"#vanished\"").count(), lost.matches("id=\"vanished\"").count(), lost.matches("#others").count()), (1, 1, 0));
+    let kept = draw(100, 1000, &map, &[through(1, 100, 200, &map, "kept")]);
+    assert!(!kept.contains("href="));
+    assert!(kept.starts_with("<svg xmlns=\"http://www.w3.org/2000/svg\" role=\"img\" "));
+    // a long play has an overview, which leads there too
+    let all: Vec<Drawn> = (0..200).map(|k| through(k + 1, 1_000 * k, 1_000 * k + 900, &[stretch(20_000, 0, 60_000)], "x")).collect();
+    let long = draw(100, 200_000, &[stretch(20_000, 0, 60_000)], &all);
+    assert_eq!(long.matches("<a href=\"#vanished\">").count(), 2);
+}
+
+/// The legend has what occurs, and no more.
+#[test]
+fn the_legend_has_what_occurs() {
+    let names = ["kept stretch", "cut away", "shifted: kept whole", "clipped: the dashed part is lost", "dropped: nothing is kept", "passed unchanged", "warned, with its number"];
+    let there = |map: &[Stretch], captions: &[Drawn]| {
+        let text = draw(100, 1000, map, captions);
+        names.map(|name| text.contains(&format!(">{name}</text>")))
+    };
+    let whole = [stretch(0, 0, 600), stretch(600, 600, 400)];
+    assert_eq!(there(&whole, &[through(1, 10, 90, &whole, "")]), [true, false, true, false, false, false, false]);
+    let half = [stretch(0, 0, 500)];
+    assert_eq!(there(&half, &[through(1, 400, 600, &half, "")]), [true, true, false, true, false, false, false]);
+    let warned = Drawn { warnings: vec![2], fate: Fate::Passed, new: None, ..through(1, 400, 600, &half, "") };
+    assert_eq!(there(&[], &[through(1, 1, 2, &[], ""), warned]), [false, true, false, false, true, true, true]);
+}
+
+/// Rows of a long play in which all is merely shifted are one line, which says how many captions; those with something else stay.
+#[test]
+fn quiet_rows_are_one_line() {
+    let map = [stretch(0, 0, 100_000), stretch(120_000, 100_000, 80_000)];
+    let all: Vec<Drawn> = (0..200).map(|k| through(k + 1, 1_000 * k, 1_000 * k + 900, &map, "words")).collect();
+    let text = draw(100, 200_000, &map, &all);
+    let folded: Vec<usize> = text.split(" of the cut, ").skip(1).filter_map(|t| t.split_once(" captions shifted").and_then(|(n, _)| n.parse().ok())).collect();
+    assert_eq!(folded.len(), 2, "{folded:?}");
+    let drawn = text.matches(", shifted to ").count();
+    assert!(folded.iter().sum::<usize>() + drawn >= 180 && folded.iter().all(|n| *n > 20), "{folded:?} {drawn}");
+    assert_eq!(dropped(&text), (20, 0));
+    // warned of, a caption keeps its row
+    let mut one = all;
+    one[50].warnings = vec![3];
+    assert!(draw(100, 200_000, &map, &one).contains("<title>line 51: "));
+    assert!(!text.contains("<title>line 51: "));
+}
+
+/// Edges of stretches are rounded outward, as `why` has them.
+#[test]
+fn edges_are_rounded_outward() {
+    // 0.10001 s to 90.00001 s of the recording, at 0 of the cut
+    let map = [stretch(10_001, 0, 8_990_000)];
+    let text = draw(100_000, 10_000_000, &map, &[through(1, 1_000_000, 1_200_000, &map, "")]);
+    for time in ["0:00:00.10", "0:01:30.01", "0:01:29.90"] {
+        assert!(text.contains(&format!(">{time}</text>")), "{time} {text}");
+    }
 }

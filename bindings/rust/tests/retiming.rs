@@ -64,7 +64,7 @@ fn maps() {
     assert_eq!((timescale, count), (7, 7));
     assert!(map.iter().all(|&n| n == 7));
     assert_eq!(raw::map_of(&sheet, &read("ass", "trim.txt"), 0, &mut work, &mut map, &mut timescale, &mut count), 0);
-    assert_eq!((timescale, &map[..6 * count as usize]), (play("ass").timescale, &play("ass").numbers[..]));
+    assert_eq!((timescale, &map[..6 * count as usize]), (play("ass").timescale(), play("ass").numbers()));
     assert!(map[6 * count as usize..].iter().all(|&n| n == 7));
 }
 
@@ -79,14 +79,14 @@ struct Lent {
 impl Lent {
     fn new(map: &Map) -> Lent {
         let mut session = vec![9; SESSION_BYTES + 3];
-        assert_eq!(raw::open(1, map.timescale, &map.numbers, &mut session), 0);
+        assert_eq!(raw::open(1, map.timescale(), map.numbers(), &mut session), 0);
         assert_eq!(session[SESSION_BYTES..], [9; 3]);
         session.truncate(SESSION_BYTES);
         Lent { session, out: vec![9; LEAST_OUTPUT], places: vec![9; LEAST_PLACES], written: 9, warned: 9 }
     }
 
     fn feed(&mut self, map: &Map, piece: &[u8]) -> u32 {
-        raw::feed(&mut self.session, &map.numbers, piece, &mut self.out, &mut self.places, &mut self.written, &mut self.warned)
+        raw::feed(&mut self.session, map.numbers(), piece, &mut self.out, &mut self.places, &mut self.written, &mut self.warned)
     }
 
     /// Nothing was written and nothing was told, and the session is as it was.
@@ -102,7 +102,7 @@ fn refused_calls_write_nothing() {
     let map = play("srt");
     let mut lent = Lent::new(&map);
     let fresh = lent.session.clone();
-    let bad = Map { timescale: 1, numbers: vec![0; 5] };
+    let bad = Map::from_numbers(1, vec![0; 5]);
     assert_eq!(lent.feed(&bad, b"1"), 15);
     lent.untouched(&fresh);
     assert_eq!(lent.feed(&map, &[b'1'; 1025]), 16);
@@ -123,9 +123,9 @@ fn refused_calls_write_nothing() {
     assert_eq!(short.feed(&map, b"1"), 27);
     short.untouched(&fresh[..SESSION_BYTES - 1]);
     let mut none = vec![9; SESSION_BYTES - 1];
-    assert_eq!(raw::open(1, map.timescale, &map.numbers, &mut none), 16);
-    assert_eq!(raw::open(3, map.timescale, &map.numbers, &mut none), 16);
-    assert_eq!(raw::open(3, 0, &map.numbers, &mut none), 15);
+    assert_eq!(raw::open(1, map.timescale(), map.numbers(), &mut none), 16);
+    assert_eq!(raw::open(3, map.timescale(), map.numbers(), &mut none), 16);
+    assert_eq!(raw::open(3, 0, map.numbers(), &mut none), 15);
     assert!(none.iter().all(|&b| b == 9));
 }
 
@@ -139,7 +139,7 @@ fn forge(session: &mut [u8], word: usize, value: u32) {
 /// A session forged within 17's limits: the call that takes it out of them answers and writes as ever, the next one is 17.
 #[test]
 fn forged_within_the_limits() {
-    let map = Map { timescale: 1000, numbers: vec![0, 100, 0, 100, 0, 100_000] };
+    let map = Map::from_numbers(1000, vec![0, 100, 0, 100, 0, 100_000]);
     let mut lent = Lent::new(&map);
     assert_eq!(lent.feed(&map, b"1\n00:00:01,000 --> 00:00:02,000\nA\n"), 0);
     assert_eq!((lent.written, lent.warned), (0, 0));
@@ -147,7 +147,7 @@ fn forged_within_the_limits() {
     for word in 8..=10 {
         forge(&mut lent.session, word, taken);
     }
-    assert_eq!(raw::finish(&mut lent.session, &map.numbers, &mut lent.out, &mut lent.places, &mut lent.written, &mut lent.warned), 0);
+    assert_eq!(raw::finish(&mut lent.session, map.numbers(), &mut lent.out, &mut lent.places, &mut lent.written, &mut lent.warned), 0);
     assert!(lent.out[..lent.written as usize].starts_with(b"1\n00:00:01,000 --> 00:00:02,000\n"));
     let (after, written) = (lent.session.clone(), lent.written);
     assert_eq!(lent.feed(&map, b"1"), 17);
@@ -179,7 +179,7 @@ fn a_fault_has_its_place() {
     let texts: [(Kind, &[u8], u32, u64, &str); 7] = [
         (Kind::Srt, "\u{FEFF}1\n00:00:01,000 --> 00:00:02,000\nA\n\n\n2\n00:00:60,000 --> 00:00:02,000\n<i>B</i>\nC".as_bytes(), 22, 7, "00:00:60,000 --> 00:00:02,000 B C"),
         (Kind::Vtt, b"WEBVTT\n\n00:01.000 --> 00:02.000\nA\n\nx\n0:01.000 --> 00:02.000\nB\n\nC\n", 22, 7, "0:01.000 --> 00:02.000 B"),
-        (Kind::Ass, b"[Events]\nFormat: Start,End,Text\nDialogue: 0:00:01.00,0:00:02.00,A\nDialogue: 0:00:01.00,0:00:02,{\\b1}B,\\NC\n", 22, 4, "0:00:01.00 --> 0:00:02 B, C"),
+        (Kind::Ass, b"[Events]\nFormat: Start,End,Text\nDialogue: 0:00:01.00,0:00:02.00,A\nDialogue: 0:00:01.00,0:00:02,{\\b1}B,\\NC\n", 22, 4, "Dialogue: 0:00:01.00,0:00:02,B, C"),
         (Kind::Srt, b"1\n00:00:01,000 --> 00:00:02,000\nCaf\xe9\n\n", 20, 3, "Caf\u{FFFD}"),
         (Kind::Ass, long.as_bytes(), 19, 2, &format!("{}..", "x".repeat(60))),
         (Kind::Vtt, b"WEBVTT2\n", 24, 1, "WEBVTT2"),
@@ -243,7 +243,7 @@ fn three_hours() {
     let list: Vec<String> = (0..30).map(|k| format!("Trim({},{})", 10_800 * k, 10_800 * k + 8_099)).collect();
     let map = Map::new(&sheet(324_000), list.join("++").as_bytes(), Direction::Outward).unwrap();
     let expected: Vec<u64> = (0..30u64).flat_map(|k| [10_800 * k, 10_800 * k + 8_100, 10_800 * 1001 * k, 8_100, 8_100 * 1001 * k, 8_100 * 1001]).collect();
-    assert_eq!((map.timescale, &map.numbers), (30_000, &expected));
+    assert_eq!((map.timescale(), map.numbers()), (30_000, &expected[..]));
     let (mut text, mut moved) = (String::new(), String::new());
     for k in 0..30u64 {
         let (start, end) = (360_360 * k + 1_234, 360_360 * k + 5_678);

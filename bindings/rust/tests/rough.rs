@@ -7,7 +7,7 @@ const MAP: [u64; 12] = [0, 3, 0, 3, 0, 3003, 6, 10, 6006, 4, 3003, 4004];
 
 /// What is sure through a map of these numbers.
 fn rough(numbers: &[u64], start: RangeInclusive<u64>, end: RangeInclusive<u64>) -> Result<Judgement, Refused> {
-    retimer::rough(&Map { timescale: 30_000, numbers: numbers.to_vec() }, start, end)
+    retimer::rough(&Map::from_numbers(30_000, numbers.to_vec()), start, end)
 }
 
 /// The first segment of positive length that ends after `a` and starts before `b`.

@@ -7,7 +7,7 @@ fn map(rows: &[(u64, u64, u64)]) -> Vec<u64> {
 
 /// How starts fare through a map of these numbers.
 fn census(numbers: &[u64], timescale: u32, kind: Kind, length: u64, count: u64) -> Result<Starts, Refused> {
-    retimer::census(&Map { timescale, numbers: numbers.to_vec() }, kind, length, count)
+    retimer::census(&Map::from_numbers(timescale, numbers.to_vec()), kind, length, count)
 }
 
 fn starts(shifted: u64, clipped: u64, dropped: u64) -> Starts {

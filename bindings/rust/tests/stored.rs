@@ -7,7 +7,7 @@ type Stored = (Map, About);
 
 /// Document 01's worked map, as the cutter stores it.
 fn worked() -> Stored {
-    let map = Map { timescale: 30000, numbers: vec![0, 3, 0, 3, 0, 3003, 6, 10, 6006, 4, 3003, 4004] };
+    let map = Map::from_numbers(30000, vec![0, 3, 0, 3, 0, 3003, 6, 10, 6006, 4, 3003, 4004]);
     (map, About { rate: (30000, 1001), frames: 10, input: "a\u{7f}/\"\u{1f}é.mp4".into() })
 }
 
@@ -21,7 +21,7 @@ const TEXT: &str = "{\n  \"video_timescale\": 30000,\n  \"frame_rate_num\": 3000
 fn written_and_read() {
     assert_eq!(written(&worked()).as_deref(), Ok(TEXT));
     assert_eq!(Map::from_json(TEXT.as_bytes()), Ok(worked()));
-    let empty = (Map { timescale: 30000, numbers: vec![] }, worked().1);
+    let empty = (Map::from_numbers(30000, vec![]), worked().1);
     let text = written(&empty).unwrap();
     assert!(text.ends_with("\"segments\": []\n}\n"));
     assert_eq!(Map::from_json(text.as_bytes()), Ok(empty));
@@ -30,7 +30,7 @@ fn written_and_read() {
 /// The longest text: every number has its most digits, and a path of bytes that are each six long.
 fn longest() -> Stored {
     let (frame, tick) = (u64::from(u32::MAX), 1u64 << 52);
-    let map = Map { timescale: 1_000_000_000, numbers: [frame, frame, tick, frame, tick, tick].repeat(1024) };
+    let map = Map::from_numbers(1_000_000_000, [frame, frame, tick, frame, tick, tick].repeat(1024));
     (map, About { rate: (u32::MAX, u32::MAX), frames: u32::MAX, input: "\u{1}".repeat(1024) })
 }
 
@@ -45,12 +45,12 @@ fn longest_text() {
 fn writer_refuses() {
     let (map, about) = worked();
     let long = About { input: "a".repeat(1025), ..about.clone() };
-    let of = |numbers: Vec<u64>| Map { timescale: 30000, numbers };
-    assert_eq!(written(&(Map { timescale: 0, ..map.clone() }, long.clone())), Err(Refused(15)));
+    let of = |numbers: Vec<u64>| Map::from_numbers(30000, numbers);
+    assert_eq!(written(&(Map::from_numbers(0, map.numbers().to_vec()), long.clone())), Err(Refused(15)));
     assert_eq!(written(&(of(vec![0; 5]), about.clone())), Err(Refused(15)));
     assert_eq!(written(&(of(vec![1 << 32, 0, 0, 0, 0, 0]), about.clone())), Err(Refused(15)));
     assert_eq!(written(&(map.clone(), long)), Err(Refused(16)));
-    let ask = |path: &[u8], text: &mut [u8]| map_write(&map.numbers, map.timescale, (30000, 1001), path, about.frames, text);
+    let ask = |path: &[u8], text: &mut [u8]| map_write(map.numbers(), map.timescale(), (30000, 1001), path, about.frames, text);
     let mut text = vec![7; TEXT.len() + 3];
     assert_eq!(ask(&[0xff; 1025], &mut text), Err(Refused(16)));
     assert_eq!(ask(&[0xff], &mut []), Err(Refused(20)));

@@ -6,7 +6,7 @@ const MAP: [u64; 12] = [0, 3, 0, 3, 0, 3003, 6, 10, 6006, 4, 3003, 4004];
 
 /// The reason through a map of these numbers.
 fn why(numbers: &[u64], timescale: u32, kind: Kind, start: u64, stop: u64) -> Result<Fate, Refused> {
-    retimer::why(&Map { timescale, numbers: numbers.to_vec() }, kind, start, stop)
+    retimer::why(&Map::from_numbers(timescale, numbers.to_vec()), kind, start, stop)
 }
 
 fn kept(place: usize, start_cut: u64, end_cut: u64) -> Result<Fate, Refused> {

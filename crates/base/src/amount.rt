@@ -1,7 +1,7 @@
 // The larger and the smaller of two numbers, one less another, and what an answer leaves in a place.
 ghost use mathlib.Core.Path.{_≡_};
 ghost use Prim.Native.Nat.{_-_, min, max};
-ghost use Rattle.base.specs.Refusal.{leftIn};
+ghost use Rattle.spec_base.specs.base.Refusal.{leftIn};
 
 pub fn larger(a: u64, b: u64) -> u64
     ensures { λ r. ⌜ r ≡ max a b ⌝ }

@@ -2,7 +2,7 @@
 ghost use mathlib.Core.Path.{_≡_};
 ghost use Prim.Native.Nat.{_-_};
 ghost use lib.ListN.{getD, take, drop};
-ghost use Rattle.base.specs.Part.{last};
+ghost use Rattle.spec_base.specs.base.Part.{last};
 
 // The byte at `k`, or 0 past the end.
 pub fn byte(s: &[u8], k: usize) -> u8

@@ -1,7 +1,7 @@
 // Writers that lend the tail of an output on: the whole piece, or nothing and the place unchanged.
 ghost use mathlib.Core.Path.{_≡_};
 ghost use mathlib.Core.List.{[], _∷_};
-ghost use Rattle.base.specs.Put.{placed, placedLength, placedAt, placeAfter};
+ghost use Rattle.spec_base.specs.base.Put.{placed, placedLength, placedAt, placeAfter};
 
 // Writes `s` to the start of `out`, the rest of the output, and answers its length; where it does not fit, nothing and 0.
 pub fn bytes(out: &mut [u8], s: &[u8]) -> usize

@@ -5,26 +5,26 @@ use mathlib.Core.Bool.{false}
 use mathlib.Core.List.{List, []}
 use Prim.Native.Nat.{ℕ}
 use lib.ListN.{length}
-use Rattle.base.specs.Limits.{mostWork}
+use Rattle.spec_base.specs.base.Limits.{mostWork}
 use Rattle.sheet_vectors.specs.Small.{smallSheet}
-use Rattle.time.specs.Kind.{kindBad}
-use Rattle.segment.specs.Segment.{flatOf, segmentsOf}
-use Rattle.segmap.specs.Map.{Map}
-use Rattle.columns.specs.declared.layout.Columns.{Columns}
+use Rattle.spec_caption.specs.caption_time.Kind.{kindBad}
+use Rattle.spec_map.specs.segment.Segment.{flatOf, segmentsOf}
+use Rattle.spec_map.specs.segmap.Map.{Map}
+use Rattle.spec_format.specs.declared.ass_columns.Columns.{Columns}
 use Rattle.table.specs.Example.{theList, theMap, setting}
 use Rattle.table.proofs.TheMap.{map-is}
-use Rattle.machine.specs.Session as model
-use Rattle.machine.specs.Session.{Call, fresh, openSession}
-use Rattle.machine.specs.Calls.{newReader, hear, readingOf}
-use Rattle.machine.proofs.Numbers.{opened as opened-good, opens-fresh}
-use Rattle.kinds.specs.Kit.{kit}
-use Rattle.foreign.specs.View.{stored}
-use Rattle.session.specs.Answer.{OpenAnswered, openOf}
+use Rattle.spec_session.specs.session_counts.Session as model
+use Rattle.spec_session.specs.session_counts.Session.{Call, fresh, openSession}
+use Rattle.spec_session.specs.session_counts.Calls.{newReader, hear, readingOf}
+use Rattle.spec_session.proofs.session_counts.Numbers.{opened as opened-good, opens-fresh}
+use Rattle.spec_session.specs.kinds.Kit.{kit}
+use Rattle.spec_session.specs.session_state.View.{stored}
+use Rattle.spec_session.specs.session.Answer.{OpenAnswered, openOf}
 use Rattle.promise.specs.Plain.{plainRead}
 use Rattle.promise.specs.Demand.{AllRight, Demand, heard}
 use Rattle.promise.specs.Runs.{Made, callsOf, outcome}
 use Rattle.promise.specs.Promise.{configOf}
-use Rattle.promise.proofs.ThePromise.{built-opens, promise}
+use Rattle.promise.proofs.TheDemand.{built-opens, demand-built}
 use Rattle.example.specs.Worked.{lentMap, plainMap, openAnswer, four, fourCalls, madeCalls, toldBy, readBy, plainFour}
 use Rattle.example.proofs.RunsExist.{made-ran}
 
@@ -57,7 +57,7 @@ module _ (kind : ℕ) (k : kindBad kind ≡ false) (first rest out short places 
   -- the premises are met, and demand 3 holds of the list
   pub demanded : Demand (configOf kind (theMap .timescale)) lentMap (callsOf calls) (outcome (openAnswer kind .session) calls)
   demanded =
-      promise smallSheet theList 0 6144 mostWork kind map-number k (openAnswer kind) (opens kind k) .kept calls
+      demand-built smallSheet theList 0 6144 mostWork kind map-number k (openAnswer kind) (opens kind k) .kept calls
       (inl refl, (inl refl, (inl refl, (inl refl, tt))))
       (made-ran (openAnswer kind .session) (four lentMap first rest out short places))
 

@@ -1,16 +1,16 @@
 -- Every list of calls has a run from every session: the contracts say all of each result.
 use mathlib.Core.Path.{refl}
 use mathlib.Core.List.{List, [], _∷_}
-use Rattle.foreign.specs.declared.holding.Session.{Session}
-use Rattle.session.specs.Answer.{nextOf}
+use Rattle.spec_session.specs.declared.session_state.Session.{Session}
+use Rattle.spec_session.specs.session.Answer.{nextOf}
 use Rattle.promise.specs.Runs.{Met, Ran}
 use Rattle.example.specs.Calls.{Asked, feeding, finishing, askedCall, madeBy, makes}
 
 made-met : (s : Session) (a : Asked) → Met s (madeBy s a)
 made-met s (feeding m piece out places) =
-    record { number = refl; written = refl; warned = refl; session = refl; text = refl; warnings = refl }
+    ((refl, refl), record { number = refl; written = refl; warned = refl; session = refl; text = refl; warnings = refl })
 made-met s (finishing m out places) =
-    record { number = refl; written = refl; warned = refl; session = refl; text = refl; warnings = refl }
+    ((refl, refl), record { number = refl; written = refl; warned = refl; session = refl; text = refl; warnings = refl })
 
 pub made-ran : (s : Session) (asked : List Asked) → Ran s (makes s asked)
 made-ran s [] = tt

@@ -7,28 +7,28 @@ use mathlib.Core.List.{List, [], _∷_, _++_}
 use Prim.Native.Nat.{ℕ, _≤_}
 use lib.ListN.{length}
 use borrow.Author.Tests.{le-leb}
-use Rattle.base.specs.Limits.{mostWork}
-use Rattle.base.specs.Refusal.{_orElse_, faultUnless}
-use Rattle.base.proofs.RefusalLaws.{else-none}
+use Rattle.spec_base.specs.base.Limits.{mostWork}
+use Rattle.spec_base.specs.base.Refusal.{_orElse_, faultUnless}
+use Rattle.spec_base.proofs.base.RefusalLaws.{else-none}
 use Rattle.sheet_vectors.specs.Small.{smallSheet}
-use Rattle.segment.specs.Segment.{flatOf}
-use Rattle.segmap.specs.Map.{Map}
+use Rattle.spec_map.specs.segment.Segment.{flatOf}
+use Rattle.spec_map.specs.segmap.Map.{Map}
 use Rattle.table.specs.Example.{theList, theMap}
 use Rattle.table.proofs.TheMap.{map-is}
-use Rattle.machine.specs.Session.{Call, openSession}
-use Rattle.machine.specs.Calls.{newReader, hear}
-use Rattle.machine.proofs.Counted.{counted-by}
-use Rattle.kinds.specs.Kit.{kit}
-use Rattle.session.specs.Answer.{openOf}
-use Rattle.sealing.specs.Sealed.{sealedLength}
+use Rattle.spec_session.specs.session_counts.Session.{Call, openSession}
+use Rattle.spec_session.specs.session_counts.Calls.{newReader, hear}
+use Rattle.spec_session.proofs.session_counts.Counted.{counted-by}
+use Rattle.spec_session.specs.kinds.Kit.{kit}
+use Rattle.spec_session.specs.session.Answer.{openOf}
+use Rattle.spec_parking.specs.parked_blocks.Sealed.{sealedLength}
 use Rattle.promise.specs.Plain.{plainRead}
 use Rattle.promise.specs.Demand.{Demand, heard}
 use Rattle.promise.specs.Promise.{configOf}
-use Rattle.promise.proofs.ThePromise.{built-opens}
-use Rattle.kept.specs.Answer.{openNumber, bytesAfter}
-use Rattle.keptruns.specs.Kept.{KeptCall, keptCalls, KeptRan, keptOutcome}
-use Rattle.keptruns.proofs.Runs.{kept-promise}
-use Rattle.atonceruns.specs.Claims.{putThrough, TextHolds}
+use Rattle.promise.proofs.TheDemand.{built-opens}
+use Rattle.spec_parking.specs.session_bytes.Answer.{openNumber, bytesAfter}
+use Rattle.spec_runs.specs.keptruns.Kept.{KeptCall, keptCalls, KeptRan, keptOutcome}
+use Rattle.spec_runs.proofs.keptruns.Runs.{kept-promise}
+use Rattle.spec_runs.specs.atonceruns.Claims.{putThrough, TextHolds}
 use Rattle.example.specs.Calls.{Asked, feeding, finishing, askedCall}
 use Rattle.example.specs.Worked.{lentMap, four, fourCalls, toldBy, readBy}
 use Rattle.example.specs.Texts.{assFirst, assRest, assTold}
@@ -90,7 +90,7 @@ module _ (lent : List ℕ) (lent-long : sealedLength ≤ length lent) where
         ∙ ap (λ (x : Map). readBy 0 (record { number = 0; timescale = 30000; count = 2; segments = x .segments }) (hear (plainRead 0) newReader (fourCalls (flatOf (x .segments)) assFirst assRest 32768 32767 4096))) map-is
         ∙ ass-read
 
--- ---- the whole text in one call, where it is not refused (atonceruns/proofs/Text `text-promise`)
+-- ---- the whole text in one call, where it is not refused (spec_runs/proofs/atonceruns/Text `text-promise`)
 pub text-run : (k : ℕ) (out places told : List ℕ) → TextHolds 0 30000 lentMap (assFirst ++ assRest) k out places told → toldText k out places told ≡ inOne assTold
 text-run k out places told h =
     let t = assFirst ++ assRest in

@@ -2,12 +2,12 @@
 use mathlib.Core.List.{List, [], _∷_}
 use Prim.Native.Nat.{ℕ}
 use lib.ListN.{length}
-use Rattle.base.specs.Put.{put}
-use Rattle.event.specs.Emit.{outputOf, warningsOf, placesOf}
-use Rattle.machine.specs.Session.{Call}
-use Rattle.foreign.specs.declared.holding.Session.{Session}
-use Rattle.session.specs.declared.calling.Fed.{Fed}
-use Rattle.session.specs.Answer.{feedCall, finishCall, answerOf, nextOf}
+use Rattle.spec_base.specs.base.Put.{put}
+use Rattle.spec_caption.specs.caption_fate.Emit.{outputOf, warningsOf, placesOf}
+use Rattle.spec_session.specs.session_counts.Session.{Call}
+use Rattle.spec_session.specs.declared.session_state.Session.{Session}
+use Rattle.spec_session.specs.declared.session.Fed.{Fed}
+use Rattle.spec_session.specs.session.Answer.{feedCall, finishCall, answerOf, nextOf}
 use Rattle.promise.specs.Runs.{Made, fed, finished}
 
 -- what a caller lends: the map, the piece, the output and the places

@@ -3,12 +3,12 @@ use mathlib.Core.Bool.{true}
 use mathlib.Core.List.{List, [], _∷_}
 use Prim.Native.Nat.{ℕ}
 use lib.ListN.{length, getD}
-use Rattle.base.specs.Put.{put}
-use Rattle.machine.specs.Session.{Call}
-use Rattle.kept.specs.Answer.{callNumber, bytesAfter, textOut, placesIn, toldIn}
-use Rattle.keptruns.specs.Kept.{Left, KeptCall, fed, finished}
-use Rattle.keptruns.specs.Claims.{firstBytes}
-use Rattle.atonceruns.specs.Claims.{textTold, warningsTold}
+use Rattle.spec_base.specs.base.Put.{put}
+use Rattle.spec_session.specs.session_counts.Session.{Call}
+use Rattle.spec_parking.specs.session_bytes.Answer.{callNumber, bytesAfter, textOut, placesIn, toldIn}
+use Rattle.spec_runs.specs.keptruns.Kept.{Left, KeptCall, fed, finished}
+use Rattle.spec_runs.specs.keptruns.Claims.{firstBytes}
+use Rattle.spec_runs.specs.atonceruns.Claims.{textTold, warningsTold}
 use Rattle.example.specs.Calls.{Asked, feeding, finishing, askedCall}
 use Rattle.example.specs.Worked.{Told, lentMap, four}
 

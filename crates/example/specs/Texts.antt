@@ -2,9 +2,9 @@
 use mathlib.Core.Bool.{true, false}
 use mathlib.Core.List.{List, [], _∷_}
 use Prim.Native.Nat.{ℕ}
-use Rattle.base.specs.Ascii.{ascii}
-use Rattle.event.specs.Says.{bytes, start, stop, short, Cue, Part, stays, passes, cue}
-use Rattle.event.specs.Emit.{warning}
+use Rattle.spec_base.specs.base.Ascii.{ascii}
+use Rattle.spec_caption.specs.caption_fate.Says.{bytes, start, stop, short, Cue, Part, stays, passes, cue}
+use Rattle.spec_caption.specs.caption_fate.Emit.{warning}
 use Rattle.example.specs.Worked.{Told}
 
 -- ---- ASS; the last line has no terminator

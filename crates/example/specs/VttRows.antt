@@ -3,11 +3,11 @@ use mathlib.Core.Path.{_≡_}
 use mathlib.Core.Bool.{Bool, true, false}
 use mathlib.Core.List.{List, [], _∷_, _++_}
 use Prim.Native.Nat.{ℕ}
-use Rattle.base.specs.Ascii.{ascii}
-use Rattle.event.specs.Emit.{Warning, warning, emitsOf, outputOf, warningsOf}
-use Rattle.machine.specs.declared.counting.Counts.{Counts}
-use Rattle.machine.specs.Counts.{countsOf}
-use Rattle.machine.specs.Reader.{Reading}
+use Rattle.spec_base.specs.base.Ascii.{ascii}
+use Rattle.spec_caption.specs.caption_fate.Emit.{Warning, warning, emitsOf, outputOf, warningsOf}
+use Rattle.spec_session.specs.declared.session_counts.Counts.{Counts}
+use Rattle.spec_session.specs.session_counts.Counts.{countsOf}
+use Rattle.spec_session.specs.session_counts.Reader.{Reading}
 use Rattle.promise.specs.Plain.{plainRead}
 use Rattle.promise.specs.Promise.{configOf}
 use Rattle.example.specs.Worked.{plainMap}

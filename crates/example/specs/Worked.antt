@@ -4,19 +4,19 @@ use mathlib.Core.Bool.{Bool}
 use mathlib.Core.List.{List, [], _∷_}
 use Prim.Native.Nat.{ℕ}
 use lib.ListN.{length}
-use Rattle.segment.specs.Segment.{segment, flatOf}
-use Rattle.segmap.specs.Map.{Map}
-use Rattle.event.specs.Emit.{Warning, outputOf, warningsOf}
-use Rattle.columns.specs.declared.layout.Columns.{Columns}
+use Rattle.spec_map.specs.segment.Segment.{segment, flatOf}
+use Rattle.spec_map.specs.segmap.Map.{Map}
+use Rattle.spec_caption.specs.caption_fate.Emit.{Warning, outputOf, warningsOf}
+use Rattle.spec_format.specs.declared.ass_columns.Columns.{Columns}
 use Rattle.table.specs.Example.{theMap, setting}
-use Rattle.machine.specs.declared.counting.Counts.{Counts}
-use Rattle.machine.specs.Counts.{countsOf}
-use Rattle.machine.specs.Session.{Call, fresh}
-use Rattle.machine.specs.Calls.{Played, Heard, newReader, hear, readingOf, emitsIn}
-use Rattle.kinds.specs.Kit.{kit}
-use Rattle.foreign.specs.View.{stored}
-use Rattle.session.specs.declared.calling.Opened.{Opened}
-use Rattle.session.specs.Answer.{feedCall, finishCall}
+use Rattle.spec_session.specs.declared.session_counts.Counts.{Counts}
+use Rattle.spec_session.specs.session_counts.Counts.{countsOf}
+use Rattle.spec_session.specs.session_counts.Session.{Call, fresh}
+use Rattle.spec_session.specs.session_counts.Calls.{Played, Heard, newReader, hear, readingOf, emitsIn}
+use Rattle.spec_session.specs.kinds.Kit.{kit}
+use Rattle.spec_session.specs.session_state.View.{stored}
+use Rattle.spec_session.specs.declared.session.Opened.{Opened}
+use Rattle.spec_session.specs.session.Answer.{feedCall, finishCall}
 use Rattle.promise.specs.Plain.{plainRead}
 use Rattle.promise.specs.Runs.{Made}
 use Rattle.promise.specs.Promise.{configOf}

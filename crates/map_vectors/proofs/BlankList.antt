@@ -2,18 +2,18 @@
 use mathlib.Core.Path.{_≡_, refl}
 use mathlib.Core.List.{List, [], _∷_}
 use Prim.Native.Nat.{ℕ}
-use Rattle.base.specs.Part.{last}
-use Rattle.base.specs.Refusal.{_orElse_, faultUnless}
-use Rattle.utf8.specs.Utf8.{leadLen, secondLow, secondHigh, tail, widthBy, charWidth, codeBy, codeHead}
-use Rattle.white.specs.White.{whiteHigh, white, whiteHead, endsWhite, whiteTail, headFrom, keepFrom, trimHead, trimTail, trim}
-use Rattle.text.specs.Line.{blank}
-use Rattle.blocks.specs.Block.{wordAt}
-use Rattle.frames.specs.Frames.{framesOf, recordWord, decodeOf, syncOf, durationOf, longOf, ticksFrom}
+use Rattle.spec_base.specs.base.Part.{last}
+use Rattle.spec_base.specs.base.Refusal.{_orElse_, faultUnless}
+use Rattle.spec_text.specs.utf8.Utf8.{leadLen, secondLow, secondHigh, tail, widthBy, charWidth, codeBy, codeHead}
+use Rattle.spec_text.specs.whitespace.White.{whiteHigh, white, whiteHead, endsWhite, whiteTail, headFrom, keepFrom, trimHead, trimTail, trim}
+use Rattle.spec_text.specs.text.Line.{blank}
+use Rattle.spec_sheet.specs.checked_blocks.Block.{wordAt}
+use Rattle.spec_sheet.specs.sheet_frames.Frames.{framesOf, recordWord, decodeOf, syncOf, durationOf, longOf, ticksFrom}
 use Rattle.sheet_vectors.specs.Small.{smallSheet}
-use Rattle.plan.specs.Snap.{lastBelow, firstFrom, floorSync, ceilSync, snapStart, snapEnd, snapAll}
-use Rattle.segment.specs.Segment.{flatOf}
-use Rattle.segmap.specs.Build.{sourceStart, rangeTicks, rangeFault, rangesFault, segmentIn, segmentsIn}
-use Rattle.segmap.specs.Map.{rangesFor, snappedOf}
+use Rattle.spec_map.specs.plan.Snap.{lastBelow, firstFrom, floorSync, ceilSync, snapStart, snapEnd, snapAll}
+use Rattle.spec_map.specs.segment.Segment.{flatOf}
+use Rattle.spec_map.specs.segmap.Build.{sourceStart, rangeTicks, rangeFault, rangesFault, segmentIn, segmentsIn}
+use Rattle.spec_map.specs.segmap.Map.{rangesFor, snappedOf}
 use Rattle.map_vectors.specs.Synced.{noSync, sync0, sync4, reversed, reversed0, secondFirst, oneFrame}
 
 -- the small sheet, sync 0, 3 and 6: all of it outward, up to the last sync frame inward

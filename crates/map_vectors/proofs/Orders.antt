@@ -2,22 +2,22 @@
 use mathlib.Core.Path.{_≡_, refl}
 use mathlib.Core.List.{[], _∷_, map}
 use Prim.Native.Nat.{_+_, _^_}
-use Rattle.base.specs.Ascii.{ascii}
-use Rattle.base.specs.Part.{last}
-use Rattle.base.specs.Refusal.{_orElse_, faultUnless}
-use Rattle.utf8.specs.Utf8.{leadLen, secondLow, secondHigh, tail, widthBy, charWidth, utf8From, utf8, codeBy, codeHead}
-use Rattle.white.specs.White.{whiteHigh, white, whiteHead, endsWhite, whiteTail, headFrom, keepFrom, trimHead, trimTail, trim}
-use Rattle.text.specs.Line.{blank}
-use Rattle.pattern.specs.Find.{starts}
-use Rattle.pattern.specs.Piece.{piecesFrom, pieces}
-use Rattle.text.specs.Number.{digit, digits, valueFrom, natural, unsigned, number}
-use Rattle.trim.specs.Token.{rangeOf, boundsOf, pairOf, closedOf, tokenOf, behindEnd, stepOf, tokenNumber, tokenRange, tokenEnd}
-use Rattle.trim.specs.TrimList.{tokensOf, listTokens, tokensNumber, headNumber, listNumber}
-use Rattle.blocks.specs.Block.{wordAt}
-use Rattle.frames.specs.Frames.{longOf, recordWord, decodeOf, durationOf, ticksFrom}
+use Rattle.spec_base.specs.base.Ascii.{ascii}
+use Rattle.spec_base.specs.base.Part.{last}
+use Rattle.spec_base.specs.base.Refusal.{_orElse_, faultUnless}
+use Rattle.spec_text.specs.utf8.Utf8.{leadLen, secondLow, secondHigh, tail, widthBy, charWidth, utf8From, utf8, codeBy, codeHead}
+use Rattle.spec_text.specs.whitespace.White.{whiteHigh, white, whiteHead, endsWhite, whiteTail, headFrom, keepFrom, trimHead, trimTail, trim}
+use Rattle.spec_text.specs.text.Line.{blank}
+use Rattle.spec_text.specs.pattern.Find.{starts}
+use Rattle.spec_text.specs.pattern.Piece.{piecesFrom, pieces}
+use Rattle.spec_text.specs.text.Number.{digit, digits, valueFrom, natural, unsigned, number}
+use Rattle.spec_map.specs.trim.Token.{rangeOf, boundsOf, pairOf, closedOf, tokenOf, behindEnd, stepOf, tokenNumber, tokenRange, tokenEnd}
+use Rattle.spec_map.specs.trim.TrimList.{tokensOf, listTokens, tokensNumber, headNumber, listNumber}
+use Rattle.spec_sheet.specs.checked_blocks.Block.{wordAt}
+use Rattle.spec_sheet.specs.sheet_frames.Frames.{longOf, recordWord, decodeOf, durationOf, ticksFrom}
 use Rattle.sheet_vectors.specs.Long.{still, longWith, shared}
-use Rattle.plan.specs.Snap.{overlapsFault}
-use Rattle.segmap.specs.Build.{rangeTicks, keptTicks, rangeFault, rangesFault, keptNumber}
+use Rattle.spec_map.specs.plan.Snap.{overlapsFault}
+use Rattle.spec_map.specs.segmap.Build.{rangeTicks, keptTicks, rangeFault, rangesFault, keptNumber}
 use Rattle.map_vectors.specs.Turned.{backward}
 
 -- 8 is tested for all pairs first: the first range alone is 10 and the second crosses it; then the second is good, and the third crosses it

@@ -1,18 +1,18 @@
 -- What snapping and segments come to on small sheets, by computation. Document 01's own map is in the table of its examples.
 use mathlib.Core.Path.{_≡_, refl}
 use mathlib.Core.List.{[], _∷_, map}
-use Rattle.base.specs.Put.{put, placed}
-use Rattle.base.specs.Refusal.{_orElse_, faultUnless}
-use Rattle.blocks.specs.Block.{wordAt}
-use Rattle.frames.specs.Frames.{framesOf, recordWord, decodeOf, syncOf, durationOf, longOf, ticksFrom}
+use Rattle.spec_base.specs.base.Put.{put, placed}
+use Rattle.spec_base.specs.base.Refusal.{_orElse_, faultUnless}
+use Rattle.spec_sheet.specs.checked_blocks.Block.{wordAt}
+use Rattle.spec_sheet.specs.sheet_frames.Frames.{framesOf, recordWord, decodeOf, syncOf, durationOf, longOf, ticksFrom}
 use Rattle.sheet_vectors.specs.Small.{smallSheet}
-use Rattle.plan.specs.Snap.{lastBelow, firstFrom, floorSync, ceilSync, snapStart, snapEnd, snapAll, overlapsFault}
-use Rattle.segment.specs.Segment.{flatOf}
-use Rattle.segmap.specs.Build.{sourceStart, rangeTicks, rangeFault, rangesFault, segmentIn, segmentsIn}
-use Rattle.sheet.specs.Sheet.{sheetFault, sheetNumber, workAfter, totalFault}
+use Rattle.spec_map.specs.plan.Snap.{lastBelow, firstFrom, floorSync, ceilSync, snapStart, snapEnd, snapAll, overlapsFault}
+use Rattle.spec_map.specs.segment.Segment.{flatOf}
+use Rattle.spec_map.specs.segmap.Build.{sourceStart, rangeTicks, rangeFault, rangesFault, segmentIn, segmentsIn}
+use Rattle.spec_sheet.specs.sheet.Sheet.{sheetFault, sheetNumber, workAfter, totalFault}
 use Rattle.sheet_vectors.proofs.Vectors.{small-fault}
-use Rattle.once.specs.Once.{workBytes, workOnce}
-use Rattle.segmap.specs.Map.{mapNumber, mapWork}
+use Rattle.spec_sheet.specs.sheet_permutation.Once.{workBytes, workOnce}
+use Rattle.spec_map.specs.segmap.Map.{mapNumber, mapWork}
 use Rattle.map_vectors.specs.Turned.{crossed, backward}
 
 -- the small sheet has ten frames, sync 0, 3 and 6: the ranges of `Trim(0,2) ++ Trim(6,8)` outward and inward

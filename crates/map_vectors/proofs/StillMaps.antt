@@ -1,13 +1,13 @@
 -- Maps of sheets of the second layout, by computation: still pictures that last minutes, and 26.
 use mathlib.Core.Path.{_≡_, refl}
 use mathlib.Core.List.{[], _∷_}
-use Rattle.base.specs.Refusal.{_orElse_, faultUnless}
-use Rattle.blocks.specs.Block.{wordAt}
-use Rattle.frames.specs.Frames.{longOf, recordWord, decodeOf, durationOf, ticksFrom}
+use Rattle.spec_base.specs.base.Refusal.{_orElse_, faultUnless}
+use Rattle.spec_sheet.specs.checked_blocks.Block.{wordAt}
+use Rattle.spec_sheet.specs.sheet_frames.Frames.{longOf, recordWord, decodeOf, durationOf, ticksFrom}
 use Rattle.sheet_vectors.specs.Long.{slides, shared}
-use Rattle.plan.specs.Snap.{overlapsFault}
-use Rattle.segment.specs.Segment.{flatOf}
-use Rattle.segmap.specs.Build.{sourceStart, rangeTicks, keptTicks, rangeFault, rangesFault, keptNumber, segmentIn, segmentsIn}
+use Rattle.spec_map.specs.plan.Snap.{overlapsFault}
+use Rattle.spec_map.specs.segment.Segment.{flatOf}
+use Rattle.spec_map.specs.segmap.Build.{sourceStart, rangeTicks, keptTicks, rangeFault, rangesFault, keptNumber, segmentIn, segmentsIn}
 
 -- `Trim(0,0) ++ Trim(1,1)` of the two slides
 two-slides : flatOf (segmentsIn slides 0 (0 ∷ 1 ∷ 1 ∷ 2 ∷ []))

@@ -1,12 +1,7 @@
 // A frame's place, in display order and in decode order.
+use spec_sheet::order::DisplayIdx;
 ghost use mathlib.Core.Path.{_≡_};
-ghost use Rattle.order.specs.Count.{frameCount};
-
-// A frame's place in display order.
-pub struct DisplayIdx(pub u32);
-
-// A frame's place in decode order.
-pub struct DecodeIdx(pub u32);
+ghost use Rattle.spec_sheet.specs.order.Count.{frameCount};
 
 // How many frames there are from `start` to `end`, `end` excluded; 0 where `end` is below `start`.
 pub fn frame_count(start: DisplayIdx, end: DisplayIdx) -> u32

@@ -1,6 +1,6 @@
 // Two counts of frames, which are never used for one another.
 mod index;
 
-pub use index::DecodeIdx;
-pub use index::DisplayIdx;
 pub use index::frame_count;
+pub use spec_sheet::order::DecodeIdx;
+pub use spec_sheet::order::DisplayIdx;

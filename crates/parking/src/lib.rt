@@ -3,7 +3,7 @@ mod reading;
 mod storing;
 mod taking;
 
+pub use spec_parking::parking::TakenUp;
 pub use storing::keep;
 pub use storing::park;
-pub use taking::TakenUp;
 pub use taking::take_up;

@@ -1,18 +1,18 @@
 // What 18 blocks say.
-use columns::Columns;
-use event::Config;
-use foreign::Session;
-use machine::Counts;
+use ass_columns::Columns;
+use caption_fate::Config;
+use session_counts::Counts;
+use session_state::Session;
 ghost use mathlib.Core.Path.{_≡_};
 ghost use mathlib.Core.Bool.{true, _&&_};
 ghost use Prim.Native.Nat.{_≤_};
 ghost use lib.Dec.{eqb};
 ghost use lib.ListN.{length, take, drop};
-ghost use Rattle.base.specs.Limits.{mostHeld};
-ghost use Rattle.blocks.specs.Block.{wordAt};
-ghost use Rattle.machine.specs.Session.{isOutcome};
-ghost use Rattle.sealing.specs.Sealed.{isRow, roomOf, allZero};
-ghost use Rattle.parking.specs.Parked.{isMark, isFlag, unusedZero, isParked, sessionIn};
+ghost use Rattle.spec_base.specs.base.Limits.{mostHeld};
+ghost use Rattle.spec_sheet.specs.checked_blocks.Block.{wordAt};
+ghost use Rattle.spec_session.specs.session_counts.Session.{isOutcome};
+ghost use Rattle.spec_parking.specs.parked_blocks.Sealed.{isRow, roomOf, allZero};
+ghost use Rattle.spec_parking.specs.parking.Parked.{isMark, isFlag, unusedZero, isParked, sessionIn};
 
 fn is_mark(k: u32) -> bool
     ensures { λ r. ⌜ r ≡ isMark k ⌝ }
@@ -36,10 +36,10 @@ fn is_flag(k: u32) -> bool
 fn words_good(s: &[u8]) -> bool
     ensures { λ r. ⌜ r ≡ (isMark (wordAt (now (s .entry)) 1) && (isFlag (wordAt (now (s .entry)) 4) && (isOutcome (wordAt (now (s .entry)) 5) && isFlag (wordAt (now (s .entry)) 12)))) ⌝ }
 {
-    if is_mark(blocks::word(s, 1)) {
-        if is_flag(blocks::word(s, 4)) {
-            if foreign::is_outcome(blocks::word(s, 5)) {
-                return is_flag(blocks::word(s, 12));
+    if is_mark(checked_blocks::word(s, 1)) {
+        if is_flag(checked_blocks::word(s, 4)) {
+            if session_state::is_outcome(checked_blocks::word(s, 5)) {
+                return is_flag(checked_blocks::word(s, 12));
             }
         }
     }
@@ -50,12 +50,12 @@ fn words_good(s: &[u8]) -> bool
 fn ended_zero(s: &[u8], room: &[u8]) -> bool
     ensures { λ r. ⌜ r ≡ (eqb (wordAt (now (s .entry)) 7) 0 && (allZero (take 20 (drop 48 (now (s .entry)))) && allZero (now (room .entry)))) ⌝ }
 {
-    let lines = blocks::word(s, 7);
+    let lines = checked_blocks::word(s, 7);
     if lines != 0 {
         return false;
     }
-    if sealing::all_zero(base::front(base::rest(s, 48), 20)) {
-        return sealing::all_zero(room);
+    if parked_blocks::all_zero(base::front(base::rest(s, 48), 20)) {
+        return parked_blocks::all_zero(room);
     }
     false
 }
@@ -65,11 +65,11 @@ fn unused_zero(s: &[u8], room: &[u8]) -> bool
     requires { ⌜ now room ≡ roomOf (now s) ⌝ }
     ensures { λ r. ⌜ r ≡ unusedZero (now (s .entry)) ⌝ }
 {
-    if sealing::all_zero(base::front(base::rest(s, 68), 440)) {
-        let ended = blocks::word(s, 4);
+    if parked_blocks::all_zero(base::front(base::rest(s, 68), 440)) {
+        let ended = checked_blocks::word(s, 4);
         if ended == 0 {
-            let n = blocks::word(s, 16) as usize;
-            return sealing::all_zero(base::rest(room, n));
+            let n = checked_blocks::word(s, 16) as usize;
+            return parked_blocks::all_zero(base::rest(room, n));
         }
         return ended_zero(s, room);
     }
@@ -90,18 +90,18 @@ pub fn is_parked(s: &[u8], room: &[u8]) -> bool
 fn config_in(s: &[u8]) -> Config
     ensures { λ r. ⌜ r ≡ sessionIn (now (s .entry)) .config ⌝ }
 {
-    let kind = blocks::word(s, 2);
-    let timescale = blocks::word(s, 3);
+    let kind = checked_blocks::word(s, 2);
+    let timescale = checked_blocks::word(s, 3);
     Config { kind, timescale }
 }
 
 fn counts_in(s: &[u8]) -> Counts
     ensures { λ r. ⌜ r ≡ sessionIn (now (s .entry)) .counts ⌝ }
 {
-    let shifted = blocks::word(s, 8);
-    let clipped = blocks::word(s, 9);
-    let dropped = blocks::word(s, 10);
-    let passed = blocks::word(s, 11);
+    let shifted = checked_blocks::word(s, 8);
+    let clipped = checked_blocks::word(s, 9);
+    let dropped = checked_blocks::word(s, 10);
+    let passed = checked_blocks::word(s, 11);
     Counts {
         shifted,
         clipped,
@@ -113,10 +113,10 @@ fn counts_in(s: &[u8]) -> Counts
 fn columns_in(s: &[u8]) -> Columns
     ensures { λ r. ⌜ r ≡ sessionIn (now (s .entry)) .columns ⌝ }
 {
-    let events = blocks::word(s, 12);
-    let columns = blocks::word(s, 13) as usize;
-    let start = blocks::word(s, 14) as usize;
-    let end = blocks::word(s, 15) as usize;
+    let events = checked_blocks::word(s, 12);
+    let columns = checked_blocks::word(s, 13) as usize;
+    let start = checked_blocks::word(s, 14) as usize;
+    let end = checked_blocks::word(s, 15) as usize;
     Columns {
         events: events == 1,
         columns,
@@ -144,11 +144,11 @@ pub fn session_in(s: &[u8], room: &[u8]) -> Session
     let counts = counts_in(s);
     let columns = columns_in(s);
     let held = held_in(room);
-    let ended = blocks::word(s, 4);
-    let outcome = blocks::word(s, 5);
-    let taken = blocks::word(s, 6);
-    let lines = blocks::word(s, 7);
-    let held_len = blocks::word(s, 16) as usize;
+    let ended = checked_blocks::word(s, 4);
+    let outcome = checked_blocks::word(s, 5);
+    let taken = checked_blocks::word(s, 6);
+    let lines = checked_blocks::word(s, 7);
+    let held_len = checked_blocks::word(s, 16) as usize;
     Session {
         config,
         ended: ended == 1,

@@ -1,13 +1,13 @@
 // A session stored.
-use foreign::Session;
+use session_state::Session;
 ghost use mathlib.Core.Path.{_≡_};
 ghost use mathlib.Core.Bool.{true, false, cond};
 ghost use Prim.Native.Nat.{_%_, _^_, _≤_};
 ghost use lib.ListN.{length};
-ghost use Rattle.base.specs.Put.{put};
-ghost use Rattle.parking.specs.Parked.{flag, headWords, parkedOf};
-ghost use Rattle.sealing.specs.Sealed.{sealedLength, wordsBytes};
-ghost use Rattle.parking.specs.Answer.{parkNumber, Parks, Stores};
+ghost use Rattle.spec_base.specs.base.Put.{put};
+ghost use Rattle.spec_parking.specs.parking.Parked.{flag, headWords, parkedOf};
+ghost use Rattle.spec_parking.specs.parked_blocks.Sealed.{sealedLength, wordsBytes};
+ghost use Rattle.spec_parking.specs.parking.Answer.{parkNumber, Parks, Stores};
 
 // The mark of a house that warns of lost parts by request 2.7's rule.
 const MARK: u32 = 2;
@@ -103,7 +103,7 @@ fn head_words(session: Session) -> [u32; 16]
 fn park_refusal(session: Session, lent: usize) -> u32
     ensures { λ r. ⌜ r ≡ parkNumber session lent ⌝ }
 {
-    if foreign::foreign(session) {
+    if session_state::foreign(session) {
         return 17;
     }
     if lent < 9216 {
@@ -126,7 +126,7 @@ fn kept_length(session: Session) -> usize
 fn head_bytes(session: Session) -> [u8; 64]
     ensures { λ r. ⌜ r ≡ wordsBytes (headWords 2 session) ⌝ }
 {
-    sealing::words_bytes(head_words(session))
+    parked_blocks::words_bytes(head_words(session))
 }
 
 // The 18 blocks, at the start.
@@ -137,7 +137,7 @@ fn store(session: Session, out: &mut [u8])
     let head = head_bytes(session);
     let n = kept_length(session);
     let held = session.held;
-    sealing::seal(out, &head, base::front(&held, n));
+    parked_blocks::seal(out, &head, base::front(&held, n));
 }
 
 // Stores any session so, a foreign one too: 16 where fewer than 9,216 bytes are lent, else 0.

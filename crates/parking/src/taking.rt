@@ -1,25 +1,21 @@
 // A session taken up.
 use crate::reading::is_parked;
 use crate::reading::session_in;
-use columns::Columns;
-use event::Config;
-use foreign::Session;
-use machine::Counts;
+use ass_columns::Columns;
+use caption_fate::Config;
+use session_counts::Counts;
+use session_state::Session;
+use spec_parking::parking::TakenUp;
 ghost use mathlib.Core.Path.{_≡_};
 ghost use mathlib.Core.Bool.{true};
 ghost use Prim.Native.Nat.{_≤_};
 ghost use lib.ListN.{length};
-ghost use Rattle.base.specs.Limits.{mostHeld};
-ghost use Rattle.machine.specs.Session.{noSession};
-ghost use Rattle.kinds.specs.Kit.{kit};
-ghost use Rattle.foreign.specs.View.{stored};
-ghost use Rattle.sealing.specs.Sealed.{isRow, roomOf};
-ghost use Rattle.parking.specs.Answer.{TakesUp};
-
-pub struct TakenUp {
-    pub number: u32,
-    pub session: Session,
-}
+ghost use Rattle.spec_base.specs.base.Limits.{mostHeld};
+ghost use Rattle.spec_session.specs.session_counts.Session.{noSession};
+ghost use Rattle.spec_session.specs.kinds.Kit.{kit};
+ghost use Rattle.spec_session.specs.session_state.View.{stored};
+ghost use Rattle.spec_parking.specs.parked_blocks.Sealed.{isRow, roomOf};
+ghost use Rattle.spec_parking.specs.parking.Answer.{TakesUp};
 
 // What a refused open returns.
 fn no_session() -> Session
@@ -68,7 +64,7 @@ fn take_row(bytes: &[u8], room: &[u8]) -> TakenUp
 {
     if is_parked(bytes, room) {
         let session = session_in(bytes, room);
-        if foreign::foreign(session) {
+        if session_state::foreign(session) {
             return refused(17);
         }
         return TakenUp { number: 0, session };
@@ -81,7 +77,7 @@ pub fn take_up(bytes: &[u8]) -> TakenUp
     ensures { λ r. ⌜ TakesUp (now (bytes .entry)) r ⌝ }
 {
     let mut room = [0u8; 8568];
-    if sealing::unseal(bytes, &mut room) {
+    if parked_blocks::unseal(bytes, &mut room) {
         return take_row(bytes, &room);
     }
     refused(27)

@@ -1,7 +1,7 @@
 // Patterns in a text.
 ghost use mathlib.Core.Path.{_≡_};
 ghost use lib.ListN.{drop};
-ghost use Rattle.pattern.specs.Find.{starts, equals, first, contains, upTo, past};
+ghost use Rattle.spec_text.specs.pattern.Find.{starts, equals, first, contains, upTo, past};
 
 // Whether `s` begins with `p`.
 pub fn starts_with(s: &[u8], p: &[u8]) -> bool

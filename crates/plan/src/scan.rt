@@ -2,7 +2,7 @@
 use order::DisplayIdx;
 ghost use mathlib.Core.Path.{_≡_};
 ghost use Prim.Native.Nat.{_+_, _≤_, min};
-ghost use Rattle.plan.specs.Snap.{floorSync, ceilSync};
+ghost use Rattle.spec_map.specs.plan.Snap.{floorSync, ceilSync};
 
 // A boundary, and the sync frame found for it.
 pub struct Known {
@@ -49,7 +49,7 @@ fn floor_from(s: &[u8], n: u32, from: Known, x: DisplayIdx) -> DisplayIdx
     let mut k = upto(n, x);
     while low < k {
         k -= 1;
-        let found = frames::sync_at(s, DisplayIdx(k));
+        let found = sheet_frames::sync_at(s, DisplayIdx(k));
         if found {
             return DisplayIdx(k);
         }
@@ -81,7 +81,7 @@ fn ceil_from(s: &[u8], n: u32, x: DisplayIdx) -> DisplayIdx
 {
     let mut i = x;
     while i.0 < n {
-        let found = frames::sync_at(s, i);
+        let found = sheet_frames::sync_at(s, i);
         if found {
             return i;
         }

@@ -1,36 +1,32 @@
 -- Every cue that the plain reader reads can be written and read again.
 use mathlib.Core.Path.{_≡_, refl, sym, ap, subst, _∙_}
-use mathlib.Core.Logic.{_⊎_, inl, inr}
 use mathlib.Core.Bool.{Bool, true, false, cond, _&&_}
-use mathlib.Core.List.{List, [], _∷_, _++_, append-nil, append-assoc}
-use Prim.Native.Nat.{ℕ, zero, suc, _+_, _*_, _<_}
-use native.Mathlib.Omega.{arith}
+use mathlib.Core.List.{List, [], _∷_, _++_}
+use Prim.Native.Nat.{ℕ, zero, suc, _+_, _*_}
 use lib.Dec.{eqb}
-use lib.ListN.{length}
-use Rattle.text.specs.Line.{linesOf, lineCount, concat, endsLine, hasLf}
-use Rattle.text.proofs.LineLaws.{line-then, line-last, Finished}
-use Rattle.time.specs.Kind.{kindBad, unitsOf}
-use Rattle.time.proofs.Limits.{by-kind}
-use Rattle.event.specs.Says.{Part, stays, cue, passes, faultNumber}
-use Rattle.event.specs.Mark.{marked, behindMark, markWritten}
-use Rattle.columns.specs.declared.layout.Columns.{Columns}
-use Rattle.columns.proofs.ColumnLaws.{Apart}
-use Rattle.ass.specs.Line.{LineSays, lineSays, faulty, says}
-use Rattle.ass.specs.Answer.{columnsAfter}
-use Rattle.columns.specs.Columns.{noColumns}
-use Rattle.back.proofs.AssLine.{line-back, line-apart}
-use Rattle.timing.specs.Style.{styleOf}
-use Rattle.block.specs.Block.{BlockSays, blockSays, faulty as blockFaulty, says as blockSaid}
-use Rattle.whole.specs.Srt.{Block, blocksOf}
-use Rattle.back.proofs.TimingLine.{TimeMark, Blocked}
-use Rattle.back.proofs.TimingBlock.{block-back}
-use Rattle.back.proofs.BlockKinds.{srt-blocked, Point, vtt-blocked}
-use Rattle.whole.proofs.BlockShape.{blockLines, blocks-joined}
-use Rattle.machine.specs.Cut.{closedLines, unfinished}
-use Rattle.machine.specs.Reader.{Reading, fails, _⊕_}
-use Rattle.machine.proofs.CutLaws.{cut-ends, cut-open, has-none, restLines, lines-of-cut}
+use Rattle.spec_text.specs.text.Line.{lineCount, concat}
+use Rattle.spec_caption.specs.caption_time.Kind.{kindBad, unitsOf}
+use Rattle.spec_caption.proofs.caption_time.Limits.{by-kind}
+use Rattle.spec_caption.specs.caption_fate.Says.{Part, stays, cue, passes, faultNumber}
+use Rattle.spec_caption.specs.caption_fate.Mark.{marked, behindMark, markWritten}
+use Rattle.spec_format.specs.declared.ass_columns.Columns.{Columns}
+use Rattle.spec_format.proofs.ass_columns.ColumnLaws.{Apart}
+use Rattle.spec_format.specs.ass_line.Line.{LineSays, lineSays, faulty, says}
+use Rattle.spec_format.specs.ass_line.Answer.{columnsAfter}
+use Rattle.spec_format.specs.ass_columns.Columns.{noColumns}
+use Rattle.spec_format.proofs.back.AssLine.{line-back, line-apart}
+use Rattle.spec_format.specs.block_timing.Style.{styleOf}
+use Rattle.spec_format.specs.block_cue.Block.{BlockSays, blockSays, faulty as blockFaulty, says as blockSaid}
+use Rattle.spec_format.specs.whole.Srt.{Block, blocksOf}
+use Rattle.spec_format.proofs.back.TimingLine.{TimeMark, Blocked}
+use Rattle.spec_format.proofs.back.TimingBlock.{block-back}
+use Rattle.spec_format.proofs.back.BlockKinds.{srt-blocked, Point, vtt-blocked}
+use Rattle.spec_format.proofs.back.Stands.{line-stands, block-stands}
+use Rattle.spec_format.proofs.whole.BlockShape.{blockLines, blocks-joined}
+use Rattle.spec_session.specs.session_counts.Reader.{Reading, fails, _⊕_}
 use Rattle.promise.specs.Plain.{lineFault, unlessFault, lineThen, assRead, bodyFault, blockThen, bodyThen, blanksThen, markBehind, closesBlock, blocksRead, headFault, vttRead, linesRead, linesSay, opened, markLength, readBehind, markBack, plainRead}
 use Rattle.promise.specs.Again.{LineAgain, endSeconds, BlockAgain, CueAgain, PartAgain, AllAgain}
+use Rattle.promise.proofs.LinesCut.{Cut, cut-tail, cut-behind, cut-before, cut-lines, text-cut}
 
 again-append : (kind : ℕ) (xs ys : List Part) → AllAgain kind xs → AllAgain kind ys → AllAgain kind (xs ++ ys)
 again-append kind [] ys a b = b
@@ -44,7 +40,7 @@ again-unless kind (suc k) r a = tt
 part-line : (c : Columns) (n : ℕ) (l : List ℕ) → Apart c → (d : Columns) (p : Part) → lineSays c n l ≡ says d p → PartAgain 0 p
 part-line c n l h d (stays x) e = tt
 part-line c n l h d (passes r k x) e = tt
-part-line c n l h d (cue q) e = record { columns = c; before = n; line = l; next = d; said = e; again = line-back c n l d q e h }
+part-line c n l h d (cue q) e = record { columns = c; before = n; line = l; next = d; said = e; stands = line-stands c n l d q e; again = line-back c n l d q e h }
 
 ass-again : (end : Reading) → AllAgain 0 (end .parts) → (x : ℕ) (c : Columns) (n : ℕ) (ls : List (List ℕ)) → Apart c → AllAgain 0 (assRead end x c n ls .parts)
 unfolding assRead
@@ -58,48 +54,6 @@ ass-again end a x c n (l ∷ ls) h =
     go (faulty f) e k = tt
     go (says d p) e k = (part-line c n l h d p e, k d (subst (λ (z : LineSays). Apart (columnsAfter c z)) e (line-apart c n l h)))
 
--- ---- SRT: lines as a text has them; only the last may have no LF
-abbrev Last : List ℕ → Type 0
-Last l = (endsLine l ≡ true) ⊎ ((0 < length l) × (hasLf l ≡ false))
-
-abbrev Cut : List (List ℕ) → Type 0
-Cut [] = Unit {0}
-Cut (l ∷ []) = Last l
-Cut (l ∷ (k ∷ ls)) = (endsLine l ≡ true) × Cut (k ∷ ls)
-
-cut-tail : (l : List ℕ) (ls : List (List ℕ)) → Cut (l ∷ ls) → Cut ls
-cut-tail l [] c = tt
-cut-tail l (k ∷ ls) c = c .1
-
-cut-behind : (ks ls : List (List ℕ)) → Cut (ks ++ ls) → Cut ls
-cut-behind [] ls c = c
-cut-behind (k ∷ ks) ls c = cut-behind ks ls (cut-tail k (ks ++ ls) c)
-
-cut-before : (ks ls : List (List ℕ)) → Cut (ks ++ ls) → Cut ks
-cut-before [] ls c = tt
-cut-before (k ∷ []) [] c = c
-cut-before (k ∷ []) (l ∷ ls) c = inl (c .0)
-cut-before (k ∷ (j ∷ ks)) ls c = (c .0, cut-before (j ∷ ks) ls (c .1))
-
--- put one behind the other they are the same lines
-cut-lines : (ls : List (List ℕ)) → Cut ls → linesOf (concat ls) ≡ ls
-unfolding linesOf
-cut-lines [] c = refl
-cut-lines (l ∷ []) (inl e) = ap linesOf (sym (append-nil (l ++ []))) ∙ ap (λ (x : List ℕ). linesOf x) (append-assoc l [] []) ∙ line-then l [] e
-cut-lines (l ∷ []) (inr e) = ap linesOf (append-nil l) ∙ line-last l (e .0) (e .1)
-cut-lines (l ∷ (k ∷ ls)) c = line-then l (concat (k ∷ ls)) (c .0) ∙ ap (λ (x : List (List ℕ)). l ∷ x) (cut-lines (k ∷ ls) (c .1))
-
-finished-cut : (ls : List (List ℕ)) (r : List ℕ) → Finished ls → hasLf r ≡ false → Cut (ls ++ restLines r)
-finished-cut [] [] f h = tt
-finished-cut [] (b ∷ r) f h = inr (omega arith, h)
-finished-cut (l ∷ []) [] f h = inl (f .0)
-finished-cut (l ∷ []) (b ∷ r) f h = (f .0, inr (omega arith, h))
-finished-cut (l ∷ (k ∷ ls)) r f h = (f .0, finished-cut (k ∷ ls) r (f .1) h)
-
-text-cut : (f : Bool) (t : List ℕ) → Cut (linesRead f t)
-text-cut true t = subst Cut (sym (lines-of-cut t)) (finished-cut (closedLines t) (unfinished t) (cut-ends t) (cut-open t))
-text-cut false t = subst Cut (append-nil (closedLines t)) (finished-cut (closedLines t) [] (cut-ends t) has-none)
-
 -- ---- blocks, of a kind whose written blocks read again
 module _ (j : ℕ) (Mark : ℕ → Type 0) (K : Blocked (suc j) Mark (endSeconds (suc j) * unitsOf (suc j))) where
   part-block : (first : ℕ) (ls : List (List ℕ)) → Cut ls → (p : Part) → blockSays (styleOf (suc j)) first ls ≡ blockSaid p → PartAgain (suc j) p
@@ -107,7 +61,7 @@ module _ (j : ℕ) (Mark : ℕ → Type 0) (K : Blocked (suc j) Mark (endSeconds
   part-block first ls c (passes r k x) e = tt
   part-block first ls c (cue q) e =
       let said = ap (blockSays (styleOf (suc j)) first) (cut-lines ls c) ∙ e in
-      record { first = first; block = concat ls; said = said; again = block-back (suc j) Mark (endSeconds (suc j) * unitsOf (suc j)) K first (concat ls) q said }
+      record { first = first; block = concat ls; said = said; stands = block-stands (suc j) first (concat ls) q said; again = block-back (suc j) Mark (endSeconds (suc j) * unitsOf (suc j)) K first (concat ls) q said }
 
   body-again : (n : ℕ) (body : List (List ℕ)) (after : Reading) → Cut body → AllAgain (suc j) (after .parts) → AllAgain (suc j) (bodyThen (suc j) n body after .parts)
   body-again n [] after c a = a

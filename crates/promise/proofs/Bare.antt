@@ -7,16 +7,16 @@ use native.Mathlib.Omega.{arith}
 use lib.Dec.{eqb, leb}
 use lib.ListN.{length, drop}
 use borrow.Author.Tests.{ne-eqb}
-use Rattle.base.specs.Limits.{mostLine}
-use Rattle.base.specs.Refusal.{faultUnless}
-use Rattle.pattern.specs.Find.{starts, equals}
-use Rattle.text.specs.Line.{concat}
-use Rattle.event.specs.Mark.{bom, markWritten}
-use Rattle.machine.specs.Cut.{Cut, before, push, cut, isLf, closedLines, unfinished}
-use Rattle.machine.specs.Machine.{Machine, Says, faulty, says, hasBom, withBom, takeLine, Rest, bomAlone, lastLine, restFor, restOf}
-use Rattle.machine.specs.Reader.{Reading, fails, _⊕_, readLine, readClose, readLast, readRest, readLines, readText}
-use Rattle.machine.proofs.CutLaws.{cut-joined, restLines, lines-of-cut}
-use Rattle.machine.proofs.OpenLines.{bom-behind}
+use Rattle.spec_base.specs.base.Limits.{mostLine}
+use Rattle.spec_base.specs.base.Refusal.{faultUnless}
+use Rattle.spec_text.specs.pattern.Find.{starts, equals}
+use Rattle.spec_text.specs.text.Line.{concat}
+use Rattle.spec_caption.specs.caption_fate.Mark.{bom, markWritten}
+use Rattle.spec_session.specs.session_counts.Cut.{Cut, before, push, cut, isLf, closedLines, unfinished}
+use Rattle.spec_session.specs.session_counts.Machine.{Machine, Says, faulty, says, hasBom, withBom, takeLine, Rest, bomAlone, lastLine, restFor, restOf}
+use Rattle.spec_session.specs.session_counts.Reader.{Reading, fails, _⊕_, readLine, readClose, readLast, readRest, readLines, readText}
+use Rattle.spec_session.proofs.session_counts.CutLaws.{cut-joined, restLines, lines-of-cut}
+use Rattle.spec_session.proofs.session_counts.OpenLines.{bom-behind}
 use Rattle.promise.specs.Plain.{linesRead}
 
 -- the rest is a line after a finish
@@ -120,7 +120,7 @@ bom-longer : (l t : List ℕ) → hasBom l ≡ true → hasBom (l ++ t) ≡ true
 unfolding hasBom starts
 bom-longer l t e = ap (λ (x : List ℕ). starts bom (x ++ t)) (bom-behind l e)
 
-no-bom-part : (l t : List ℕ) → hasBom (l ++ t) ≡ false → hasBom l ≡ false
+pub no-bom-part : (l t : List ℕ) → hasBom (l ++ t) ≡ false → hasBom l ≡ false
 no-bom-part l t e = go (hasBom l) refl
   where
     go : (b : Bool) → hasBom l ≡ b → b ≡ false

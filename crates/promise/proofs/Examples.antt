@@ -4,29 +4,29 @@ use Prim.Native.String.{String}
 use mathlib.Core.Path.{_≡_, refl}
 use mathlib.Core.Bool.{true, false}
 use mathlib.Core.List.{List, [], _∷_, _++_}
-use Rattle.base.specs.Ascii.{ascii}
-use Rattle.base.specs.Part.{last}
-use Rattle.base.specs.Refusal.{_orElse_, faultUnless}
-use Rattle.utf8.specs.Utf8.{leadLen, secondLow, secondHigh, tail, widthBy, charWidth, utf8From, utf8, codeBy, codeHead}
-use Rattle.white.specs.White.{whiteHigh, white, whiteHead, endsWhite, whiteTail, headFrom, keepFrom, trimHead, trimTail, trim}
-use Rattle.pattern.specs.Find.{starts, equals, first, contains, upTo, past}
-use Rattle.pattern.specs.Piece.{piecesFrom, pieces}
-use Rattle.text.specs.Number.{digit, digits, valueFrom, natural, unsigned, number}
-use Rattle.text.specs.Line.{linesOf, textOf, terminatorLength, terminatorOf, blank}
-use Rattle.time.specs.Kind.{kindBad, unitsOf, markOf}
-use Rattle.stamp.specs.Read.{markIn, timeWith, timeIn}
-use Rattle.event.specs.Says.{Piece, bytes, start, stop, unplaced, Cue, stays, passes, cue}
-use Rattle.columns.specs.Columns.{namesIn, placeIn, columnsIn, fields, fieldAt}
-use Rattle.assline.specs.Tags.{holdsAny}
-use Rattle.ass.specs.Line.{captionSays, wordSays, textSays, lineSays}
-use Rattle.columns.specs.Section.{bracketed, inside}
-use Rattle.assline.specs.Frame.{pieceAt, fieldPieces}
-use Rattle.timing.specs.Style.{blankIn, srtEnd, endIn, stampsIn}
-use Rattle.timing.specs.Arrow.{timingOf, afterArrow}
-use Rattle.block.specs.Block.{blockFrame, blockCue, timingLineSays as blockLineSays, blockSays}
-use Rattle.whole.specs.Srt.{blocksOf}
-use Rattle.event.specs.Mark.{bom}
-use Rattle.machine.specs.Reader.{reading, fails}
+use Rattle.spec_base.specs.base.Ascii.{ascii}
+use Rattle.spec_base.specs.base.Part.{last}
+use Rattle.spec_base.specs.base.Refusal.{_orElse_, faultUnless}
+use Rattle.spec_text.specs.utf8.Utf8.{leadLen, secondLow, secondHigh, tail, widthBy, charWidth, utf8From, utf8, codeBy, codeHead}
+use Rattle.spec_text.specs.whitespace.White.{whiteHigh, white, whiteHead, endsWhite, whiteTail, headFrom, keepFrom, trimHead, trimTail, trim}
+use Rattle.spec_text.specs.pattern.Find.{starts, equals, first, contains, upTo, past}
+use Rattle.spec_text.specs.pattern.Piece.{piecesFrom, pieces}
+use Rattle.spec_text.specs.text.Number.{digit, digits, valueFrom, natural, unsigned, number}
+use Rattle.spec_text.specs.text.Line.{linesOf, textOf, terminatorLength, terminatorOf, blank}
+use Rattle.spec_caption.specs.caption_time.Kind.{kindBad, unitsOf, markOf}
+use Rattle.spec_caption.specs.caption_stamp.Read.{markIn, timeWith, timeIn}
+use Rattle.spec_caption.specs.caption_fate.Says.{Piece, bytes, start, stop, unplaced, Cue, stays, passes, cue}
+use Rattle.spec_format.specs.ass_columns.Columns.{namesIn, placeIn, columnsIn, fields, fieldAt}
+use Rattle.spec_format.specs.ass_write.Tags.{holdsAny}
+use Rattle.spec_format.specs.ass_line.Line.{captionSays, wordSays, textSays, lineSays}
+use Rattle.spec_format.specs.ass_columns.Section.{bracketed, inside}
+use Rattle.spec_format.specs.ass_write.Frame.{pieceAt, fieldPieces}
+use Rattle.spec_format.specs.block_timing.Style.{blankIn, srtEnd, endIn, stampsIn}
+use Rattle.spec_format.specs.block_timing.Arrow.{timingOf, afterArrow}
+use Rattle.spec_format.specs.block_cue.Block.{blockFrame, blockCue, timingLineSays as blockLineSays, blockSays}
+use Rattle.spec_format.specs.whole.Srt.{blocksOf}
+use Rattle.spec_caption.specs.caption_fate.Mark.{bom}
+use Rattle.spec_session.specs.session_counts.Reader.{reading, fails}
 use Rattle.promise.specs.Plain.{lineFault, bodyLineFault, assRead, bodyFault, blocksRead, linesSay, plainRead}
 
 abbrev line : String → List ℕ

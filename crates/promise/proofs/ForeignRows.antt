@@ -1,17 +1,17 @@
 -- 17, the order of the refusals and what open returns: by computation.
 use mathlib.Core.Path.{_≡_, refl}
-use Rattle.base.specs.Part.{last}
-use Rattle.utf8.specs.Utf8.{leadLen, secondLow, secondHigh, tail, widthBy, charWidth, utf8From, utf8, codeBy, codeHead}
-use Rattle.white.specs.White.{whiteHigh, white, whiteHead, endsWhite, whiteTail, headFrom, keepFrom, trimHead, trimTail, trim}
-use Rattle.text.specs.Line.{textOf, terminatorLength, blank, hasLf}
-use Rattle.time.specs.Kind.{kindBad}
-use Rattle.time.specs.Convert.{timescaleBad}
-use Rattle.segment.specs.Segment.{endBad, segmentBad, anyBad, segmentsOf, mapBad}
-use Rattle.timing.specs.Style.{blankIn}
-use Rattle.machine.specs.Session.{isOutcome, outcomeBad}
-use Rattle.kinds.specs.Kit.{heldBad, columnsBad}
-use Rattle.foreign.specs.View.{heldOf, padded, stored, foreignOf}
-use Rattle.session.specs.Answer.{answerOf, openOf}
+use Rattle.spec_base.specs.base.Part.{last}
+use Rattle.spec_text.specs.utf8.Utf8.{leadLen, secondLow, secondHigh, tail, widthBy, charWidth, utf8From, utf8, codeBy, codeHead}
+use Rattle.spec_text.specs.whitespace.White.{whiteHigh, white, whiteHead, endsWhite, whiteTail, headFrom, keepFrom, trimHead, trimTail, trim}
+use Rattle.spec_text.specs.text.Line.{textOf, terminatorLength, blank, hasLf}
+use Rattle.spec_caption.specs.caption_time.Kind.{kindBad}
+use Rattle.spec_caption.specs.caption_time.Convert.{timescaleBad}
+use Rattle.spec_map.specs.segment.Segment.{endBad, segmentBad, anyBad, segmentsOf, mapBad}
+use Rattle.spec_format.specs.block_timing.Style.{blankIn}
+use Rattle.spec_session.specs.session_counts.Session.{isOutcome, outcomeBad}
+use Rattle.spec_session.specs.kinds.Kit.{heldBad, columnsBad}
+use Rattle.spec_session.specs.session_state.View.{heldOf, padded, stored, foreignOf}
+use Rattle.spec_session.specs.session.Answer.{answerOf, openOf}
 use Rattle.promise.specs.Foreign.{Foreign}
 
 pub foreign-rows : Foreign

@@ -1,3 +1,4 @@
+pub mod LinesCut
 pub mod Bare
 pub mod PlainAss
 pub mod PlainBlocks
@@ -9,10 +10,13 @@ pub mod WholeSrt
 pub mod WholeVtt
 pub mod PartLaws
 pub mod AgainLaws
+pub mod HourLaws
 pub mod DemandText
 pub mod Examples
 pub mod BoundLaws
 pub mod ForeignRows
 pub mod RunLaws
+pub mod OnlyEmits
+pub mod TheDemand
 pub mod ThePromise
 pub mod Numbers17

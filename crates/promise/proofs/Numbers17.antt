@@ -6,23 +6,23 @@ use mathlib.Core.List.{List, [], _∷_, _++_}
 use Prim.Native.Nat.{ℕ}
 use native.Mathlib.Omega.{arith}
 use lib.ListN.{length}
-use Rattle.time.specs.Kind.{kindBad}
-use Rattle.segment.specs.Segment.{mapBad}
-use Rattle.machine.specs.Cut.{closedLines, unfinished}
-use Rattle.machine.specs.Reader.{Reading}
-use Rattle.machine.specs.Session.{Call, feed, finish, lentOf, argumentBad, gate}
-use Rattle.machine.specs.Calls.{Proper, Reader, ReaderAnswer, newReader, readerAccepts, readerAnswer, hear}
-use Rattle.machine.proofs.ReaderGate.{readerResponds, reader-gated}
-use Rattle.machine.proofs.Numbers.{OfText, lines-number, opened}
-use Rattle.kinds.specs.Takes.{machineOf, blankState}
-use Rattle.kinds.specs.Kit.{kit}
-use Rattle.session.specs.declared.calling.Opened.{Opened}
-use Rattle.session.specs.Answer.{OpenAnswered, openOf}
+use Rattle.spec_caption.specs.caption_time.Kind.{kindBad}
+use Rattle.spec_map.specs.segment.Segment.{mapBad}
+use Rattle.spec_session.specs.session_counts.Cut.{closedLines, unfinished}
+use Rattle.spec_session.specs.session_counts.Reader.{Reading}
+use Rattle.spec_session.specs.session_counts.Session.{Call, feed, finish, lentOf, argumentBad, gate}
+use Rattle.spec_session.specs.session_counts.Calls.{Proper, Reader, ReaderAnswer, newReader, readerAccepts, readerAnswer, hear}
+use Rattle.spec_session.proofs.session_counts.ReaderGate.{readerResponds, reader-gated}
+use Rattle.spec_session.proofs.session_counts.Numbers.{OfText, lines-number, opened}
+use Rattle.spec_session.specs.kinds.Takes.{machineOf, blankState}
+use Rattle.spec_session.specs.kinds.Kit.{kit}
+use Rattle.spec_session.specs.declared.session.Opened.{Opened}
+use Rattle.spec_session.specs.session.Answer.{OpenAnswered, openOf}
 use Rattle.promise.specs.Plain.{plainRead}
 use Rattle.promise.specs.Runs.{Made, callsOf, Ran, outcome}
 use Rattle.promise.specs.Promise.{configOf}
 use Rattle.promise.proofs.PlainText.{said-plain}
-use Rattle.promise.proofs.ThePromise.{promise-opened}
+use Rattle.promise.proofs.TheDemand.{demand-opened}
 
 -- none of the numbers is 17
 abbrev pub Not17 : List ℕ → Type 0
@@ -64,5 +64,5 @@ known kind T m o a z = opened kit (configOf kind T) m (sym (a .number) ∙ z) .k
 pub never-foreign : (kind T : ℕ) (m : List ℕ) (o : Opened) → OpenAnswered kind T m o → o .number ≡ 0
     → (cs : List Made) → Proper m (callsOf cs) → Ran (o .session) cs → Not17 (outcome (o .session) cs .numbers)
 never-foreign kind T m o a z cs p r =
-    subst Not17 (sym (promise-opened kind T m o a z cs p r .same .numbers))
+    subst Not17 (sym (demand-opened kind T m o a z cs p r .same .numbers))
     (heard-17 (λ f t. plainRead kind f t) (plain-number kind (known kind T m o a z)) newReader (callsOf cs))

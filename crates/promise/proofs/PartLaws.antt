@@ -7,24 +7,24 @@ use Prim.Native.Nat.{ℕ, suc, _+_, _<_}
 use native.Mathlib.Omega.{arith}
 use lib.Dec.{ltb}
 use borrow.Author.Tests.{lt-ltb}
-use Rattle.time.specs.Kind.{unitsOf}
-use Rattle.time.specs.Convert.{ticksOf}
-use Rattle.stamp.specs.Write.{timeText}
-use Rattle.segment.specs.declared.segment.Segment.{Segment}
-use Rattle.segment.specs.Segment.{sourceOf, sourceEnd}
-use Rattle.event.specs.declared.setting.Config.{Config}
-use Rattle.event.specs.declared.retiming.Retimed.{Retimed}
-use Rattle.event.specs.declared.retiming.Decision.{Decision}
-use Rattle.event.specs.declared.retiming.Decision.the-variants.{Strange, Dropped, Kept}
-use Rattle.event.specs.Hit.{meetsParts, meets, Found, miss, hit, findFrom, findHit, metOf}
-use Rattle.event.specs.Lost.{lostLater, lostRule}
-use Rattle.event.specs.Decide.{retimedAt, decideHit, decideTicks, decideOf}
-use Rattle.event.specs.Fates.{passed, dropped, shifted, clipped, fateFor, fateBy, fateOf, Meets, NoneMeets, FirstMet}
-use Rattle.event.specs.Says.{Reason, unplaced, short, Cue, Part, stays, passes, cue}
-use Rattle.event.specs.Emit.{Warning, warnIf, decided, Emit, render, cueEmit, emitBy, emitOf, emitsOf, warningsOf}
-use Rattle.event.proofs.FateLaws.{met, fate-right}
-use Rattle.machine.specs.declared.counting.Counts.{Counts}
-use Rattle.machine.specs.Counts.{noCounts, countFate, countAll, countsOf}
+use Rattle.spec_caption.specs.caption_time.Kind.{unitsOf}
+use Rattle.spec_caption.specs.caption_time.Convert.{ticksOf}
+use Rattle.spec_caption.specs.caption_stamp.Write.{timeText}
+use Rattle.spec_map.specs.declared.segment.Segment.{Segment}
+use Rattle.spec_map.specs.segment.Segment.{sourceOf, sourceEnd}
+use Rattle.spec_caption.specs.declared.caption_fate.Config.{Config}
+use Rattle.spec_caption.specs.declared.caption_fate.Retimed.{Retimed}
+use Rattle.spec_caption.specs.declared.caption_fate.Decision.{Decision}
+use Rattle.spec_caption.specs.declared.caption_fate.Decision.the-variants.{Strange, Dropped, Kept}
+use Rattle.spec_caption.specs.caption_fate.Hit.{meetsParts, meets, Found, miss, hit, findFrom, findHit, metOf}
+use Rattle.spec_caption.specs.caption_fate.Lost.{lostLater, lostRule}
+use Rattle.spec_caption.specs.caption_fate.Decide.{retimedAt, decideHit, decideTicks, decideOf}
+use Rattle.spec_caption.specs.caption_fate.Fates.{passed, dropped, shifted, clipped, fateFor, fateBy, fateOf, Meets, NoneMeets, FirstMet}
+use Rattle.spec_caption.specs.caption_fate.Says.{Reason, unplaced, short, Cue, Part, stays, passes, cue}
+use Rattle.spec_caption.specs.caption_fate.Emit.{Warning, warnIf, decided, Emit, render, cueEmit, emitBy, emitOf, emitsOf, warningsOf}
+use Rattle.spec_caption.proofs.caption_fate.FateLaws.{met, fate-right}
+use Rattle.spec_session.specs.declared.session_counts.Counts.{Counts}
+use Rattle.spec_session.specs.session_counts.Counts.{noCounts, countFate, countAll, countsOf}
 use Rattle.promise.specs.Demand.{lostAmong, Warned, Leaves, CueRight, PartRight, AllRight, passings}
 
 -- ---- the first segment that is met, and those behind it

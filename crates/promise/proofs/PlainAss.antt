@@ -6,20 +6,20 @@ use Prim.Native.Nat.{ℕ, suc, _+_}
 use native.Mathlib.Omega.{arith}
 use lib.Dec.{eqb, leb}
 use lib.ListN.{length}
-use Rattle.base.specs.Limits.{mostLine}
-use Rattle.base.specs.Refusal.{_orElse_, faultUnless}
-use Rattle.utf8.specs.Utf8.{utf8}
-use Rattle.white.specs.White.{trim}
-use Rattle.text.specs.Line.{textOf}
-use Rattle.event.specs.Says.{notUtf8}
-use Rattle.columns.specs.declared.layout.Columns.{Columns}
-use Rattle.ass.specs.Line.{LineSays, textSays, lineSays, faulty as lineFaulty, says as lineSaid}
-use Rattle.columns.specs.Section.{bracketed}
-use Rattle.machine.specs.Machine.{Machine, Says, faulty}
-use Rattle.machine.specs.Reader.{Reading, fails, _⊕_, readLine, readClose}
-use Rattle.kinds.specs.Takes.{State, noColumns, blankState, ofLine, lineTakes, takes, machineOf}
+use Rattle.spec_base.specs.base.Limits.{mostLine}
+use Rattle.spec_base.specs.base.Refusal.{_orElse_, faultUnless}
+use Rattle.spec_text.specs.utf8.Utf8.{utf8}
+use Rattle.spec_text.specs.whitespace.White.{trim}
+use Rattle.spec_text.specs.text.Line.{textOf}
+use Rattle.spec_caption.specs.caption_fate.Says.{notUtf8}
+use Rattle.spec_format.specs.declared.ass_columns.Columns.{Columns}
+use Rattle.spec_format.specs.ass_line.Line.{LineSays, textSays, lineSays, faulty as lineFaulty, says as lineSaid}
+use Rattle.spec_format.specs.ass_columns.Section.{bracketed}
+use Rattle.spec_session.specs.session_counts.Machine.{Machine, Says, faulty}
+use Rattle.spec_session.specs.session_counts.Reader.{Reading, fails, _⊕_, readLine, readClose}
+use Rattle.spec_session.specs.kinds.Takes.{State, noColumns, blankState, ofLine, lineTakes, takes, machineOf}
 use Rattle.promise.specs.Plain.{lineFault, unlessFault, lineThen, assRead, restFault}
-use Rattle.kinds.proofs.KindLaws.{takes-ass, ends-ass}
+use Rattle.spec_session.proofs.kinds.KindLaws.{takes-ass, ends-ass}
 use Rattle.promise.proofs.Bare.{passed, endOf, readAll}
 
 -- a rest behind a line

@@ -7,21 +7,21 @@ use native.Mathlib.Omega.{arith}
 use borrow.Author.Tests.{ne-eqb}
 use lib.Dec.{eqb, leb}
 use lib.ListN.{length, length-append}
-use Rattle.base.specs.Limits.{mostLine, mostBlock}
-use Rattle.base.specs.Refusal.{_orElse_, faultUnless}
-use Rattle.base.proofs.RefusalLaws.{else-none, else-zero}
-use Rattle.utf8.specs.Utf8.{utf8}
-use Rattle.text.specs.Line.{concat, lineCount}
-use Rattle.event.specs.Says.{Part, stays, notUtf8}
-use Rattle.timing.specs.Style.{styleOf, blankIn}
-use Rattle.timing.specs.Header.{headerDue}
-use Rattle.block.specs.Block.{BlockSays, blockSays, faulty as blockFaulty, says as blockSaid}
-use Rattle.whole.specs.Srt.{Block, blockOf, ontoBlock, ontoBlanks, blankOnto, blocksOf}
-use Rattle.machine.specs.Machine.{Machine, Says, faulty}
-use Rattle.machine.specs.Reader.{Reading, fails, _⊕_, readLine, readClose}
-use Rattle.kinds.specs.Takes.{State, blankState, withBlock, ofBlock, closes, adds, blockTakes, takes, blockEnds, ends, machineOf}
+use Rattle.spec_base.specs.base.Limits.{mostLine, mostBlock}
+use Rattle.spec_base.specs.base.Refusal.{_orElse_, faultUnless}
+use Rattle.spec_base.proofs.base.RefusalLaws.{else-none, else-zero}
+use Rattle.spec_text.specs.utf8.Utf8.{utf8}
+use Rattle.spec_text.specs.text.Line.{concat, lineCount}
+use Rattle.spec_caption.specs.caption_fate.Says.{Part, stays, notUtf8}
+use Rattle.spec_format.specs.block_timing.Style.{styleOf, blankIn}
+use Rattle.spec_format.specs.block_timing.Header.{headerDue}
+use Rattle.spec_format.specs.block_cue.Block.{BlockSays, blockSays, faulty as blockFaulty, says as blockSaid}
+use Rattle.spec_format.specs.whole.Srt.{Block, blockOf, ontoBlock, ontoBlanks, blankOnto, blocksOf}
+use Rattle.spec_session.specs.session_counts.Machine.{Machine, Says, faulty}
+use Rattle.spec_session.specs.session_counts.Reader.{Reading, fails, _⊕_, readLine, readClose}
+use Rattle.spec_session.specs.kinds.Takes.{State, blankState, withBlock, ofBlock, closes, adds, blockTakes, takes, blockEnds, ends, machineOf}
 use Rattle.promise.specs.Plain.{lineFault, bodyLineFault, unlessFault, bodyFault, blockThen, bodyThen, blanksThen, markBehind, closesBlock, blocksRead, restFault}
-use Rattle.whole.proofs.BlockShape.{blocks-none, blocks-blank, blocks-body}
+use Rattle.spec_format.proofs.whole.BlockShape.{blocks-none, blocks-blank, blocks-body}
 use Rattle.promise.proofs.Bare.{passed, endOf, readAll}
 use Rattle.promise.proofs.PlainAss.{rest-behind, ending}
 

@@ -6,18 +6,18 @@ use Prim.Native.Nat.{ℕ, zero, suc, _+_}
 use borrow.Author.Tests.{eqb-true, eqb-false, eq-eqb, ne-eqb}
 use lib.Dec.{eqb, leb}
 use lib.ListN.{length, drop}
-use Rattle.base.specs.Limits.{mostLine}
-use Rattle.base.specs.Refusal.{_orElse_, faultUnless}
-use Rattle.utf8.specs.Utf8.{utf8}
-use Rattle.pattern.specs.Find.{starts, equals}
-use Rattle.text.specs.Line.{textOf}
-use Rattle.event.specs.Says.{Part, stays, notUtf8, badHeader}
-use Rattle.timing.specs.Header.{webvtt, partsWord, isHeader, headerDue}
-use Rattle.whole.specs.Srt.{blocksOf}
-use Rattle.machine.specs.Machine.{Machine, Says, faulty, says}
-use Rattle.machine.specs.Reader.{Reading, fails, _⊕_, readLine, readClose}
-use Rattle.kinds.specs.Takes.{State, blankState, headTakes, takes, ends, machineOf}
-use Rattle.kinds.proofs.KindLaws.{takes-vtt, ends-vtt}
+use Rattle.spec_base.specs.base.Limits.{mostLine}
+use Rattle.spec_base.specs.base.Refusal.{_orElse_, faultUnless}
+use Rattle.spec_text.specs.utf8.Utf8.{utf8}
+use Rattle.spec_text.specs.pattern.Find.{starts, equals}
+use Rattle.spec_text.specs.text.Line.{textOf}
+use Rattle.spec_caption.specs.caption_fate.Says.{Part, stays, notUtf8, badHeader}
+use Rattle.spec_format.specs.block_timing.Header.{webvtt, partsWord, isHeader, headerDue}
+use Rattle.spec_format.specs.whole.Srt.{blocksOf}
+use Rattle.spec_session.specs.session_counts.Machine.{Machine, Says, faulty, says}
+use Rattle.spec_session.specs.session_counts.Reader.{Reading, fails, _⊕_, readLine, readClose}
+use Rattle.spec_session.specs.kinds.Takes.{State, blankState, headTakes, takes, ends, machineOf}
+use Rattle.spec_session.proofs.kinds.KindLaws.{takes-vtt, ends-vtt}
 use Rattle.promise.specs.Plain.{lineFault, unlessFault, headWord, headed, headFault, vttRead, blocksRead}
 use Rattle.promise.proofs.Bare.{passed, endOf, readAll}
 use Rattle.promise.proofs.PlainAss.{rest-behind, ending}

@@ -5,28 +5,28 @@ use mathlib.Core.List.{List, [], _∷_, _++_}
 use Prim.Native.Nat.{ℕ, _≤_, _+_}
 use native.Mathlib.Omega.{arith}
 use lib.ListN.{length, take}
-use Rattle.base.specs.Limits.{mostHeld}
-use Rattle.base.specs.Put.{put}
-use Rattle.base.proofs.PutLaws.{take-put}
-use Rattle.segment.specs.Segment.{mapBad}
-use Rattle.event.specs.Emit.{Warning, outputOf, warningsOf, placesOf}
-use Rattle.columns.specs.declared.layout.Columns.{Columns}
-use Rattle.machine.specs.Machine.{Run, going, stopped, finishRun, restOf}
-use Rattle.machine.specs.Session.{Call, feed, finish, lentOf, argumentBad, Gate, refuse, admit, gate, settle, resume, respond, answer}
-use Rattle.machine.specs.Session as model
-use Rattle.machine.specs.Calls.{Played}
-use Rattle.machine.proofs.Resume.{Stopped, finish-stops}
-use Rattle.machine.proofs.Refine.{Returned, Answers, Trace, done, next, traced}
-use Rattle.kinds.specs.Takes.{State, machineOf}
-use Rattle.kinds.specs.Kit.{kit}
-use Rattle.kinds.proofs.EmptyPiece.{empty-piece}
-use Rattle.foreign.specs.declared.holding.Session.{Session}
-use Rattle.foreign.specs.View.{view, stored, padded, foreignOf}
-use Rattle.foreign.proofs.ViewLaws.{view-stored, padded-length, native-view}
-use Rattle.session.specs.declared.calling.Fed.{Fed}
-use Rattle.session.specs.Answer.{lent, feedCall, finishCall, answerOf, sessionGate, gateNumber, nextBy, nextOf, Answered}
-use Rattle.session.proofs.CallLaws.{gate-passed, answer-by, settled-small}
-use Rattle.promise.specs.Runs.{Made, fed, finished, resultOf, callOf, callsOf, Met, Ran, warningsIn, writtenBy, warnedBy, outcome}
+use Rattle.spec_base.specs.base.Limits.{mostHeld}
+use Rattle.spec_base.specs.base.Put.{put}
+use Rattle.spec_base.proofs.base.PutLaws.{take-put}
+use Rattle.spec_map.specs.segment.Segment.{mapBad}
+use Rattle.spec_caption.specs.caption_fate.Emit.{Warning, outputOf, warningsOf, placesOf}
+use Rattle.spec_format.specs.declared.ass_columns.Columns.{Columns}
+use Rattle.spec_session.specs.session_counts.Machine.{Run, going, stopped, finishRun, restOf}
+use Rattle.spec_session.specs.session_counts.Session.{Call, feed, finish, lentOf, argumentBad, Gate, refuse, admit, gate, settle, resume, respond, answer}
+use Rattle.spec_session.specs.session_counts.Session as model
+use Rattle.spec_session.specs.session_counts.Calls.{Played}
+use Rattle.spec_session.proofs.session_counts.Resume.{Stopped, finish-stops}
+use Rattle.spec_session.proofs.session_counts.Refine.{Returned, Answers, Trace, done, next, traced}
+use Rattle.spec_session.specs.kinds.Takes.{State, machineOf}
+use Rattle.spec_session.specs.kinds.Kit.{kit}
+use Rattle.spec_session.proofs.kinds.EmptyPiece.{empty-piece}
+use Rattle.spec_session.specs.declared.session_state.Session.{Session}
+use Rattle.spec_session.specs.session_state.View.{view, stored, padded, foreignOf}
+use Rattle.spec_session.proofs.session_state.ViewLaws.{view-stored, padded-length, native-view}
+use Rattle.spec_session.specs.declared.session.Fed.{Fed}
+use Rattle.spec_session.specs.session.Answer.{answerOf, sessionGate, gateNumber, nextBy, nextOf, Answered}
+use Rattle.spec_session.proofs.session.CallLaws.{gate-passed, answer-by, settled-small}
+use Rattle.promise.specs.Runs.{Made, callsOf, Met, Ran, warningsIn, writtenBy, warnedBy, outcome}
 
 -- ---- what a caller takes: as much as was told is what was written, and two places are a warning
 pub front : (v l got : List ℕ) (n : ℕ) → n ≡ length v → got ≡ put v l → take n got ≡ v
@@ -116,31 +116,29 @@ module _ (s : Session) (w : Whole s) where
       }
 
 abbrev pub returnedBy : Made → Returned Session
-returnedBy c = record { number = resultOf c .number; session = resultOf c .session; output = writtenBy c; warnings = warnedBy c }
+returnedBy c = record { number = c .result .number; session = c .result .session; output = writtenBy c; warnings = warnedBy c }
 
 abbrev pub returnedAll : List Made → List (Returned Session)
 returnedAll [] = []
 returnedAll (c ∷ cs) = returnedBy c ∷ returnedAll cs
 
-met-answers : (s : Session) → Whole s → (c : Made) → Met s c → Answers kit view s (callOf c) (returnedBy c)
-met-answers s w (fed map piece out places r out′ places′) a = answers s w (feedCall map piece (length out) (length places)) r out out′ places places′ a
-met-answers s w (finished map out places r out′ places′) a = answers s w (finishCall map (length out) (length places)) r out out′ places places′ a
+met-answers : (s : Session) → Whole s → (c : Made) → Met s c → Answers kit view s (c .call) (returnedBy c)
+met-answers s w c a = answers s w (c .call) (c .result) (c .out) (c .out′) (c .places) (c .places′) (a .1)
 
-met-whole : (s : Session) → Whole s → (c : Made) → Met s c → Whole (resultOf c .session)
-met-whole s w (fed map piece out places r out′ places′) a = subst Whole (sym (a .session)) (next-whole s w (feedCall map piece (length out) (length places)))
-met-whole s w (finished map out places r out′ places′) a = subst Whole (sym (a .session)) (next-whole s w (finishCall map (length out) (length places)))
+met-whole : (s : Session) → Whole s → (c : Made) → Met s c → Whole (c .result .session)
+met-whole s w c a = subst Whole (sym (a .1 .session)) (next-whole s w (c .call))
 
 -- ---- the list
 pub ran-trace : (s : Session) → Whole s → (cs : List Made) → Ran s cs → Trace kit view s (callsOf cs) (returnedAll cs)
 ran-trace s w [] r = done
-ran-trace s w (c ∷ cs) r = next (met-answers s w c (r .0)) (ran-trace (resultOf c .session) (met-whole s w c (r .0)) cs (r .1))
+ran-trace s w (c ∷ cs) r = next (met-answers s w c (r .0)) (ran-trace (c .result .session) (met-whole s w c (r .0)) cs (r .1))
 
 pub ran-outcome : (s : Session) (cs : List Made) → outcome s cs ≡ traced kit view s (returnedAll cs)
 ran-outcome s [] = refl
 ran-outcome s (c ∷ cs) =
     ap (λ (p : Played Columns). record {
-      numbers = resultOf c .number ∷ p .numbers;
+      numbers = c .result .number ∷ p .numbers;
       session = p .session;
       output = writtenBy c ++ p .output;
       warnings = warnedBy c ++ p .warnings;
-    }) (ran-outcome (resultOf c .session) cs)
+    }) (ran-outcome (c .result .session) cs)

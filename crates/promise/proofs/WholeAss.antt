@@ -5,17 +5,17 @@ use mathlib.Core.List.{List, [], _∷_, _++_, append-nil}
 use Prim.Native.Nat.{ℕ, zero, suc, _+_, _<_}
 use native.Mathlib.Omega.{arith}
 use lib.Dec.{eqb}
-use Rattle.base.specs.Refusal.{_orElse_}
-use Rattle.base.proofs.Laws.{and-true}
-use Rattle.text.specs.Line.{linesOf, lineCount}
-use Rattle.event.specs.Says.{Part, Fault, longLine, notUtf8, longBlock, badTime, badHeader, faultNumber}
-use Rattle.event.specs.Mark.{marked, behindMark, markWritten}
-use Rattle.columns.specs.declared.layout.Columns.{Columns}
-use Rattle.ass.specs.Line.{LineSays, lineSays, faulty as lineFaulty, says as lineSaid}
-use Rattle.ass.specs.Answer.{columnsAfter}
-use Rattle.columns.specs.Columns.{noColumns}
-use Rattle.whole.specs.Ass.{saidThen, linesSaid, columnsBehind, assSaid}
-use Rattle.machine.specs.Reader.{Reading, fails}
+use Rattle.spec_base.specs.base.Refusal.{_orElse_}
+use Rattle.spec_base.proofs.base.Laws.{and-true}
+use Rattle.spec_text.specs.text.Line.{linesOf, lineCount}
+use Rattle.spec_caption.specs.caption_fate.Says.{Part, Fault, longLine, notUtf8, longBlock, badTime, badHeader, faultNumber}
+use Rattle.spec_caption.specs.caption_fate.Mark.{marked, behindMark, markWritten}
+use Rattle.spec_format.specs.declared.ass_columns.Columns.{Columns}
+use Rattle.spec_format.specs.ass_line.Line.{LineSays, lineSays, faulty as lineFaulty, says as lineSaid}
+use Rattle.spec_format.specs.ass_line.Answer.{columnsAfter}
+use Rattle.spec_format.specs.ass_columns.Columns.{noColumns}
+use Rattle.spec_format.specs.whole.Ass.{saidThen, linesSaid, columnsBehind, assSaid}
+use Rattle.spec_session.specs.session_counts.Reader.{Reading, fails}
 use Rattle.promise.specs.Plain.{markLength, lineFault, unlessFault, lineThen, assRead, markBehind, linesSay, opened, markBack, plainRead}
 use Rattle.promise.specs.Whole.{AssWhole, timeFault, AssStops, AssBefore}
 

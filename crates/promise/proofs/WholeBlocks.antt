@@ -4,16 +4,17 @@ use mathlib.Core.Bool.{Bool, true, false, cond}
 use mathlib.Core.List.{List, [], _∷_, _++_, map, append-nil, append-assoc}
 use Prim.Native.Nat.{ℕ, zero, suc, _+_, _<_}
 use native.Mathlib.Omega.{arith}
-use Rattle.base.specs.Refusal.{_orElse_}
-use Rattle.text.specs.Line.{lineCount}
-use Rattle.event.specs.Says.{Part, stays, faultNumber}
-use Rattle.timing.specs.Style.{styleOf}
-use Rattle.block.specs.Block.{BlockSays, blockSays, faulty as blockFaulty, says as blockSaid}
-use Rattle.whole.specs.Srt.{Block, blockOf, blockSaidThen, bodySaid, blocksSaid}
-use Rattle.whole.proofs.BlockShape.{blockLines, AllBlank, Lines, BlankBehind, Others, Blocks, lines-more, others-blocks}
-use Rattle.machine.specs.Reader.{Reading, fails, _⊕_}
+use Rattle.spec_base.specs.base.Refusal.{_orElse_}
+use Rattle.spec_text.specs.text.Line.{lineCount}
+use Rattle.spec_caption.specs.caption_fate.Says.{Part, stays, faultNumber}
+use Rattle.spec_format.specs.block_timing.Style.{styleOf}
+use Rattle.spec_format.specs.block_cue.Block.{BlockSays, blockSays, faulty as blockFaulty, says as blockSaid}
+use Rattle.spec_format.specs.whole.Srt.{Block, blockOf, blockSaidThen, bodySaid, blocksSaid}
+use Rattle.spec_format.proofs.whole.BlockShape.{blockLines, AllBlank, Lines, BlankBehind, Others, Blocks, lines-more, others-blocks}
+use Rattle.spec_session.specs.session_counts.Reader.{Reading, fails, _⊕_}
 use Rattle.promise.specs.Plain.{lineFault, unlessFault, bodyFault, blockThen, bodyThen, blanksThen, markBehind, closesBlock, blocksRead}
 use Rattle.promise.specs.Whole.{blockTimeFault, bodyTimeFault, firstBlankFault, blockFault, BlocksStop, endsBlank}
+use Rattle.promise.proofs.LinesCut.{many-append}
 use Rattle.promise.proofs.WholeAss.{mark-none, number-positive}
 
 -- ---- a block by itself
@@ -64,10 +65,6 @@ blanks-cut [] = all (λ r. refl)
 blanks-cut (l ∷ ls) = blanks-by l ls (lineFault 0 l) refl (blanks-cut ls)
 
 -- ---- lines in a row
-count-append : (ks ls : List (List ℕ)) → lineCount (ks ++ ls) ≡ lineCount ks + lineCount ls
-count-append [] ls = omega arith
-count-append (k ∷ ks) ls = omega (arith, count-append ks ls)
-
 mark-lines : (x : ℕ) (ks : List (List ℕ)) → Lines ks → markBehind x ks ≡ 0
 mark-lines x [] h = absurd h
 mark-lines x (k ∷ ks) h = refl
@@ -268,7 +265,7 @@ module _ (kind : ℕ) where
         let reads : (cs : List Block) → read x n (blockOf body blanks ∷ cs) ≡ bodyParts n body ⊕ (map stays blanks ⊕ read 0 (next blanks) cs) =
         λ cs. read-pass blanks cs e ∙ ap (λ (y : Reading). bodyParts n body ⊕ y) (f (read 0 (next blanks) cs)) in
         let m : next blanks + lineCount head ≡ n + lineCount (body ++ (blanks ++ head)) =
-        omega (arith, count-append body (blanks ++ head), count-append blanks head) in
+        omega (arith, many-append body (blanks ++ head), many-append blanks head) in
         record {
           before = blockOf body blanks ∷ c .before;
           rest = c .rest;

@@ -6,14 +6,14 @@ use Prim.Native.Nat.{ℕ, zero, suc, _+_}
 use native.Mathlib.Omega.{arith}
 use lib.Dec.{eqb}
 use lib.ListN.{length}
-use Rattle.base.specs.Refusal.{_orElse_}
-use Rattle.base.proofs.RefusalLaws.{else-zero}
-use Rattle.text.specs.Line.{linesOf, lineCount}
-use Rattle.event.specs.Says.{Part}
-use Rattle.event.specs.Mark.{marked, behindMark}
-use Rattle.timing.specs.Style.{blankIn}
-use Rattle.whole.specs.Srt.{Block, ontoBlock, ontoBlanks, blankOnto, blocksOf, blocksSaid, srtSaid}
-use Rattle.whole.proofs.BlockShape.{blockLines, blocks-joined, blocks-shape, blocks-only, blocks-blank, blocks-body}
+use Rattle.spec_base.specs.base.Refusal.{_orElse_}
+use Rattle.spec_base.proofs.base.RefusalLaws.{else-zero}
+use Rattle.spec_text.specs.text.Line.{linesOf, lineCount}
+use Rattle.spec_caption.specs.caption_fate.Says.{Part}
+use Rattle.spec_caption.specs.caption_fate.Mark.{marked, behindMark}
+use Rattle.spec_format.specs.block_timing.Style.{blankIn}
+use Rattle.spec_format.specs.whole.Srt.{Block, ontoBlock, ontoBlanks, blankOnto, blocksOf, blocksSaid, srtSaid}
+use Rattle.spec_format.proofs.whole.BlockShape.{blockLines, blocks-joined, blocks-shape, blocks-only, blocks-blank, blocks-body}
 use Rattle.promise.specs.Plain.{markLength, lineFault, bodyLineFault, bodyFault, markBehind, blocksRead, linesSay, opened, markBack, plainRead}
 use Rattle.promise.specs.Whole.{SrtWhole, BlocksStop, SrtBefore}
 use Rattle.promise.proofs.WholeAss.{no-fault, mark-back}

@@ -7,13 +7,13 @@ use Prim.Native.Nat.{ℕ, zero, suc, _+_, _<_}
 use native.Mathlib.Omega.{arith}
 use borrow.Author.Tests.{ne-eqb}
 use lib.Dec.{eqb}
-use Rattle.text.specs.Line.{linesOf, lineCount}
-use Rattle.event.specs.Says.{Part, stays}
-use Rattle.event.specs.Mark.{marked, behindMark, markWritten}
-use Rattle.whole.specs.Srt.{Block, blocksOf, blocksSaid}
-use Rattle.whole.specs.Vtt.{headSaid, vttSaid}
-use Rattle.whole.proofs.BlockShape.{blockLines, blocks-joined, blocks-shape, blocks-only}
-use Rattle.machine.specs.Reader.{Reading, fails, _⊕_}
+use Rattle.spec_text.specs.text.Line.{linesOf, lineCount}
+use Rattle.spec_caption.specs.caption_fate.Says.{Part, stays}
+use Rattle.spec_caption.specs.caption_fate.Mark.{marked, behindMark, markWritten}
+use Rattle.spec_format.specs.whole.Srt.{Block, blocksOf, blocksSaid}
+use Rattle.spec_format.specs.whole.Vtt.{headSaid, vttSaid}
+use Rattle.spec_format.proofs.whole.BlockShape.{blockLines, blocks-joined, blocks-shape, blocks-only}
+use Rattle.spec_session.specs.session_counts.Reader.{Reading, fails, _⊕_}
 use Rattle.promise.specs.Plain.{markLength, unlessFault, markBehind, headFault, vttRead, blocksRead, linesSay, opened, plainRead}
 use Rattle.promise.specs.Whole.{VttWhole, BlocksStop, endsBlank, FirstStops, VttAtFirst, VttBehind, VttBefore}
 use Rattle.promise.proofs.WholeAss.{mark-none, mark-back}

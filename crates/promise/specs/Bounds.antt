@@ -4,14 +4,14 @@ use mathlib.Core.Bool.{true, false}
 use mathlib.Core.List.{List, []}
 use Prim.Native.Nat.{ℕ, _+_, _≤_}
 use lib.ListN.{length}
-use Rattle.utf8.specs.Utf8.{utf8}
-use Rattle.text.specs.Line.{concat, hasLf}
-use Rattle.time.specs.Convert.{timescaleBad}
-use Rattle.segment.specs.Segment.{segmentsOf, anyBad, mapBad}
-use Rattle.machine.specs.Cut.{closedLines, unfinished}
-use Rattle.machine.specs.Session.{Lent, feed, finish}
-use Rattle.machine.specs.Calls.{Reader, readerRefusal}
-use Rattle.kinds.specs.Kit.{linesBad, heldBad, columnsBad}
+use Rattle.spec_text.specs.utf8.Utf8.{utf8}
+use Rattle.spec_text.specs.text.Line.{concat, hasLf}
+use Rattle.spec_caption.specs.caption_time.Convert.{timescaleBad}
+use Rattle.spec_map.specs.segment.Segment.{segmentsOf, anyBad, mapBad}
+use Rattle.spec_session.specs.session_counts.Cut.{closedLines, unfinished}
+use Rattle.spec_session.specs.session_counts.Session.{Lent, feed, finish}
+use Rattle.spec_session.specs.session_counts.Calls.{Reader, readerRefusal}
+use Rattle.spec_session.specs.kinds.Kit.{linesBad, heldBad, columnsBad}
 use Rattle.promise.specs.Plain.{lineFault, bodyLineFault}
 
 -- a reader that has taken some text

@@ -1,24 +1,25 @@
--- Demand 3: for every list of feeds and finishes, what the calls answered, wrote, warned of and counted is what the text says, each part put through the map.
+-- Demand 3: what is right for each part of a text, put through the map; what the plain reader has read after a list of calls; and `Demand`, which is
+-- stronger than the promise: the numbers, the bytes, the warnings and the counts are those that are computed from the text.
 use mathlib.Core.Path.{_≡_}
 use mathlib.Core.Bool.{Bool, true, false, _&&_, _||_}
 use mathlib.Core.List.{List, [], _∷_, _++_}
 use Prim.Native.Nat.{ℕ, suc}
 use lib.Dec.{ltb, leb}
-use Rattle.time.specs.Kind.{unitsOf}
-use Rattle.time.specs.Convert.{ticksOf}
-use Rattle.stamp.specs.Write.{timeText}
-use Rattle.segment.specs.declared.segment.Segment.{Segment}
-use Rattle.segment.specs.Segment.{sourceOf, sourceEnd, segmentsOf}
-use Rattle.event.specs.declared.setting.Config.{Config}
-use Rattle.event.specs.Fates.{Fate, passed, dropped, shifted, clipped, FirstMet, Right}
-use Rattle.event.specs.Says.{reasonNumber, Cue, Part, stays, passes, cue, captionsIn}
-use Rattle.event.specs.Emit.{Warning, warning, warnIf, none, decided, Emit, render, emitOf}
-use Rattle.columns.specs.declared.layout.Columns.{Columns}
-use Rattle.machine.specs.Counts.{total, countIf, CountedBy}
-use Rattle.machine.specs.Reader.{Reading}
-use Rattle.machine.specs.Session.{Call, openSession}
-use Rattle.machine.specs.Calls.{Played, play, Heard, newReader, hear, readingOf, emitsIn, SameAsReader}
-use Rattle.kinds.specs.Kit.{kit}
+use Rattle.spec_caption.specs.caption_time.Kind.{unitsOf}
+use Rattle.spec_caption.specs.caption_time.Convert.{ticksOf}
+use Rattle.spec_caption.specs.caption_stamp.Write.{timeText}
+use Rattle.spec_map.specs.declared.segment.Segment.{Segment}
+use Rattle.spec_map.specs.segment.Segment.{sourceOf, sourceEnd, segmentsOf}
+use Rattle.spec_caption.specs.declared.caption_fate.Config.{Config}
+use Rattle.spec_caption.specs.caption_fate.Fates.{Fate, passed, dropped, shifted, clipped, FirstMet, Right}
+use Rattle.spec_caption.specs.caption_fate.Says.{reasonNumber, Cue, Part, stays, passes, cue, captionsIn}
+use Rattle.spec_caption.specs.caption_fate.Emit.{Warning, warning, warnIf, none, decided, Emit, render, emitOf}
+use Rattle.spec_format.specs.declared.ass_columns.Columns.{Columns}
+use Rattle.spec_session.specs.session_counts.Counts.{total, countIf, CountedBy}
+use Rattle.spec_session.specs.session_counts.Reader.{Reading}
+use Rattle.spec_session.specs.session_counts.Session.{Call, openSession}
+use Rattle.spec_session.specs.session_counts.Calls.{Played, play, Reader, Heard, newReader, readerAfter, hear, readingOf, emitsIn, SameAsReader}
+use Rattle.spec_session.specs.kinds.Kit.{kit}
 use Rattle.promise.specs.Plain.{plainRead}
 use Rattle.promise.specs.Again.{AllAgain}
 
@@ -64,6 +65,7 @@ module _ (c : Config) (m : List Segment) where
   PartRight (passes r n l) e = (e .out ≡ l) × (e .warnings ≡ warning (reasonNumber r) n ∷ []) × (e .caption ≡ decided passed)
   PartRight (cue q) e = CueRight q e
 
+  -- the emits that are computed are right
   abbrev pub AllRight : List Part → Type 0
   AllRight [] = Unit {0}
   AllRight (p ∷ ps) = PartRight p (emitOf c m p) × AllRight ps
@@ -76,11 +78,15 @@ passings (w ∷ ws) = countIf (leb (w .kind) 2) (passings ws)
 -- ---- the list
 module _ (c : Config) (xs : List Call) where
   -- the plain reader after the list, and what it has read
-  abbrev pub heard : Heard
-  heard = hear (plainRead (c .kind)) newReader xs
+  abbrev pub readerIn : Reader
+  readerIn = readerAfter (plainRead (c .kind)) newReader xs
 
   abbrev pub saidIn : Reading
-  saidIn = readingOf (plainRead (c .kind)) (heard .reader)
+  saidIn = readingOf (plainRead (c .kind)) readerIn
+
+-- ---- stronger than the promise: by the emits that are computed, of the model's session, with captions read again
+abbrev pub heard : Config → List Call → Heard
+heard c xs = hear (plainRead (c .kind)) newReader xs
 
 -- from the session that open returned
 abbrev pub played : (c : Config) → (m : List ℕ) → List Call → Played Columns

@@ -4,11 +4,11 @@ use mathlib.Core.Bool.{Bool, true, false}
 use mathlib.Core.List.{List, [], _∷_}
 use Prim.Native.Nat.{ℕ}
 use lib.ListN.{length, replicate}
-use Rattle.columns.specs.declared.layout.Columns.{Columns}
-use Rattle.machine.specs.declared.counting.Counts.{Counts}
-use Rattle.foreign.specs.declared.holding.Session.{Session}
-use Rattle.foreign.specs.View.{stored, foreignOf}
-use Rattle.session.specs.Answer.{feedCall, finishCall, answerOf, openOf}
+use Rattle.spec_format.specs.declared.ass_columns.Columns.{Columns}
+use Rattle.spec_session.specs.declared.session_counts.Counts.{Counts}
+use Rattle.spec_session.specs.declared.session_state.Session.{Session}
+use Rattle.spec_session.specs.session_state.View.{stored, foreignOf}
+use Rattle.spec_session.specs.session.Answer.{feedCall, finishCall, answerOf, openOf}
 
 abbrev pub counted : (shifted clipped dropped passed : ℕ) → Counts
 counted s k d p = record { shifted = s; clipped = k; dropped = d; passed = p }

@@ -4,21 +4,21 @@ use mathlib.Core.List.{List, [], _∷_, _++_}
 use Prim.Native.Nat.{ℕ, zero, suc, _+_}
 use lib.Dec.{leb, eqb}
 use lib.ListN.{length}
-use Rattle.base.specs.Limits.{mostLine, mostBlock}
-use Rattle.base.specs.Refusal.{_orElse_, faultUnless}
-use Rattle.utf8.specs.Utf8.{utf8}
-use Rattle.pattern.specs.Find.{starts, equals}
-use Rattle.text.specs.Line.{linesOf, lineCount, textOf}
-use Rattle.event.specs.Says.{Part, stays, faultNumber}
-use Rattle.event.specs.Mark.{marked, behindMark, markWritten}
-use Rattle.columns.specs.declared.layout.Columns.{Columns}
-use Rattle.ass.specs.Line.{LineSays, lineSays, faulty as lineFaulty, says as lineSaid}
-use Rattle.columns.specs.Columns.{noColumns}
-use Rattle.timing.specs.Style.{styleOf, blankIn}
-use Rattle.block.specs.Block.{BlockSays, blockSays, faulty as blockFaulty, says as blockSaid}
-use Rattle.whole.specs.Srt.{Block, blocksOf}
-use Rattle.machine.specs.Cut.{closedLines, unfinished}
-use Rattle.machine.specs.Reader.{Reading, fails, _⊕_}
+use Rattle.spec_base.specs.base.Limits.{mostLine, mostBlock}
+use Rattle.spec_base.specs.base.Refusal.{_orElse_, faultUnless}
+use Rattle.spec_text.specs.utf8.Utf8.{utf8}
+use Rattle.spec_text.specs.pattern.Find.{starts, equals}
+use Rattle.spec_text.specs.text.Line.{linesOf, lineCount, textOf}
+use Rattle.spec_caption.specs.caption_fate.Says.{Part, stays, faultNumber}
+use Rattle.spec_caption.specs.caption_fate.Mark.{marked, behindMark, markWritten}
+use Rattle.spec_format.specs.declared.ass_columns.Columns.{Columns}
+use Rattle.spec_format.specs.ass_line.Line.{LineSays, lineSays, faulty as lineFaulty, says as lineSaid}
+use Rattle.spec_format.specs.ass_columns.Columns.{noColumns}
+use Rattle.spec_format.specs.block_timing.Style.{styleOf, blankIn}
+use Rattle.spec_format.specs.block_cue.Block.{BlockSays, blockSays, faulty as blockFaulty, says as blockSaid}
+use Rattle.spec_format.specs.whole.Srt.{Block, blocksOf}
+use Rattle.spec_session.specs.session_counts.Cut.{closedLines, unfinished}
+use Rattle.spec_session.specs.session_counts.Reader.{Reading, fails, _⊕_}
 
 -- ---- the bytes that a leading BOM adds to the first line
 abbrev pub markLength : List ℕ → ℕ

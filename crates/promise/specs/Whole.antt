@@ -1,23 +1,23 @@
--- Whole texts and the plain reader, after a finish. Without a fault it has read what the whole text says (whole/specs/Ass and Srt);
+-- Whole texts and the plain reader, after a finish. Without a fault it has read what the whole text says (spec_format/specs/whole/Ass and Srt);
 -- with one, what the lines before the fault's line or block say.
 use mathlib.Core.Path.{_≡_}
 use mathlib.Core.Logic.{_⊎_}
 use mathlib.Core.Bool.{Bool, true}
 use mathlib.Core.List.{List, [], _∷_, _++_}
 use Prim.Native.Nat.{ℕ, suc, _<_}
-use Rattle.base.specs.Refusal.{_orElse_}
-use Rattle.text.specs.Line.{linesOf, lineCount}
-use Rattle.event.specs.Says.{stays, faultNumber}
-use Rattle.event.specs.Mark.{marked, behindMark, markWritten}
-use Rattle.columns.specs.declared.layout.Columns.{Columns}
-use Rattle.ass.specs.Line.{LineSays, lineSays, faulty as lineFaulty, says as lineSaid}
-use Rattle.columns.specs.Columns.{noColumns}
-use Rattle.whole.specs.Ass.{linesSaid, columnsBehind, assSaid}
-use Rattle.timing.specs.Style.{styleOf, blankIn}
-use Rattle.block.specs.Block.{BlockSays, blockSays, faulty as blockFaulty, says as blockSaid}
-use Rattle.whole.specs.Srt.{Block, blocksOf, blocksSaid, srtSaid}
-use Rattle.whole.specs.Vtt.{vttSaid}
-use Rattle.machine.specs.Reader.{fails}
+use Rattle.spec_base.specs.base.Refusal.{_orElse_}
+use Rattle.spec_text.specs.text.Line.{linesOf, lineCount}
+use Rattle.spec_caption.specs.caption_fate.Says.{stays, faultNumber}
+use Rattle.spec_caption.specs.caption_fate.Mark.{marked, behindMark, markWritten}
+use Rattle.spec_format.specs.declared.ass_columns.Columns.{Columns}
+use Rattle.spec_format.specs.ass_line.Line.{LineSays, lineSays, faulty as lineFaulty, says as lineSaid}
+use Rattle.spec_format.specs.ass_columns.Columns.{noColumns}
+use Rattle.spec_format.specs.whole.Ass.{linesSaid, columnsBehind, assSaid}
+use Rattle.spec_format.specs.block_timing.Style.{styleOf, blankIn}
+use Rattle.spec_format.specs.block_cue.Block.{BlockSays, blockSays, faulty as blockFaulty, says as blockSaid}
+use Rattle.spec_format.specs.whole.Srt.{Block, blocksOf, blocksSaid, srtSaid}
+use Rattle.spec_format.specs.whole.Vtt.{vttSaid}
+use Rattle.spec_session.specs.session_counts.Reader.{fails}
 use Rattle.promise.specs.Plain.{markLength, lineFault, assRead, bodyFault, markBehind, blocksRead, headFault, markBack, plainRead}
 
 -- ---- without a fault

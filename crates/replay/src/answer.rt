@@ -40,7 +40,7 @@ fn print_list(list: &[u8]) {
     let p = trim::parse(list, &mut ranges);
     let number = p.number;
     if number != 0 {
-        mapfile::print_number(b"refused ", number);
+        files_map::print_number(b"refused ", number);
         return;
     }
     io::write_all(STDOUT_FILENO, b"ranges ");
@@ -61,27 +61,27 @@ fn kind_of(u: u32) -> u32 {
 }
 
 fn print_converted(head: &[u8], x: &[u8]) {
-    let low = blocks::word(x, 0) as u64;
-    let high = blocks::word(x, 1) as u64;
+    let low = checked_blocks::word(x, 0) as u64;
+    let high = checked_blocks::word(x, 1) as u64;
     let value = low + 4294967296 * high;
-    let timescale = blocks::word(head, 1);
-    let kind = kind_of(blocks::word(head, 2));
-    let way = blocks::word(head, 3);
+    let timescale = checked_blocks::word(head, 1);
+    let kind = kind_of(checked_blocks::word(head, 2));
+    let way = checked_blocks::word(head, 3);
     if way == 0 {
-        print_value(time::units_to_ticks(value, timescale, kind));
+        print_value(caption_time::units_to_ticks(value, timescale, kind));
         return;
     }
     if way == 1 {
-        print_value(time::ticks_to_units_floor(value, timescale, kind));
+        print_value(caption_time::ticks_to_units_floor(value, timescale, kind));
         return;
     }
-    print_value(time::ticks_to_units_ceil(value, timescale, kind));
+    print_value(caption_time::ticks_to_units_ceil(value, timescale, kind));
 }
 
-fn print_value(c: time::Converted) {
+fn print_value(c: caption_time::Converted) {
     let number = c.number;
     if number != 0 {
-        mapfile::print_number(b"refused ", number);
+        files_map::print_number(b"refused ", number);
         return;
     }
     io::write_all(STDOUT_FILENO, b"converted ");
@@ -96,7 +96,12 @@ fn answer_plain(op: u32, head: &[u8], x: &[u8], y: &[u8], z: &[u8]) {
         return;
     }
     if op == 2 {
-        print_made(x, y, blocks::word(head, 1), blocks::word(head, 3));
+        print_made(
+            x,
+            y,
+            checked_blocks::word(head, 1),
+            checked_blocks::word(head, 3),
+        );
         return;
     }
     if op == 4 {
@@ -106,15 +111,15 @@ fn answer_plain(op: u32, head: &[u8], x: &[u8], y: &[u8], z: &[u8]) {
     if asks(head, x, y, z) {
         return;
     }
-    mapfile::print_number(b"unknown op ", op);
+    files_map::print_number(b"unknown op ", op);
 }
 
 pub fn answer(head: &[u8], x: &[u8], y: &[u8], z: &[u8]) {
-    let op = blocks::word(head, 0);
-    let first = blocks::word(head, 1);
-    let second = blocks::word(head, 2);
-    let third = blocks::word(head, 3);
-    let plan = blocks::word(head, 4);
+    let op = checked_blocks::word(head, 0);
+    let first = checked_blocks::word(head, 1);
+    let second = checked_blocks::word(head, 2);
+    let third = checked_blocks::word(head, 3);
+    let plan = checked_blocks::word(head, 4);
     if op == 3 {
         through_made(x, y, first, third, second, plan, z);
         return;
@@ -133,5 +138,8 @@ pub fn answer(head: &[u8], x: &[u8], y: &[u8], z: &[u8]) {
     if texts(head, x, y, z) {
         return;
     }
-    mapfile::print_number(b"unknown op ", op);
+    if replay_rows::answer(op, second, third, z) {
+        return;
+    }
+    files_map::print_number(b"unknown op ", op);
 }

@@ -1,15 +1,15 @@
 // The map of a case that has a text.
 ghost use mathlib.Core.Path.{_≡_};
 ghost use Prim.Native.Nat.{_≤_};
-ghost use Rattle.base.specs.Limits.{mostWork};
+ghost use Rattle.spec_base.specs.base.Limits.{mostWork};
 
 // The 64-bit number at place k.
 fn number_in(x: &[u8], k: usize) -> u64 {
     if 1099511627776 < k {
         return 0;
     }
-    let low = blocks::word(x, 2 * k) as u64;
-    let high = blocks::word(x, 2 * k + 1) as u64;
+    let low = checked_blocks::word(x, 2 * k) as u64;
+    let high = checked_blocks::word(x, 2 * k + 1) as u64;
     low + 4294967296 * high
 }
 
@@ -30,13 +30,13 @@ pub fn texts(head: &[u8], x: &[u8], y: &[u8], z: &[u8]) -> bool {
     let mut map = [0u64; 8750];
     let n = x.len() / 8;
     fill(x, n, &mut map);
-    let op = blocks::word(head, 0);
-    let a = blocks::word(head, 1);
-    let b = blocks::word(head, 2);
-    let c = blocks::word(head, 3);
-    let d = blocks::word(head, 4);
+    let op = checked_blocks::word(head, 0);
+    let a = checked_blocks::word(head, 1);
+    let b = checked_blocks::word(head, 2);
+    let c = checked_blocks::word(head, 3);
+    let d = checked_blocks::word(head, 4);
     let given = base::words_front(&map, n);
-    retimings::answer(op, a, b, c, d, given, x, y, z)
+    replay_sessions::answer(op, a, b, c, d, given, x, y, z)
 }
 
 // How many work bytes a case lends: 0 is as many as are always enough, and more do not matter.
@@ -57,7 +57,7 @@ fn work_lent(c: u32) -> usize
 pub fn print_made(sheet: &[u8], list: &[u8], direction: u32, lent: u32) {
     let mut work = [0; base::MOST_WORK];
     let n = work_lent(lent);
-    mapfile::print_map_of(sheet, list, direction, &mut work[..n]);
+    files_map::print_map_of(sheet, list, direction, &mut work[..n]);
 }
 
 // Whether the op is a question about the map that x has; its answer is printed. The numbers of y and z go with it.
@@ -71,11 +71,11 @@ pub fn asks(head: &[u8], x: &[u8], y: &[u8], z: &[u8]) -> bool {
     fill(x, n, &mut map);
     fill(y, m, &mut few);
     fill(z, l, &mut many);
-    let op = blocks::word(head, 0);
-    let a = blocks::word(head, 1);
-    let b = blocks::word(head, 2);
-    let c = blocks::word(head, 3);
-    queries::answer(
+    let op = checked_blocks::word(head, 0);
+    let a = checked_blocks::word(head, 1);
+    let b = checked_blocks::word(head, 2);
+    let c = checked_blocks::word(head, 3);
+    replay_ask::answer(
         op,
         a,
         b,
@@ -91,12 +91,12 @@ pub fn map_texts(head: &[u8], x: &[u8], y: &[u8]) -> bool {
     let mut map = [0u64; 8750];
     let n = x.len() / 8;
     fill(x, n, &mut map);
-    let op = blocks::word(head, 0);
-    let a = blocks::word(head, 1);
-    let b = blocks::word(head, 2);
-    let c = blocks::word(head, 3);
-    let d = blocks::word(head, 4);
-    maptexts::answer(op, a, b, c, d, base::words_front(&map, n), x, y)
+    let op = checked_blocks::word(head, 0);
+    let a = checked_blocks::word(head, 1);
+    let b = checked_blocks::word(head, 2);
+    let c = checked_blocks::word(head, 3);
+    let d = checked_blocks::word(head, 4);
+    replay_json::answer(op, a, b, c, d, base::words_front(&map, n), x, y)
 }
 
 // A text through the map of a sheet and a list, with so many work bytes.
@@ -114,16 +114,16 @@ pub fn through_made(
     let n = work_lent(lent);
     let made = segmap::make(sheet, list, direction, &mut work[..n], &mut map);
     if made.number != 0 {
-        mapfile::print_number(b"refused ", made.number);
+        files_map::print_number(b"refused ", made.number);
         return;
     }
-    retimings::answer(
+    replay_sessions::answer(
         5,
         made.timescale,
         kind,
         0,
         plan,
-        mapfile::first_segments(&map, made.count),
+        files_map::first_segments(&map, made.count),
         b"",
         b"",
         text,

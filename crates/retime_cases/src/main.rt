@@ -4,11 +4,11 @@ use libc::STDOUT_FILENO;
 fn run_case(name: &[u8]) {
     io::write_all(STDOUT_FILENO, name);
     io::write_all(STDOUT_FILENO, b":\n");
-    let sheet = mapfile::load(name, b"sheet.bin");
-    let list = mapfile::load(name, b"trim.txt");
+    let sheet = files_map::load(name, b"sheet.bin");
+    let list = files_map::load(name, b"trim.txt");
     let s = sheet.bytes;
     let l = list.bytes;
-    retimefile::retime(
+    files_retime::retime(
         name,
         base::front(&s, sheet.length),
         base::front(&l, list.length),
@@ -28,7 +28,7 @@ fn run_cases(names: &[u8]) {
 }
 
 fn main() {
-    let file = mapfile::load(b"", b"cases.txt");
+    let file = files_map::load(b"", b"cases.txt");
     let names = file.bytes;
     run_cases(base::front(&names, file.length));
 }

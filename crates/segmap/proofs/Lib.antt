@@ -1,7 +1,1 @@
-pub mod TicksLaws
 pub mod MarkLaws
-pub mod BuildLaws
-pub mod KeptLaws
-pub mod MapLaws
-pub mod Built
-pub mod Blank

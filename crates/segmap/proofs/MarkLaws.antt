@@ -8,9 +8,9 @@ use borrow.Author.Tests.{eqb-true, eqb-false, leb-true, leb-false}
 use lib.Dec.{eqb, leb}
 use lib.ListN.{length, getD, set, length-set}
 use lib.Seq.{getD-set-same, getD-set-other}
-use Rattle.base.specs.Limits.{mostFrames, mostTicks}
-use Rattle.frames.specs.Frames.{ticksFrom}
-use Rattle.frames.proofs.TicksLaws.{ticks-none, ticks-more}
+use Rattle.spec_base.specs.base.Limits.{mostFrames, mostTicks}
+use Rattle.spec_sheet.specs.sheet_frames.Frames.{ticksFrom}
+use Rattle.spec_sheet.proofs.sheet_frames.TicksLaws.{ticks-none, ticks-more}
 use Rattle.segmap.specs.Marks.{Mark, Noted, Carried}
 
 -- nothing is added up

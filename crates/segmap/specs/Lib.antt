@@ -1,4 +1,2 @@
 -- The segment map.
-pub mod Build
-pub mod Map
 pub mod Marks

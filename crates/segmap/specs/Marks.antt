@@ -3,8 +3,8 @@ use mathlib.Core.Path.{_≡_}
 use mathlib.Core.List.{List}
 use Prim.Native.Nat.{ℕ, _*_, _≤_, _<_}
 use lib.ListN.{length, getD}
-use Rattle.base.specs.Limits.{mostFrames}
-use Rattle.frames.specs.Frames.{ticksFrom}
+use Rattle.spec_base.specs.base.Limits.{mostFrames}
+use Rattle.spec_sheet.specs.sheet_frames.Frames.{ticksFrom}
 
 -- mark j is the sum of all samples before the 1,024 * j-th
 abbrev pub Mark : (s marks : List ℕ) → ℕ → Type 0

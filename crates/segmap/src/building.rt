@@ -9,12 +9,12 @@ ghost use mathlib.Core.Path.{_≡_};
 ghost use Prim.Native.Nat.{_+_, _-_, _*_, _≤_};
 ghost use lib.ListN.{length, take};
 ghost use lib.Seq.{sets};
-ghost use Rattle.base.specs.Limits.{mostFrames, mostTicks, mostSegments};
-ghost use Rattle.base.specs.Put.{put};
-ghost use Rattle.frames.specs.Frames.{decodeOf, ticksFrom};
-ghost use Rattle.segment.specs.Segment.{numbersOf, flatOf};
+ghost use Rattle.spec_base.specs.base.Limits.{mostFrames, mostTicks, mostSegments};
+ghost use Rattle.spec_base.specs.base.Put.{put};
+ghost use Rattle.spec_sheet.specs.sheet_frames.Frames.{decodeOf, ticksFrom};
+ghost use Rattle.spec_map.specs.segment.Segment.{numbersOf, flatOf};
 ghost use Rattle.segmap.specs.Marks.{Carried};
-ghost use Rattle.segmap.specs.Build.{keptTicks, rangesFault, segmentIn, segmentsIn};
+ghost use Rattle.spec_map.specs.segmap.Build.{keptTicks, rangesFault, segmentIn, segmentsIn};
 
 // A segment, and how far the sum has come with it.
 struct Step {
@@ -38,7 +38,7 @@ fn segment_of(
     ensures { λ r. ⌜ Carried (now (s .entry)) (r .reached .decode .0) (r .reached .ticks) (now (marks .exit)) ⌝ }
 {
     let count = order::frame_count(start, end);
-    let decode = frames::decode_at(s, start);
+    let decode = sheet_frames::decode_at(s, start);
     let first = reach(s, from, decode, marks);
     let last = reach(s, first.far, DecodeIdx(decode.0 + count), marks);
     let segment = Segment {

@@ -3,7 +3,7 @@ use order::DisplayIdx;
 ghost use mathlib.Core.Path.{_≡_};
 ghost use Prim.Native.Nat.{_*_};
 ghost use lib.ListN.{take};
-ghost use Rattle.segmap.specs.Build.{rangeFault, rangesFault};
+ghost use Rattle.spec_map.specs.segmap.Build.{rangeFault, rangesFault};
 
 // Whether a range is turned over, or takes samples past the last.
 pub fn range_fault(s: &[u8], n: u32, start: DisplayIdx, end: DisplayIdx) -> u32
@@ -13,7 +13,7 @@ pub fn range_fault(s: &[u8], n: u32, start: DisplayIdx, end: DisplayIdx) -> u32
         return 9;
     }
     let count = order::frame_count(start, end) as u64;
-    let decode = frames::decode_at(s, start);
+    let decode = sheet_frames::decode_at(s, start);
     let samples = n as u64;
     if samples < decode.0 as u64 + count {
         return 10;

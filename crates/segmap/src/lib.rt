@@ -4,5 +4,5 @@ mod faults;
 mod sums;
 mod whole;
 
-pub use whole::Made;
+pub use spec_map::segmap::Made;
 pub use whole::make;

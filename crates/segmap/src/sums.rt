@@ -4,8 +4,8 @@ use order::DecodeIdx;
 ghost use mathlib.Core.Path.{_≡_};
 ghost use Prim.Native.Nat.{_≤_, _<_, min};
 ghost use lib.ListN.{length};
-ghost use Rattle.base.specs.Limits.{mostFrames, mostTicks};
-ghost use Rattle.frames.specs.Frames.{ticksFrom};
+ghost use Rattle.spec_base.specs.base.Limits.{mostFrames, mostTicks};
+ghost use Rattle.spec_sheet.specs.sheet_frames.Frames.{ticksFrom};
 ghost use Rattle.segmap.specs.Marks.{Noted, Carried};
 
 // How far a sum has come: `ticks` of all samples before `decode`.
@@ -37,11 +37,11 @@ fn add_up(s: &[u8], from: Reached, to: DecodeIdx) -> Reached
     requires { ⌜ (from .ticks ≡ ticksFrom (now s) 0 (from .decode .0)) × (from .decode .0 ≤ to .0) × (ticksFrom (now s) 0 (to .0) ≤ mostTicks) ⌝ }
     ensures { λ r. ⌜ (r .decode .0 ≡ to .0) × (r .ticks ≡ ticksFrom (now (s .entry)) 0 (to .0)) ⌝ }
 {
-    let long = frames::long(s);
+    let long = sheet_frames::long(s);
     let mut at = from.decode;
     let mut ticks = from.ticks;
     while at.0 < to.0 {
-        ticks += frames::duration_by(s, long, at);
+        ticks += sheet_frames::duration_by(s, long, at);
         at = DecodeIdx(at.0 + 1);
     }
     Reached { decode: to, ticks }

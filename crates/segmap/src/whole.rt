@@ -2,24 +2,18 @@
 use crate::building::build;
 use crate::faults::ranges_fault;
 use sheet::Sheet;
+use spec_map::segmap::Made;
 use trim::Parsed;
 ghost use mathlib.Core.Path.{_≡_};
 ghost use Prim.Native.Nat.{_*_, _≤_};
 ghost use lib.ListN.{length, take};
-ghost use Rattle.base.specs.Limits.{mostFrames, mostTicks, mostPlaces, mostSegments};
-ghost use Rattle.base.specs.Put.{put};
-ghost use Rattle.frames.specs.Frames.{framesOf, timescaleOf, ticksFrom};
-ghost use Rattle.sheet.specs.Sheet.{sheetFault};
-ghost use Rattle.segment.specs.Segment.{flatOf};
-ghost use Rattle.segmap.specs.Build.{keptNumber, segmentsIn};
-ghost use Rattle.segmap.specs.Map.{rangesFor, keptOf, made, madeOf, cutOf, mapOf, mapWork};
-
-// What a call gives: 0 with the sheet's timescale and how many segments were written, or the number of the refusal and zeros.
-pub struct Made {
-    pub number: u32,
-    pub timescale: u32,
-    pub count: usize,
-}
+ghost use Rattle.spec_base.specs.base.Limits.{mostFrames, mostTicks, mostPlaces, mostSegments};
+ghost use Rattle.spec_base.specs.base.Put.{put};
+ghost use Rattle.spec_sheet.specs.sheet_frames.Frames.{framesOf, timescaleOf, ticksFrom};
+ghost use Rattle.spec_sheet.specs.sheet.Sheet.{sheetFault};
+ghost use Rattle.spec_map.specs.segment.Segment.{flatOf};
+ghost use Rattle.spec_map.specs.segmap.Build.{keptNumber, segmentsIn};
+ghost use Rattle.spec_map.specs.segmap.Map.{rangesFor, keptOf, made, madeOf, cutOf, mapOf, mapWork};
 
 fn refused(n: u32) -> Made
     ensures { λ r. ⌜ r ≡ made n 0 0 ⌝ }

@@ -2,17 +2,7 @@
 ghost use mathlib.Core.Path.{_≡_};
 ghost use Prim.Native.Nat.{_≤_, _^_};
 ghost use lib.Dec.{ltb};
-ghost use Rattle.segment.specs.Segment.{endBad, segmentBad, mapBad};
-
-// A stretch of the source that is kept (document 01's stretch), with its place in the output. The fields are the Rust's.
-pub struct Segment {
-    pub source_start_frame: u32,
-    pub source_end_frame: u32,
-    pub source_start_dts: u64,
-    pub frame_count: u32,
-    pub output_start: u64,
-    pub duration: u64,
-}
+ghost use Rattle.spec_map.specs.segment.Segment.{endBad, segmentBad, mapBad};
 
 // Whether a start and a duration pass the tick limit together.
 pub fn end_bad(start: u64, duration: u64) -> bool

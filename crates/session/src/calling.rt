@@ -1,30 +1,19 @@
 // open, feed and finish.
 use crate::ending::finish_run;
-use crate::running::Going;
 use crate::running::run_piece;
-use columns::Columns;
-use event::Config;
-use foreign::Session;
-use machine::Counts;
+use ass_columns::Columns;
+use caption_fate::Config;
+use session_counts::Counts;
+use session_state::Session;
+use spec_session::session::Fed;
+use spec_session::session::Going;
+use spec_session::session::Opened;
 ghost use mathlib.Core.Path.{_≡_};
 ghost use Prim.Native.Nat.{_≤_};
 ghost use lib.ListN.{length, replicate, drop};
-ghost use Rattle.base.specs.Put.{put};
-ghost use Rattle.kinds.specs.Takes.{noColumns};
-ghost use Rattle.session.specs.Answer.{Answered, OpenAnswered, feedCall, finishCall, openOf, lengthsBad, refusalOf, beginAt, endedSession, unchangedFed, endedFed, heldFed};
-
-// What feed and finish hand back: both lengths are those written to the lent output and places.
-pub struct Fed {
-    pub number: u32,
-    pub written: usize,
-    pub warned: usize,
-    pub session: Session,
-}
-
-pub struct Opened {
-    pub number: u32,
-    pub session: Session,
-}
+ghost use Rattle.spec_base.specs.base.Put.{put};
+ghost use Rattle.spec_session.specs.kinds.Takes.{noColumns};
+ghost use Rattle.spec_session.specs.session.Answer.{Answered, OpenAnswered, feedCall, finishCall, openOf, lengthsBad, refusalOf, beginAt, endedSession, unchangedFed, endedFed, heldFed};
 
 // 16, by the lengths.
 fn lengths_bad(taken: u32, piece: usize, out: usize, places: usize) -> bool
@@ -47,7 +36,7 @@ fn lengths_bad(taken: u32, piece: usize, out: usize, places: usize) -> bool
 fn refusal(session: Session, map: &[u64], piece: usize, out: usize, places: usize) -> u32
     ensures { λ r. ⌜ r ≡ refusalOf session (now (map .entry)) piece out places ⌝ }
 {
-    if foreign::foreign(session) {
+    if session_state::foreign(session) {
         return 17;
     }
     if session.ended {
@@ -66,7 +55,7 @@ fn refusal(session: Session, map: &[u64], piece: usize, out: usize, places: usiz
 fn begin(session: Session) -> Going
     ensures { λ r. ⌜ r ≡ beginAt session ⌝ }
 {
-    let start = foreign::block_end(base::front(&session.held, session.held_len));
+    let start = session_state::block_end(base::front(&session.held, session.held_len));
     let counts = session.counts;
     let columns = session.columns;
     Going {
@@ -115,13 +104,13 @@ fn end_session(config: Config, outcome: u32, taken: u32, counts: Counts) -> Sess
 fn open_refusal(kind: u32, timescale: u32, map: &[u64]) -> u32
     ensures { λ r. ⌜ r ≡ openOf kind timescale (now (map .entry)) .number ⌝ }
 {
-    if time::timescale_bad(timescale) {
+    if caption_time::timescale_bad(timescale) {
         return 15;
     }
     if segment::map_bad(map) {
         return 15;
     }
-    if time::kind_bad(kind) {
+    if caption_time::kind_bad(kind) {
         return 16;
     }
     0

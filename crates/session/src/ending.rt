@@ -1,23 +1,23 @@
 // A finish: the last line, then the end of the block.
-use crate::running::Going;
 use crate::running::end_line;
 use crate::running::stop;
-use event::Config;
-use lines::Ended;
-use lines::end_block;
-use lines::put_bom;
+use caption_fate::Config;
+use session_lines::Ended;
+use session_lines::end_block;
+use session_lines::put_bom;
+use spec_session::session::Going;
 ghost use mathlib.Core.Path.{_≡_};
 ghost use mathlib.Core.List.{List, []};
 ghost use Prim.Native.Nat.{ℕ, _≤_, _<_, _+_, _^_};
 ghost use lib.Dec.{eqb};
 ghost use lib.ListN.{length, take};
-ghost use Rattle.text.specs.Line.{concat};
-ghost use Rattle.event.specs.Says.{Part};
-ghost use Rattle.machine.specs.declared.counting.Counts.{Counts};
-ghost use Rattle.machine.specs.Machine.{going, closed, withBom, finishRun};
-ghost use Rattle.kinds.specs.Takes.{State, ends, machineOf};
-ghost use Rattle.lines.specs.Done.{Ready, Parsed};
-ghost use Rattle.session.specs.Stand.{Shows, CloseRoom, Opening, resumeAt, closingTo, bomTo, bomAloneOf};
+ghost use Rattle.spec_text.specs.text.Line.{concat};
+ghost use Rattle.spec_caption.specs.caption_fate.Says.{Part};
+ghost use Rattle.spec_session.specs.declared.session_counts.Counts.{Counts};
+ghost use Rattle.spec_session.specs.session_counts.Machine.{going, closed, withBom, finishRun};
+ghost use Rattle.spec_session.specs.kinds.Takes.{State, ends, machineOf};
+ghost use Rattle.spec_session.specs.session_lines.Done.{Ready, Parsed};
+ghost use Rattle.spec_session.specs.session.Stand.{Shows, CloseRoom, Opening, resumeAt, closingTo, bomTo, bomAloneOf};
 
 // After the end of a block.
 fn closing(at: Going, end: Ended) -> Going

@@ -3,8 +3,8 @@ mod calling;
 mod ending;
 mod running;
 
-pub use calling::Fed;
-pub use calling::Opened;
 pub use calling::feed;
 pub use calling::finish;
 pub use calling::open;
+pub use spec_session::session::Fed;
+pub use spec_session::session::Opened;

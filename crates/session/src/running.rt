@@ -1,33 +1,22 @@
 // A piece taken byte by byte.
-use columns::Columns;
-use event::Config;
-use lines::Taken;
-use lines::take_line;
-use machine::Counts;
+use ass_columns::Columns;
+use caption_fate::Config;
+use session_counts::Counts;
+use session_lines::Taken;
+use session_lines::take_line;
+use spec_session::session::Going;
 ghost use mathlib.Core.Path.{_≡_};
 ghost use mathlib.Core.Bool.{true};
 ghost use mathlib.Core.List.{List, _++_};
 ghost use Prim.Native.Nat.{ℕ, _≤_, _<_, _+_, _-_, _^_};
 ghost use lib.Dec.{eqb};
 ghost use lib.ListN.{length, take, drop};
-ghost use Rattle.event.specs.Says.{Part};
-ghost use Rattle.machine.specs.declared.counting.Counts.{Counts};
-ghost use Rattle.machine.specs.Machine.{Run, going, lineEnd, takeLine, byteStep, run};
-ghost use Rattle.kinds.specs.Takes.{State, machineOf};
-ghost use Rattle.lines.specs.Done.{Ready, Parsed};
-ghost use Rattle.session.specs.Stand.{Joins, Shows, Room, ByteRoom, Opening, ParsedIn, resumeAt, stoppedAt, holdingTo, linedTo};
-
-// What the loop carries: the open block's bytes end at `start`, those of the unfinished line at `held`.
-pub struct Going {
-    pub number: u32,
-    pub lines: u32,
-    pub counts: Counts,
-    pub columns: Columns,
-    pub start: usize,
-    pub held: usize,
-    pub written: usize,
-    pub warned: usize,
-}
+ghost use Rattle.spec_caption.specs.caption_fate.Says.{Part};
+ghost use Rattle.spec_session.specs.declared.session_counts.Counts.{Counts};
+ghost use Rattle.spec_session.specs.session_counts.Machine.{Run, going, lineEnd, takeLine, byteStep, run};
+ghost use Rattle.spec_session.specs.kinds.Takes.{State, machineOf};
+ghost use Rattle.spec_session.specs.session_lines.Done.{Ready, Parsed};
+ghost use Rattle.spec_session.specs.session.Stand.{Joins, Shows, Room, ByteRoom, Opening, ParsedIn, resumeAt, stoppedAt, holdingTo, linedTo};
 
 // Stopped by a fault.
 pub fn stop(at: Going, number: u32) -> Going

@@ -1,28 +1,16 @@
 // The check's answer.
 use crate::faults::fault;
 use crate::totals::total_fault;
-use frames::frames;
-use frames::rate_den;
-use frames::rate_num;
-use frames::timescale;
-use once::once_fault;
+use sheet_frames::frames;
+use sheet_frames::rate_den;
+use sheet_frames::rate_num;
+use sheet_frames::timescale;
+use sheet_permutation::once_fault;
+use spec_sheet::sheet::Head;
+use spec_sheet::sheet::Sheet;
 ghost use mathlib.Core.Path.{_≡_};
 ghost use lib.ListN.{length};
-ghost use Rattle.sheet.specs.Sheet.{sheetOf, workAfter, numberOf};
-
-// Block 0's values.
-pub struct Head {
-    pub timescale: u32,
-    pub frames: u32,
-    pub rate_num: u32,
-    pub rate_den: u32,
-}
-
-// What the check finds: the head, or the number of the refusal.
-pub enum Sheet {
-    Sound(Head),
-    Refused(u32),
-}
+ghost use Rattle.spec_sheet.specs.sheet.Sheet.{sheetOf, workAfter, numberOf};
 
 // The whole check. The work bytes that are lent are n / 8, rounded up, or more: those needed end zero.
 pub fn check(s: &[u8], work: &mut [u8]) -> Sheet

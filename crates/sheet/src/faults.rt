@@ -3,9 +3,9 @@ use crate::heads::head_fault;
 use crate::records::blocks_fault;
 use crate::records::check_fault;
 use crate::records::record_blocks;
-use frames::frames;
+use sheet_frames::frames;
 ghost use mathlib.Core.Path.{_≡_};
-ghost use Rattle.sheet.specs.Sheet.{sheetFault};
+ghost use Rattle.spec_sheet.specs.sheet.Sheet.{sheetFault};
 
 // The first fault of the sheet, 0 for none.
 pub fn fault(s: &[u8]) -> u32
@@ -28,7 +28,7 @@ pub fn fault(s: &[u8]) -> u32
         return h;
     }
     let n = frames(s);
-    if len != 512 * (1 + record_blocks(frames::long(s), n)) {
+    if len != 512 * (1 + record_blocks(sheet_frames::long(s), n)) {
         return 11;
     }
     blocks_fault(s, n)

@@ -1,10 +1,10 @@
 // The head, in block 0.
-use frames::frames;
-use frames::long;
-use frames::timescale;
+use sheet_frames::frames;
+use sheet_frames::long;
+use sheet_frames::timescale;
 ghost use mathlib.Core.Path.{_≡_};
-ghost use Rattle.base.specs.Refusal.{firstOf};
-ghost use Rattle.sheet.specs.Sheet.{spareFault, timescaleIn, headFault};
+ghost use Rattle.spec_base.specs.base.Refusal.{firstOf};
+ghost use Rattle.spec_sheet.specs.sheet.Sheet.{spareFault, timescaleIn, headFault};
 
 // Words 6 to 126 are zero.
 fn spare_fault(s: &[u8]) -> u32
@@ -12,7 +12,7 @@ fn spare_fault(s: &[u8]) -> u32
 {
     let mut i: usize = 6;
     while i < 127 {
-        let w = blocks::word(s, i);
+        let w = checked_blocks::word(s, i);
         if w != 0 {
             return 13;
         }
@@ -35,7 +35,7 @@ fn timescale_in(long: bool) -> u32
 pub fn head_fault(s: &[u8]) -> u32
     ensures { λ r. ⌜ r ≡ headFault (now (s .entry)) ⌝ }
 {
-    let layout = blocks::word(s, 5);
+    let layout = checked_blocks::word(s, 5);
     if 1 < layout {
         return 13;
     }

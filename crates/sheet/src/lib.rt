@@ -5,7 +5,7 @@ mod heads;
 mod records;
 mod totals;
 
-pub use answer::Head;
-pub use answer::Sheet;
 pub use answer::check;
 pub use answer::number;
+pub use spec_sheet::sheet::Head;
+pub use spec_sheet::sheet::Sheet;

@@ -1,9 +1,9 @@
 // The blocks after block 0: number and check, then the records of each.
 ghost use mathlib.Core.Path.{_≡_};
 ghost use Prim.Native.Nat.{_+_, _-_, _*_, _^_, _<_, _≤_};
-ghost use Rattle.base.specs.Refusal.{firstOf};
-ghost use Rattle.frames.specs.Frames.{longOf, perBlock, recordWidth, recordWord};
-ghost use Rattle.sheet.specs.Sheet.{recordFault, checkFault, blockFault, recordBlocks};
+ghost use Rattle.spec_base.specs.base.Refusal.{firstOf};
+ghost use Rattle.spec_sheet.specs.sheet_frames.Frames.{longOf, perBlock, recordWidth, recordWord};
+ghost use Rattle.spec_sheet.specs.sheet.Sheet.{recordFault, checkFault, blockFault, recordBlocks};
 
 // Records to a block, and words to a record.
 fn per_block(long: bool) -> usize
@@ -40,9 +40,9 @@ fn record_fault(s: &[u8], long: bool, n: usize, i: usize, w: usize) -> u32
     requires { ⌜ (long ≡ longOf (now s)) × (w ≡ recordWord long i) × (w < 2 ^ 40) ⌝ }
     ensures { λ r. ⌜ r ≡ recordFault (now (s .entry)) n i ⌝ }
 {
-    let first = blocks::word(s, w);
+    let first = checked_blocks::word(s, w);
     if i < n {
-        let decode = frames::decode_in(first);
+        let decode = sheet_frames::decode_in(first);
         if n <= decode.0 as usize {
             return 14;
         }
@@ -51,12 +51,12 @@ fn record_fault(s: &[u8], long: bool, n: usize, i: usize, w: usize) -> u32
     if first != 0 {
         return 14;
     }
-    let second = blocks::word(s, w + 1);
+    let second = checked_blocks::word(s, w + 1);
     if second != 0 {
         return 14;
     }
     if long {
-        let third = blocks::word(s, w + 2);
+        let third = checked_blocks::word(s, w + 2);
         if third != 0 {
             return 14;
         }
@@ -91,7 +91,7 @@ fn records_fault(s: &[u8], long: bool, n: usize, b: usize) -> u32
 pub fn check_fault(s: &[u8], b: usize) -> u32
     ensures { λ r. ⌜ r ≡ checkFault (now (s .entry)) b ⌝ }
 {
-    if blocks::block_holds(s, b) {
+    if checked_blocks::block_holds(s, b) {
         return 0;
     }
     12
@@ -128,7 +128,7 @@ pub fn blocks_fault(s: &[u8], n: u32) -> u32
     ensures { λ r. ⌜ r ≡ firstOf (blockFault (now (s .entry)) n) 1 (recordBlocks (longOf (now (s .entry))) n) ⌝ }
 {
     let count = n as usize;
-    let long = frames::long(s);
+    let long = sheet_frames::long(s);
     let end = record_blocks(long, n) + 1;
     let mut b: usize = 1;
     while b < end {

@@ -2,8 +2,8 @@
 use order::DecodeIdx;
 ghost use mathlib.Core.Path.{_≡_};
 ghost use Prim.Native.Nat.{_≤_};
-ghost use Rattle.base.specs.Limits.{mostFrames};
-ghost use Rattle.sheet.specs.Sheet.{totalFault};
+ghost use Rattle.spec_base.specs.base.Limits.{mostFrames};
+ghost use Rattle.spec_sheet.specs.sheet.Sheet.{totalFault};
 
 // Adds up sample by sample, and no sample before it is known that the sum stays within the limit.
 fn sum_fault(s: &[u8], n: u32) -> u32
@@ -12,7 +12,7 @@ fn sum_fault(s: &[u8], n: u32) -> u32
     let mut left = base::MOST_TICKS;
     let mut i: u32 = 0;
     while i < n {
-        let d = frames::duration_at(s, DecodeIdx(i));
+        let d = sheet_frames::duration_at(s, DecodeIdx(i));
         if left < d {
             return 26;
         }
@@ -27,7 +27,7 @@ pub fn total_fault(s: &[u8], n: u32) -> u32
     requires { ⌜ n ≤ mostFrames ⌝ }
     ensures { λ r. ⌜ r ≡ totalFault (now (s .entry)) n ⌝ }
 {
-    if frames::long(s) {
+    if sheet_frames::long(s) {
         return sum_fault(s, n);
     }
     0

@@ -4,12 +4,12 @@ use mathlib.Core.List.{List, [], _∷_, map}
 use mathlib.Core.Path.{_≡_, refl, sym, ap, _∙_}
 use native.Mathlib.Omega.{arith}
 use borrow.Author.Tests.{ne-eqb}
-use Rattle.base.specs.Refusal.{_orElse_, faultUnless, firstOf}
-use Rattle.base.proofs.Laws.{no! }
-use Rattle.blocks.specs.Block.{wordAt, sumWords, blockHolds}
-use Rattle.frames.specs.Frames.{timescaleOf, framesOf, recordWord, decodeOf, longOf}
-use Rattle.sheet.specs.Sheet.{spareFault, headFault, recordFault, checkFault, blockFault, recordBlocks, sheetFault, sheetNumber, sheetOf, valuesOf}
-use Rattle.sheet.proofs.AnswerLaws.{sheet-values}
+use Rattle.spec_base.specs.base.Refusal.{_orElse_, faultUnless, firstOf}
+use Rattle.spec_base.proofs.base.Laws.{no! }
+use Rattle.spec_sheet.specs.checked_blocks.Block.{wordAt, sumWords, blockHolds}
+use Rattle.spec_sheet.specs.sheet_frames.Frames.{timescaleOf, framesOf, recordWord, decodeOf, longOf}
+use Rattle.spec_sheet.specs.sheet.Sheet.{spareFault, headFault, recordFault, checkFault, blockFault, recordBlocks, sheetFault, sheetNumber, sheetOf, valuesOf}
+use Rattle.spec_sheet.proofs.sheet.AnswerLaws.{sheet-values}
 use Rattle.sheet_vectors.specs.Small.{smallRecords, sheetWith, smallSheet}
 use Rattle.sheet_vectors.proofs.Vectors.{small-sound}
 

@@ -3,12 +3,12 @@ use Prim.Native.Nat.{ℕ}
 use mathlib.Core.List.{List, [], _∷_, map}
 use mathlib.Core.Path.{_≡_, refl}
 use lib.ListN.{length}
-use Rattle.base.specs.Put.{put, placed}
-use Rattle.base.specs.Refusal.{_orElse_, faultUnless, firstOf}
-use Rattle.blocks.specs.Block.{wordAt, sumWords, blockHolds}
-use Rattle.frames.specs.Frames.{timescaleOf, framesOf, recordWord, decodeOf, longOf, ticksFrom, durationOf}
-use Rattle.once.specs.Once.{timesNamed, repeatFault, workBytes, onceNumber, workOnce}
-use Rattle.sheet.specs.Sheet.{spareFault, headFault, recordFault, checkFault, blockFault, recordBlocks, sheetFault, sheetNumber, workAfter, totalFault}
+use Rattle.spec_base.specs.base.Put.{put, placed}
+use Rattle.spec_base.specs.base.Refusal.{_orElse_, faultUnless, firstOf}
+use Rattle.spec_sheet.specs.checked_blocks.Block.{wordAt, sumWords, blockHolds}
+use Rattle.spec_sheet.specs.sheet_frames.Frames.{timescaleOf, framesOf, recordWord, decodeOf, longOf, ticksFrom, durationOf}
+use Rattle.spec_sheet.specs.sheet_permutation.Once.{timesNamed, repeatFault, workBytes, onceNumber, workOnce}
+use Rattle.spec_sheet.specs.sheet.Sheet.{spareFault, headFault, recordFault, checkFault, blockFault, recordBlocks, sheetFault, sheetNumber, workAfter, totalFault}
 use Rattle.sheet_vectors.specs.Small.{sheetWith}
 
 -- the sheet whose frames have these decode indices

@@ -4,16 +4,16 @@ use mathlib.Core.Bool.{true, false}
 use mathlib.Core.List.{List, [], _∷_, _++_, map}
 use mathlib.Core.Path.{_≡_, refl, sym, ap, _∙_}
 use lib.ListN.{getD, set, take}
-use Rattle.base.specs.Limits.{mostWork}
-use Rattle.base.specs.Put.{put, placed}
-use Rattle.base.specs.Refusal.{_orElse_, faultUnless, firstOf}
-use Rattle.blocks.specs.Block.{wordAt, sumWords, blockHolds}
-use Rattle.frames.specs.Frames.{timescaleOf, framesOf, rateNumOf, rateDenOf, recordWord, decodeOf, syncOf, durationOf, longOf, ticksFrom}
-use Rattle.once.specs.Once.{timesNamed, repeatFault, workBytes, onceNumber, workOnce}
-use Rattle.sheet.specs.Sheet.{spareFault, headFault}
-use Rattle.sheet.specs.Sheet.{recordFault, checkFault, blockFault, recordBlocks, sheetFault, totalFault, sheetNumber, workAfter, headOf, sheetAnswer, sheetOf, numberOf}
-use Rattle.sheet.proofs.SheetLaws.{Checked, checked, number-is, sound-number, work-enough}
-use Rattle.sheet.specs.declared.answer.Sheet.the-variants.{Sound}
+use Rattle.spec_base.specs.base.Limits.{mostWork}
+use Rattle.spec_base.specs.base.Put.{put, placed}
+use Rattle.spec_base.specs.base.Refusal.{_orElse_, faultUnless, firstOf}
+use Rattle.spec_sheet.specs.checked_blocks.Block.{wordAt, sumWords, blockHolds}
+use Rattle.spec_sheet.specs.sheet_frames.Frames.{timescaleOf, framesOf, rateNumOf, rateDenOf, recordWord, decodeOf, syncOf, durationOf, longOf, ticksFrom}
+use Rattle.spec_sheet.specs.sheet_permutation.Once.{timesNamed, repeatFault, workBytes, onceNumber, workOnce}
+use Rattle.spec_sheet.specs.sheet.Sheet.{spareFault, headFault}
+use Rattle.spec_sheet.specs.sheet.Sheet.{recordFault, checkFault, blockFault, recordBlocks, sheetFault, totalFault, sheetNumber, workAfter, headOf, sheetAnswer, sheetOf, numberOf}
+use Rattle.spec_sheet.proofs.sheet.SheetLaws.{Checked, checked, number-is, sound-number, work-enough}
+use Rattle.spec_sheet.specs.declared.sheet.Sheet.the-variants.{Sound}
 use Rattle.sheet_vectors.specs.Small.{checkedBlock, syncFrame, frame, smallRecords, sheetWith, smallSheet}
 
 -- the small sheet is sound, with its head; two work bytes are enough for ten frames, and so are more

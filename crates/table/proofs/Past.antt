@@ -2,12 +2,12 @@
 use mathlib.Core.Path.{_≡_, refl}
 use mathlib.Core.Bool.{cond}
 use mathlib.Core.List.{List, [], _∷_}
-use Rattle.time.specs.Kind.{kindBad, unitsOf}
-use Rattle.time.specs.Convert.{ticksOf, coreHolds, ticksWithin}
-use Rattle.segment.specs.Segment.{segment, endBad}
-use Rattle.event.specs.Hit.{meetsParts, findFrom}
-use Rattle.event.specs.Decide.{decideIn}
-use Rattle.event.specs.Cases.{told, decisionCase}
+use Rattle.spec_caption.specs.caption_time.Kind.{kindBad, unitsOf}
+use Rattle.spec_caption.specs.caption_time.Convert.{ticksOf, coreHolds, ticksWithin}
+use Rattle.spec_map.specs.segment.Segment.{segment, endBad}
+use Rattle.spec_caption.specs.caption_fate.Hit.{meetsParts, findFrom}
+use Rattle.spec_caption.specs.caption_fate.Decide.{decideIn}
+use Rattle.spec_caption.specs.caption_fate.Cases.{told, decisionCase}
 use Rattle.table.specs.Example.{setting}
 
 pub strange-told : decisionCase (decideIn (setting 0) (segment 0 1 0 1 9007199254740992 1 ∷ []) 0 1) ≡ told 15 []

@@ -3,17 +3,17 @@ use mathlib.Core.Path.{_≡_}
 use mathlib.Core.Bool.{true, false}
 use mathlib.Core.List.{List, [], _∷_, _++_}
 use Prim.Native.Nat.{ℕ}
-use Rattle.base.specs.Ascii.{ascii}
-use Rattle.text.specs.Line.{linesOf}
-use Rattle.time.specs.Kind.{kindBad, unitsOf, markOf, fractionDigits, hourDigits}
-use Rattle.segment.specs.declared.segment.Segment.{Segment}
-use Rattle.segment.specs.Segment.{segment}
-use Rattle.event.specs.declared.retiming.Decision.the-variants.{Kept}
-use Rattle.event.specs.Decide.{decideOf}
-use Rattle.event.specs.Says.{faultNumber}
-use Rattle.event.specs.Emit.{Warning, warning, emitOf}
-use Rattle.timing.specs.Style.{styleOf}
-use Rattle.block.specs.Block.{BlockSays, faulty, says, blockSays}
+use Rattle.spec_base.specs.base.Ascii.{ascii}
+use Rattle.spec_text.specs.text.Line.{linesOf}
+use Rattle.spec_caption.specs.caption_time.Kind.{kindBad, unitsOf, markOf, fractionDigits, hourDigits}
+use Rattle.spec_map.specs.declared.segment.Segment.{Segment}
+use Rattle.spec_map.specs.segment.Segment.{segment}
+use Rattle.spec_caption.specs.declared.caption_fate.Decision.the-variants.{Kept}
+use Rattle.spec_caption.specs.caption_fate.Decide.{decideOf}
+use Rattle.spec_caption.specs.caption_fate.Says.{faultNumber}
+use Rattle.spec_caption.specs.caption_fate.Emit.{Warning, warning, emitOf}
+use Rattle.spec_format.specs.block_timing.Style.{styleOf}
+use Rattle.spec_format.specs.block_cue.Block.{BlockSays, faulty, says, blockSays}
 use Rattle.table.specs.Example.{setting}
 use Rattle.table.specs.Table.{lf}
 
@@ -59,3 +59,6 @@ pub record Blocks (m : List Segment) : Type 0 where
   -- ---- request 2.7: the times that ask for a lost part are those read. Cut at both ends by the first segment, a caption has a part in the second, which lies before the first
   pub lost-before : decideOf (record { kind = 1; timescale = 1000 }) (segment 10 15 1000 5 0 500 ∷ segment 2 3 200 1 500 100 ∷ []) 0 2000
       ≡ Kept (record { start = 0; stop = 500; «start_cut» = true; «end_cut» = true; lost = true })
+  -- no part is lost where the end was not cut, though a later segment has the whole caption too
+  pub uncut : decideOf (record { kind = 1; timescale = 1000 }) (segment 0 10 0 10 0 1000 ∷ segment 5 15 500 10 1000 1000 ∷ []) 600 900
+      ≡ Kept (record { start = 600; stop = 900; «start_cut» = false; «end_cut» = false; lost = false })

@@ -1,12 +1,12 @@
 -- Document 01's example: the map of its small sheet and of `Trim(0,2) ++ Trim(6,8)`, outward, and a setting for each kind.
 use mathlib.Core.List.{List}
 use Prim.Native.Nat.{ℕ}
-use Rattle.base.specs.Limits.{mostWork}
-use Rattle.base.specs.Ascii.{ascii}
+use Rattle.spec_base.specs.base.Limits.{mostWork}
+use Rattle.spec_base.specs.base.Ascii.{ascii}
 use Rattle.sheet_vectors.specs.Small.{smallSheet}
-use Rattle.segment.specs.declared.segment.Segment.{Segment}
-use Rattle.segmap.specs.Map.{Map, mapOf}
-use Rattle.event.specs.declared.setting.Config.{Config}
+use Rattle.spec_map.specs.declared.segment.Segment.{Segment}
+use Rattle.spec_map.specs.segmap.Map.{Map, mapOf}
+use Rattle.spec_caption.specs.declared.caption_fate.Config.{Config}
 
 abbrev pub theList : List ℕ
 theList = ascii "Trim(0,2) ++ Trim(6,8)"

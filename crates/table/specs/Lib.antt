@@ -2,3 +2,4 @@
 pub mod Example
 pub mod Table
 pub mod Blocks
+pub mod Enums

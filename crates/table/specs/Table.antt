@@ -5,22 +5,22 @@ use mathlib.Core.Bool.{true, false}
 use mathlib.Core.List.{List, [], _∷_, _++_}
 use Prim.Native.Nat.{ℕ}
 use Prim.Native.String.{String}
-use Rattle.base.specs.Ascii.{ascii}
-use Rattle.stamp.specs.declared.read.Time.the-variants.{At}
-use Rattle.stamp.specs.Read.{timeIn, timeNumber, timeUnits, timeMark}
-use Rattle.segment.specs.declared.segment.Segment.{Segment}
-use Rattle.segment.specs.Segment.{segment}
-use Rattle.event.specs.declared.retiming.Decision.the-variants.{Kept}
-use Rattle.event.specs.Hit.{findHit, hitOf}
-use Rattle.event.specs.Decide.{decideOf, decideIn}
-use Rattle.event.specs.Cases.{told, hitCase, decisionCase}
-use Rattle.event.specs.Fates.{dropped, shifted, clipped, fateOf}
-use Rattle.event.specs.Says.{bytes, start, stop, stays, passes, cue, unplaced, short, faultNumber}
-use Rattle.event.specs.Emit.{Warning, warning, emitOf}
-use Rattle.columns.specs.declared.layout.Columns.{Columns}
-use Rattle.ass.specs.Line.{LineSays, faulty, says, lineSays}
-use Rattle.timing.specs.Style.{styleOf}
-use Rattle.block.specs.Block.{blockFrame, blockCue, blockSays, says as blockSaid}
+use Rattle.spec_base.specs.base.Ascii.{ascii}
+use Rattle.spec_caption.specs.declared.caption_stamp.Time.the-variants.{At}
+use Rattle.spec_caption.specs.caption_stamp.Read.{timeIn, timeNumber, timeUnits, timeMark}
+use Rattle.spec_map.specs.declared.segment.Segment.{Segment}
+use Rattle.spec_map.specs.segment.Segment.{segment}
+use Rattle.spec_caption.specs.declared.caption_fate.Decision.the-variants.{Kept}
+use Rattle.spec_caption.specs.caption_fate.Hit.{findHit, hitOf}
+use Rattle.spec_caption.specs.caption_fate.Decide.{decideOf, decideIn}
+use Rattle.spec_caption.specs.caption_fate.Cases.{told, hitCase, decisionCase}
+use Rattle.spec_caption.specs.caption_fate.Fates.{dropped, shifted, clipped, fateOf}
+use Rattle.spec_caption.specs.caption_fate.Says.{bytes, start, stop, stays, passes, cue, unplaced, short, faultNumber}
+use Rattle.spec_caption.specs.caption_fate.Emit.{Warning, warning, emitOf}
+use Rattle.spec_format.specs.declared.ass_columns.Columns.{Columns}
+use Rattle.spec_format.specs.ass_line.Line.{LineSays, faulty, says, lineSays}
+use Rattle.spec_format.specs.block_timing.Style.{styleOf}
+use Rattle.spec_format.specs.block_cue.Block.{blockFrame, blockCue, blockSays, says as blockSaid}
 use Rattle.table.specs.Example.{setting}
 
 -- a line that LF ends

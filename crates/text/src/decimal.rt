@@ -1,12 +1,7 @@
 // Decimal numbers with an inclusive bound.
+use spec_text::text::Number;
 ghost use mathlib.Core.Path.{_≡_};
-ghost use Rattle.text.specs.Number.{digit, natural, number};
-
-// What a decimal number reads as.
-pub enum Number {
-    Value(u32),
-    Bad,
-}
+ghost use Rattle.spec_text.specs.text.Number.{digit, natural, number};
 
 pub fn is_digit(b: u8) -> bool
     ensures { λ r. ⌜ r ≡ digit b ⌝ }

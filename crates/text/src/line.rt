@@ -1,12 +1,44 @@
 // Lines and their terminators.
 ghost use mathlib.Core.Path.{_≡_};
-ghost use Rattle.text.specs.Line.{lineLength, terminatorLength, textOf, terminatorOf, blank};
+ghost use mathlib.Core.Bool.{true, cond};
+ghost use Prim.Native.Nat.{_≤_, _+_};
+ghost use lib.Dec.{eqb};
+ghost use lib.ListN.{length, drop};
+ghost use Rattle.spec_text.specs.text.Line.{lineLength, terminatorLength, textOf, terminatorOf, blank};
+
+// 1 for LF, else `most`.
+fn lf_or(most: u8, b: u8) -> u8
+    ensures { λ r. ⌜ r ≡ cond (eqb b 10) 1 most ⌝ }
+{
+    if b == 10 { 1 } else { most }
+}
+
+// Whether none of the 16 bytes from i on is LF.
+fn lf_free(s: &[u8], i: usize) -> bool
+    requires { ⌜ i + 16 ≤ length (now s) ⌝ }
+    ensures { λ r. ⌜ (r ≡ true → lineLength (drop i (now (s .entry))) ≡ 16 + lineLength (drop (i + 16) (now (s .entry)))) ⌝ }
+{
+    let mut most: u8 = 0;
+    let mut k: usize = 0;
+    while k < 16 {
+        most = lf_or(most, s[i + k]);
+        k += 1;
+    }
+    most == 0
+}
 
 // How many bytes the first line of `s` has, with its LF.
 pub fn line_length(s: &[u8]) -> usize
     ensures { λ r. ⌜ r ≡ lineLength (now (s .entry)) ⌝ }
 {
     let mut i = 0;
+    while 16 <= s.len() - i {
+        if lf_free(s, i) {
+            i += 16;
+        } else {
+            break;
+        }
+    }
     while i < s.len() {
         if s[i] == 10 {
             return i + 1;
@@ -48,5 +80,5 @@ pub fn terminator_of(l: &[u8]) -> &[u8]
 pub fn is_blank(l: &[u8]) -> bool
     ensures { λ r. ⌜ r ≡ blank (now (l .entry)) ⌝ }
 {
-    white::trim_head(l).len() == 0
+    whitespace::trim_head(l).len() == 0
 }

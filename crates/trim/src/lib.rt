@@ -2,6 +2,6 @@
 mod list;
 mod token;
 
-pub use list::Parsed;
 pub use list::check;
 pub use list::parse;
+pub use spec_map::trim::Parsed;

@@ -1,23 +1,18 @@
 // The whole list: its tokens from the left, and the ranges that they give.
-use crate::token::Token;
 use crate::token::step_of;
 use order::DisplayIdx;
+use spec_map::trim::Parsed;
+use spec_map::trim::Token;
 ghost use mathlib.Core.Path.{_≡_};
 ghost use Prim.Native.Nat.{_+_, _*_, _≤_, _<_};
 ghost use lib.ListN.{length, take, set};
-ghost use Rattle.base.specs.Limits.{mostTrims, mostPlaces};
-ghost use Rattle.base.specs.Put.{put};
+ghost use Rattle.spec_base.specs.base.Limits.{mostTrims, mostPlaces};
+ghost use Rattle.spec_base.specs.base.Put.{put};
 ghost use mathlib.Core.Bool.{false};
-ghost use Rattle.pattern.specs.Find.{first};
-ghost use Rattle.text.specs.Line.{blank};
-ghost use Rattle.trim.specs.Token.{mark};
-ghost use Rattle.trim.specs.TrimList.{parsed, listAnswer, tokensOf, tokensNumber, headNumber, listNumber, rangesOf, parseOf, rangePlaces};
-
-// What a list gives: 0 and how many ranges, or the number of the refusal and 0.
-pub struct Parsed {
-    pub number: u32,
-    pub count: usize,
-}
+ghost use Rattle.spec_text.specs.pattern.Find.{first};
+ghost use Rattle.spec_text.specs.text.Line.{blank};
+ghost use Rattle.spec_map.specs.trim.Token.{mark};
+ghost use Rattle.spec_map.specs.trim.TrimList.{parsed, listAnswer, tokensOf, tokensNumber, headNumber, listNumber, rangesOf, parseOf, rangePlaces};
 
 // Where the first `++` begins, or the length of `s`. Where the second byte is no plus, neither place can begin one.
 fn next_mark(s: &[u8]) -> usize

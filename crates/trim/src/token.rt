@@ -1,19 +1,14 @@
 // One token of a trim list: `Trim(a,b)`.
 use order::DisplayIdx;
+use spec_map::trim::Token;
 use text::Number;
 ghost use mathlib.Core.Path.{_≡_};
 ghost use mathlib.Core.Bool.{cond, false};
 ghost use lib.Dec.{ltb};
-ghost use Rattle.pattern.specs.Find.{starts, first};
-ghost use Rattle.trim.specs.Token.{opening, rangeOf, boundsOf, pairOf, closedOf, tokenOf, stepOf};
-ghost use Rattle.pattern.specs.Piece.{pieces, comma};
-ghost use Rattle.white.specs.White.{trim};
-
-// What a token says: a range, end excluded, or the number of its refusal.
-pub enum Token {
-    Range(DisplayIdx, DisplayIdx),
-    Fault(u32),
-}
+ghost use Rattle.spec_text.specs.pattern.Find.{starts, first};
+ghost use Rattle.spec_map.specs.trim.Token.{opening, rangeOf, boundsOf, pairOf, closedOf, tokenOf, stepOf};
+ghost use Rattle.spec_text.specs.pattern.Piece.{pieces, comma};
+ghost use Rattle.spec_text.specs.whitespace.White.{trim};
 
 fn next_comma(s: &[u8]) -> usize
     ensures { λ r. ⌜ r ≡ first comma (now (s .entry)) ⌝ }
@@ -73,7 +68,7 @@ fn bare(s: &[u8]) -> &[u8]
             return s;
         }
     }
-    white::trimmed(s)
+    whitespace::trimmed(s)
 }
 
 // The range that `a,b` says: exactly one comma.
@@ -118,7 +113,7 @@ fn token_of(t: &[u8]) -> Token
 pub fn step_of(prev: DisplayIdx, t: &[u8]) -> Token
     ensures { λ r. ⌜ r ≡ stepOf (prev .0) (now (t .entry)) ⌝ }
 {
-    let k = token_of(white::trimmed(t));
+    let k = token_of(whitespace::trimmed(t));
     match k {
         Token::Fault(n) => Token::Fault(n),
         Token::Range(a, e) => {

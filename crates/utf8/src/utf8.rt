@@ -3,7 +3,7 @@ ghost use mathlib.Core.Path.{_≡_};
 ghost use mathlib.Core.Bool.{true};
 ghost use Prim.Native.Nat.{_≤_, _+_, max};
 ghost use lib.ListN.{length, drop};
-ghost use Rattle.utf8.specs.Utf8.{asciiRun, leadLen, secondLow, secondHigh, tail, widthBy, charWidth, utf8, codeBy, codeHead};
+ghost use Rattle.spec_text.specs.utf8.Utf8.{asciiRun, leadLen, secondLow, secondHigh, tail, widthBy, charWidth, utf8, codeBy, codeHead};
 
 fn lead_len(a: u8) -> usize
     ensures { λ r. ⌜ r ≡ leadLen a ⌝ }

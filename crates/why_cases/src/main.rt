@@ -4,13 +4,13 @@ use libc::STDOUT_FILENO;
 fn run_case(name: &[u8]) {
     io::write_all(STDOUT_FILENO, name);
     io::write_all(STDOUT_FILENO, b":\n");
-    let sheet = mapfile::load(name, b"sheet.bin");
-    let list = mapfile::load(name, b"trim.txt");
-    let times = mapfile::load(name, b"times.txt");
+    let sheet = files_map::load(name, b"sheet.bin");
+    let list = files_map::load(name, b"trim.txt");
+    let times = files_map::load(name, b"times.txt");
     let s = sheet.bytes;
     let l = list.bytes;
     let t = times.bytes;
-    whyfile::tell(
+    files_why::tell(
         base::front(&s, sheet.length),
         base::front(&l, list.length),
         base::front(&t, times.length),
@@ -30,7 +30,7 @@ fn run_cases(names: &[u8]) {
 }
 
 fn main() {
-    let file = mapfile::load(b"", b"cases.txt");
+    let file = files_map::load(b"", b"cases.txt");
     let names = file.bytes;
     run_cases(base::front(&names, file.length));
 }

@@ -1,18 +1,15 @@
-//! Where a fault of a text stands (19 to 22, 24): its line, and the words there. The number is that of the proved functions; the first place that has such a
-//! fault is the one that they met.
-use super::words::joined;
-use super::{ass, blocks, is_utf8, lines, shown, text_of, Block, Caption, Columns, Line, Times, BOM};
+//! A place in a text as it is shown: the line that the reader told, and what stands there.
+use super::lines::{span, to_blank};
+use super::words::{joined, plain};
+use super::{shown, Reading};
 use crate::Kind;
-
-/// Bytes of a line, or of the non-blank lines of a block, at most.
-const MOST_LINE: usize = 4_096;
 
 /// A place in a text.
 #[derive(Clone, Debug, PartialEq, Eq)]
 pub struct Place {
     /// The line, counted from 1.
     pub line: u64,
-    /// The words there: of an unreadable time the two times and the caption's words, else the line.
+    /// What stands there; of times that can't be read in SRT and WebVTT the words below them too.
     pub words: String,
 }
 
@@ -22,96 +19,68 @@ impl std::fmt::Display for Place {
     }
 }
 
-/// Where a text begins: the number of its first line, and the columns that are known there.
-#[derive(Clone, Copy)]
-pub(crate) struct Start {
-    pub line: u64,
-    pub columns: Columns,
-}
-
-impl Default for Start {
-    fn default() -> Start {
-        Start { line: 1, columns: Columns::default() }
+impl Reading<'_> {
+    /// Where the text is at fault; nothing of a sound one.
+    pub fn place(&self) -> Option<Place> {
+        self.fault.map(|(refused, line)| at(refused.0, self.kind, self.text, line))
     }
 }
 
-/// The first place of a text that has the fault; nothing for a number that is no fault of a text, or where none is found.
-pub(crate) fn place_of(number: u32, kind: Kind, text: &[u8], start: Start) -> Option<Place> {
-    let mark = if start.line == 1 && text.starts_with(BOM) { BOM.len() } else { 0 };
-    let body = &text[mark..];
-    match number {
-        19 => lines(body, start.line).find(|l| l.bytes.len() + if l.number == 1 { mark } else { 0 } > MOST_LINE).map(line_place),
-        20 => lines(body, start.line).find(|l| !is_utf8(l.bytes)).map(bad_bytes),
-        21 => bodies(kind, body, start.line).find(|b| b.body.len() > MOST_LINE).map(|b| line_place(Line { number: b.first, bytes: b.body })),
-        22 => unreadable(kind, body, start),
-        24 => Some(lines(body, 1).next().map_or(Place { line: 1, words: String::new() }, line_place)),
-        _ => None,
-    }
-}
-
-/// The first caption with a time that can't be read.
-fn unreadable(kind: Kind, body: &[u8], start: Start) -> Option<Place> {
-    let bad = |c: &Caption<'_>| c.times == Times::Unreadable;
-    let mut columns = start.columns;
-    let caption = match kind {
-        Kind::Ass => lines(body, start.line).filter_map(|line| ass::caption(&mut columns, line)).find(bad),
-        Kind::Srt | Kind::Vtt => bodies(kind, body, start.line).filter_map(|b| blocks::caption(kind, &b)).find(bad),
+/// A line of a text that has a fault of this number.
+pub(crate) fn at(number: u32, kind: Kind, text: &[u8], line: u64) -> Place {
+    let (here, next) = span(text, line);
+    let told = &text[here];
+    let words = match (number, kind) {
+        (20, _) => bad_bytes(told),
+        (22, Kind::Ass) => plain(kind, told),
+        (22, Kind::Srt | Kind::Vtt) => {
+            let below = plain(kind, &text[to_blank(kind, text, next)]);
+            return Place { line, words: format!("{} {}", shown(&lossy(told)), shown(&below)).trim_end().to_string() };
+        }
+        _ => lossy(told),
     };
-    caption.map(|c| c.place())
+    Place { line, words: shown(&words) }
 }
 
-/// The blocks of a text; WebVTT's first line is in none.
-fn bodies(kind: Kind, body: &[u8], first: u64) -> impl Iterator<Item = Block<'_>> {
-    let head = if kind == Kind::Vtt && first == 1 { super::line_length(body) } else { 0 };
-    blocks(kind, &body[head..], first + u64::from(head > 0))
-}
-
-fn line_place(line: Line<'_>) -> Place {
-    let text = text_of(&line.bytes[..super::line_length(line.bytes)]);
-    Place { line: line.number, words: shown(&joined(&String::from_utf8_lossy(text))) }
+fn lossy(bytes: &[u8]) -> String {
+    joined(&String::from_utf8_lossy(bytes))
 }
 
 /// The line from shortly before the first bytes that are not UTF-8.
-fn bad_bytes(line: Line<'_>) -> Place {
-    let good = std::str::from_utf8(line.bytes).map_or_else(|e| e.valid_up_to(), str::len);
-    let before = String::from_utf8_lossy(&line.bytes[..good]);
-    let from = before.char_indices().rev().nth(19).map_or(0, |(k, _)| k);
-    let words = joined(&String::from_utf8_lossy(text_of(&line.bytes[from..])));
-    Place { line: line.number, words: shown(&words) }
-}
-
-impl Caption<'_> {
-    /// Its line, its times as they stand there, and its words.
-    pub(crate) fn place(&self) -> Place {
-        let [start, stop] = self.written.map(|t| shown(&joined(&String::from_utf8_lossy(t))));
-        Place { line: self.line, words: format!("{start} --> {stop} {}", shown(&self.words())).trim_end().to_string() }
-    }
+fn bad_bytes(line: &[u8]) -> String {
+    let good = line.utf8_chunks().next().map_or("", |chunk| chunk.valid());
+    let from = good.char_indices().rev().nth(19).map_or(0, |(k, _)| k);
+    lossy(&line[from..])
 }
 
 #[cfg(test)]
 mod tests {
+    use super::super::read;
     use super::*;
 
-    fn place(number: u32, kind: Kind, text: &[u8]) -> Option<(u64, String)> {
-        place_of(number, kind, text, Start::default()).map(|p| (p.line, p.words))
+    fn place(number: u32, kind: Kind, text: &[u8]) -> (u64, String) {
+        let reading = read(kind, text).unwrap();
+        assert_eq!(reading.fault.unwrap().0 .0, number);
+        let Place { line, words } = reading.place().unwrap();
+        (line, words)
     }
 
     #[test]
     fn lines_at_fault() {
         let long = [b"\xef\xbb\xbfone\n".as_slice(), &[b'x'; 4_096], b"\n"].concat();
-        assert_eq!(place(19, Kind::Srt, &long), Some((2, format!("{}..", "x".repeat(60)))));
-        assert_eq!(place(20, Kind::Ass, b"a\nCaf\xe9 noir\n"), Some((2, "Caf\u{FFFD} noir".into())));
-        assert_eq!(place(24, Kind::Vtt, b"WEBVTT2\n"), Some((1, "WEBVTT2".into())));
-        assert_eq!(place(24, Kind::Vtt, b""), Some((1, String::new())));
-        assert_eq!(place(18, Kind::Vtt, b""), None);
+        assert_eq!(place(19, Kind::Srt, &long), (2, format!("{}..", "x".repeat(60))));
+        assert_eq!(place(20, Kind::Ass, b"a\nCaf\xe9 noir\n"), (2, "Caf\u{FFFD} noir".into()));
+        assert_eq!(place(24, Kind::Vtt, b"WEBVTT2\n"), (1, "WEBVTT2".into()));
+        assert_eq!(place(24, Kind::Vtt, b""), (1, String::new()));
+        assert_eq!(read(Kind::Vtt, b"WEBVTT").unwrap().place(), None);
     }
 
     #[test]
     fn blocks_at_fault() {
         let long = [b"WEBVTT\n\nfirst\n\nsecond\n".as_slice(), &[b'x'; 4_090], b"\n\n"].concat();
-        assert_eq!(place(21, Kind::Vtt, &long), Some((5, "second".into())));
-        assert_eq!(place(22, Kind::Srt, b"1\n00:00:01,000 --> soon\n<b>Wait</b>\n"), Some((2, "00:00:01,000 --> soon Wait".into())));
+        assert_eq!(place(21, Kind::Vtt, &long), (5, "second".into()));
+        assert_eq!(place(22, Kind::Srt, b"1\n00:00:01,000 --> soon\n<b>Wait</b>\n\nno\n"), (2, "00:00:01,000 --> soon Wait".into()));
         let ass = b"[Events]\nFormat: Start, End, Text\nDialogue: 0:00:01.00,0:60:00.00,{\\i1}Wait,\\Nhere\n";
-        assert_eq!(place(22, Kind::Ass, ass), Some((3, "0:00:01.00 --> 0:60:00.00 Wait, here".into())));
+        assert_eq!(place(22, Kind::Ass, ass), (3, "Dialogue: 0:00:01.00,0:60:00.00,Wait, here".into()));
     }
 }

@@ -4,8 +4,8 @@ use super::Fault;
 use crate::captions::shown;
 use crate::{Direction, Map};
 
-/// Faults that are looked for, at most.
-const MOST: usize = 50;
+/// Faults that [`in_cut`] looks for, at most.
+pub const MOST_IN_CUT: usize = 50;
 
 /// The faults of a good list in a sound sheet, at most 50; none where the map is made.
 ///
@@ -18,11 +18,16 @@ const MOST: usize = 50;
 /// # Ok::<(), retimer::Refused>(())
 /// ```
 pub fn in_cut(sheet: &[u8], list: &[u8], direction: Direction) -> Vec<Fault> {
+    in_cut_up_to(sheet, list, direction, MOST_IN_CUT)
+}
+
+/// The same, at most so many.
+pub fn in_cut_up_to(sheet: &[u8], list: &[u8], direction: Direction, most: usize) -> Vec<Fault> {
     let mut left = entries(list);
     let mut all = Vec::new();
     let Err(first) = Map::new(sheet, list, direction) else { return all };
     let made = |part: &[Entry<'_>]| Map::new(sheet, &joined(part), direction);
-    while all.len() < MOST && !left.is_empty() && made(&left).is_err() {
+    while all.len() < most && !left.is_empty() && made(&left).is_err() {
         // the entries up to `bad` are refused, those before it are not
         let (mut good, mut bad) = (0, left.len());
         while bad - good > 1 {

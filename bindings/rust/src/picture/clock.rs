@@ -27,6 +27,14 @@ pub fn exact(ticks: u64, timescale: u32) -> String {
     clock(thousandths(ticks, timescale) * (SECOND / 1000), 3)
 }
 
+/// A time with so many decimals, 2 or 3, rounded down or up.
+pub fn rounded(ticks: u64, timescale: u32, decimals: u32, up: bool) -> String {
+    let (units, per) = (10u128.pow(decimals), u128::from(timescale.max(1)));
+    let all = u128::from(ticks) * units;
+    let whole = if up { all.div_ceil(per) } else { all / per };
+    clock(whole * (SECOND / units), decimals)
+}
+
 /// A length: to the nearest second, below ten seconds to the thousandth.
 pub fn brief(ticks: u64, timescale: u32) -> String {
     match nanos(ticks, timescale) {

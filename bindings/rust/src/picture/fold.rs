@@ -3,7 +3,7 @@ use super::clock::nanos;
 use super::pen::LEFT;
 use super::play::{end_of, Look, Play};
 use super::Fate;
-use std::collections::BTreeMap;
+use std::collections::{BTreeMap, BTreeSet};
 
 /// So few rows are seen at a glance.
 pub const FEW_ROWS: usize = 4;
@@ -31,6 +31,12 @@ pub enum Part {
     Row(Row),
     /// Neither a caption nor the edge of a stretch from one tick to the other.
     Gap(u64, u64),
+    /// Several rows in which one stretch keeps all, and so many captions are merely shifted.
+    Shifted {
+        from: u64,
+        to: u64,
+        captions: usize,
+    },
 }
 
 /// The median length of captions, in ticks.
@@ -90,14 +96,64 @@ pub fn fold(play: &Play) -> Vec<Part> {
         let look = if quiet(play, from, to, &captions) { Look::quiet(play.captions.len()) } else { play.look };
         parts.push(Part::Row(Row { from, to, length, captions, look }));
     }
-    parts
+    if parts.len() > FEW_ROWS {
+        joined(play, parts)
+    } else {
+        parts
+    }
+}
+
+/// Runs of quiet rows of one stretch, each as one line.
+fn joined(play: &Play, parts: Vec<Part>) -> Vec<Part> {
+    let mut all: Vec<Part> = Vec::new();
+    let mut run: Vec<Row> = Vec::new();
+    for part in parts {
+        match part {
+            Part::Row(row) if keeper(play, row.from, row.to, &row.captions).is_some() => {
+                let first = run.first().and_then(|r| keeper(play, r.from, r.to, &r.captions));
+                if first.is_some() && first != keeper(play, row.from, row.to, &row.captions) {
+                    all.extend(ended(&mut run));
+                }
+                run.push(row);
+            }
+            other => {
+                all.extend(ended(&mut run));
+                all.push(other);
+            }
+        }
+    }
+    all.extend(ended(&mut run));
+    all
+}
+
+/// The parts of a run: one row stays a row.
+fn ended(run: &mut Vec<Row>) -> Vec<Part> {
+    if run.len() < 2 {
+        return run.drain(..).map(Part::Row).collect();
+    }
+    let captions: BTreeSet<usize> = run.iter().flat_map(|r| r.captions.iter().copied()).collect();
+    let (from, to) = (run[0].from, run[run.len() - 1].to);
+    run.clear();
+    vec![Part::Shifted { from, to, captions: captions.len() }]
 }
 
 /// Whether one stretch keeps the whole row and each of its captions.
 fn quiet(play: &Play, from: u64, to: u64, captions: &[usize]) -> bool {
-    let mut meeting = play.cut.segments.iter().filter(|s| s.duration > 0 && s.source < to && from < end_of(s));
-    let whole = meeting.next().is_some_and(|s| s.source <= from && to <= end_of(s)) && meeting.next().is_none();
-    whole && captions.iter().all(|&k| play.captions[k].told.fate == Fate::Shifted)
+    let shifted = |k: &usize| play.captions[*k].told.fate == Fate::Shifted;
+    keeper_of(play, from, to).is_some() && captions.iter().all(shifted)
+}
+
+/// The stretch of a quiet row in which no caption is warned of.
+fn keeper(play: &Play, from: u64, to: u64, captions: &[usize]) -> Option<usize> {
+    let unmarked = captions.iter().all(|&k| play.captions[k].told.warnings.is_empty());
+    keeper_of(play, from, to).filter(|_| unmarked && quiet(play, from, to, captions))
+}
+
+/// The one stretch that meets a row, where it keeps the whole of it.
+fn keeper_of(play: &Play, from: u64, to: u64) -> Option<usize> {
+    let mut meeting = play.cut.segments.iter().enumerate().filter(|(_, s)| s.duration > 0 && s.source < to && from < end_of(s));
+    let (k, _) = meeting.next().filter(|(_, s)| s.source <= from && to <= end_of(s))?;
+    meeting.next().is_none().then_some(k)
 }
 
 /// The rows in which something happens, and their captions.

@@ -1,5 +1,5 @@
 //! The ground of a row: what is kept and what is cut away, both axes, and the joins between recording and cut.
-use super::clock::{clock, exact, marks, nanos, span, step};
+use super::clock::{clock, exact, marks, nanos, step};
 use super::pen::{rectangle, Pen, EDGE, N};
 use super::place::{Piece, Scale};
 use super::play::{end_of, Play};
@@ -122,16 +122,15 @@ pub fn labels(play: &Play, pen: &mut Pen, scale: Scale, to: u64, pieces: &[Piece
 /// The times of a piece's edges, and how far it moved, where there is room.
 fn piece_labels(play: &Play, pen: &mut Pen, scale: Scale, p: &Piece, f: &Frame) {
     let (a, b) = (scale.x(p.source.0), scale.x(p.source.1));
-    let time = |tick: u64| exact(tick, play.timescale);
-    let one = width(&time(p.source.1), SIZE) + 8.0;
+    let one = width(&play.to(p.source.1), SIZE) + 8.0;
     let (first, last) = (p.begins && b - a > one, p.ends && b - a > 2.0 * one);
     if first {
-        pen.words("o", a + 4.0, f.foot + 12.0, &time(p.source.0));
-        pen.words("o", p.x.0 + 4.0, f.head - 4.0, &time(p.output.0));
+        pen.words("o", a + 4.0, f.foot + 12.0, &play.from(p.source.0));
+        pen.words("o", p.x.0 + 4.0, f.head - 4.0, &play.from(p.output.0));
     }
     if last {
-        pen.words("o r", b - 4.0, f.foot + 12.0, &time(p.source.1));
-        pen.words("o r", p.x.1 - 4.0, f.head - 4.0, &time(p.output.1));
+        pen.words("o r", b - 4.0, f.foot + 12.0, &play.to(p.source.1));
+        pen.words("o r", p.x.1 - 4.0, f.head - 4.0, &play.to(p.output.1));
     }
     let left = if first { a.max(p.x.0) + one } else { (a + p.x.0) / 2.0 };
     let right = if last { b.min(p.x.1) - one } else { (b + p.x.1) / 2.0 };
@@ -170,5 +169,5 @@ fn hole(play: &Play, from: u64, to: u64) -> [String; 3] {
     let first = there().map(end_of).filter(|&e| e <= from).max().unwrap_or(0);
     let last = there().map(|s| s.source).filter(|&s| s >= to).min().unwrap_or(play.end);
     let long = exact(last - first, play.timescale);
-    [format!("cut away: {long}, {}", span((first, last), play.timescale)), format!("cut away: {long}"), "cut away".to_string()]
+    [format!("cut away: {long}, {} – {}", play.to(first), play.from(last)), format!("cut away: {long}"), "cut away".to_string()]
 }

@@ -1,8 +1,9 @@
 //! The head of the picture: title, what became of the captions in a sentence, legend; and the file around it all.
 use super::bars::{class, marks, shape, Bar, MARK};
 use super::clock::brief;
+use super::list::{OTHERS, VANISHED};
 use super::pen::{rectangle, Pen, EDGE, MARGIN, N};
-use super::play::Play;
+use super::play::{end_of, Play};
 use super::text::{clean, escape, fit, width};
 use super::Fate;
 
@@ -52,7 +53,7 @@ pub fn file(play: &Play, pen: &Pen, height: f64) -> String {
     let font = format!("font-family=\"DejaVu Sans, Noto Sans CJK JP, sans-serif\" font-size=\"{}\"", N(play.look.size));
     let bars = format!(".s text,.c text,.d text,.p text{{font-size:{}px}}", play.look.size);
     format!(
-        "<svg xmlns=\"http://www.w3.org/2000/svg\" {size} {font}>\n<title>{}</title>\n<style>{STYLE}\n{bars}</style>\n<defs>{HATCH}</defs>\n\
+        "<svg xmlns=\"http://www.w3.org/2000/svg\" role=\"img\" {size} {font}>\n<title>{}</title>\n<style>{STYLE}\n{bars}</style>\n<defs>{HATCH}</defs>\n\
          <rect width=\"100%\" height=\"100%\" fill=\"#fff\"/>\n{}</svg>\n",
         escape(&clean(play.cut.title)),
         pen.drawn
@@ -95,21 +96,43 @@ fn summary(play: &Play, pen: &mut Pen, y: f64) -> f64 {
     let rest = format!("{} shifted, {} clipped, {} passed unchanged; {} warned of.", count(c.shifted, "", ""), count(c.clipped, "", ""), count(c.passed, "", ""), count(c.warned, "is", "are"));
     let room = width(&format!("{lengths} Of {all} {dropped}, {rest}"), 16.0);
     let (next, below) = if room > play.look.right - MARGIN { (format!(" x=\"{}\" dy=\"22\"", N(MARGIN)), 22.0) } else { (String::new(), 0.0) };
-    pen.add(format_args!("<text class=\"u\" x=\"{}\" y=\"{}\">{lengths} <tspan{next}>Of {all} </tspan><tspan class=\"bd\">{dropped}</tspan>, {rest}</text>\n", N(MARGIN), N(y)));
+    // the counts lead to the lists below
+    let dropped = linked(c.dropped > 0, VANISHED, &format!("<tspan class=\"bd\">{dropped}</tspan>"));
+    let rest = linked(c.clipped + c.passed + c.warned > 0, OTHERS, &rest);
+    pen.add(format_args!("<text class=\"u\" x=\"{}\" y=\"{}\">{lengths} <tspan{next}>Of {all} </tspan>{dropped}, {rest}</text>\n", N(MARGIN), N(y)));
     y + below
 }
 
-/// What colours, shapes and patterns mean. It answers where the last row of them stands.
+/// Words that lead to a list, where it has entries.
+fn linked(there: bool, list: &str, words: &str) -> String {
+    if there {
+        format!("<a href=\"#{list}\">{words}</a>")
+    } else {
+        words.to_string()
+    }
+}
+
+/// Whether a part of the recording is in no stretch.
+fn has_holes(play: &Play) -> bool {
+    let mut kept: Vec<(u64, u64)> = play.cut.segments.iter().filter(|s| s.duration > 0).map(|s| (s.source, end_of(s))).collect();
+    kept.sort_unstable();
+    let reached = kept.into_iter().try_fold(0, |at: u64, (from, to)| if from > at { Err(()) } else { Ok(at.max(to)) });
+    reached.map_or(true, |at| at < play.end)
+}
+
+/// What colours, shapes and patterns mean, of those that occur. It answers where the last row of them stands.
 fn legend(play: &Play, pen: &mut Pen, y: f64) -> f64 {
     let (mut x, mut y) = (MARGIN, y);
-    for (ground, name) in [("k", "kept stretch"), ("a", "cut away")] {
+    let c = play.counts(0..play.captions.len());
+    let grounds = [("k", "kept stretch", play.cut.segments.iter().any(|s| s.duration > 0)), ("a", "cut away", has_holes(play))];
+    for (ground, name, _) in grounds.into_iter().filter(|g| g.2) {
         pen.path(ground, &rectangle((x, x + 44.0), y, 18.0));
         pen.line("e", (x, y), (x, y + 18.0));
         pen.line("e", (x + 44.0, y), (x + 44.0, y + 18.0));
         x = name_of(pen, x + 44.0, y, name);
     }
-    let fates = [(Fate::Shifted, "shifted: kept whole"), (Fate::Clipped, "clipped: the dashed part is lost"), (Fate::Dropped, "dropped: nothing is kept"), (Fate::Passed, "passed unchanged")];
-    for (fate, name) in fates {
+    let fates = [(Fate::Shifted, "shifted: kept whole", c.shifted), (Fate::Clipped, "clipped: the dashed part is lost", c.clipped), (Fate::Dropped, "dropped: nothing is kept", c.dropped), (Fate::Passed, "passed unchanged", c.passed)];
+    for (fate, name, _) in fates.into_iter().filter(|f| f.2 > 0) {
         (x, y) = next_place(play, x, y, 44.0, name);
         let solid = if fate == Fate::Clipped { (x, x + 28.0) } else { (x, x + 44.0) };
         let bar = Bar { who: 0, whole: (x, x + 44.0), solid: Some(solid), torn: (false, fate == Fate::Clipped) };
@@ -117,6 +140,9 @@ fn legend(play: &Play, pen: &mut Pen, y: f64) -> f64 {
         shape(pen, fate, &bar, y, 18.0);
         pen.add(format_args!("</g>\n"));
         x = name_of(pen, x + 44.0, y, name);
+    }
+    if c.warned == 0 {
+        return y;
     }
     let name = "warned, with its number";
     (x, y) = next_place(play, x, y, 16.0, name);
@@ -128,7 +154,11 @@ fn legend(play: &Play, pen: &mut Pen, y: f64) -> f64 {
 /// The place of a sign and its name: here, or where there is no room a row below.
 fn next_place(play: &Play, x: f64, y: f64, sign: f64, name: &str) -> (f64, f64) {
     let end = x + sign + 7.0 + width(name, 12.0);
-    if end > play.look.right { (MARGIN, y + 26.0) } else { (x, y) }
+    if end > play.look.right {
+        (MARGIN, y + 26.0)
+    } else {
+        (x, y)
+    }
 }
 
 fn name_of(pen: &mut Pen, x: f64, y: f64, name: &str) -> f64 {

@@ -17,8 +17,12 @@ struct Form {
 }
 
 /// What vanished has most room.
-const VANISHED: Form = Form { most: 1000, column: 500.0 };
-const OTHERS: Form = Form { most: 200, column: 700.0 };
+const LOST: Form = Form { most: 1000, column: 500.0 };
+const TOUCHED: Form = Form { most: 200, column: 700.0 };
+
+/// The names of the lists, to which the head's counts and the overview lead.
+pub const VANISHED: &str = "vanished";
+pub const OTHERS: &str = "others";
 
 /// Draws the lists and answers their height.
 pub fn draw(play: &Play, pen: &mut Pen) -> f64 {
@@ -30,16 +34,18 @@ pub fn draw(play: &Play, pen: &mut Pen) -> f64 {
         0 => "Nothing vanished: no caption is dropped".to_string(),
         n => format!("What vanished: {} dropped", count(n, "caption", "captions")),
     };
-    let y = section(play, pen, 18.0, &VANISHED, &vanished, &dropped);
+    let y = section(play, pen, 18.0, (&LOST, VANISHED), &vanished, &dropped);
     match others.len() {
         0 => y,
-        n => section(play, pen, y + 14.0, &OTHERS, &format!("Clipped, passed or warned of: {}", count(n, "caption", "captions")), &others),
+        n => section(play, pen, y + 14.0, (&TOUCHED, OTHERS), &format!("Clipped, passed or warned of: {}", count(n, "caption", "captions")), &others),
     }
 }
 
 /// One list from `y` on. It answers where the list ends.
-fn section(play: &Play, pen: &mut Pen, y: f64, form: &Form, heading: &str, all: &[&Caption]) -> f64 {
+fn section(play: &Play, pen: &mut Pen, y: f64, (form, name): (&Form, &str), heading: &str, all: &[&Caption]) -> f64 {
+    pen.add(format_args!("<g id=\"{name}\">\n"));
     pen.words("b", MARGIN, y, heading);
+    pen.add(format_args!("</g>\n"));
     let (shown, room) = (&all[..all.len().min(form.most)], play.look.right - MARGIN);
     let columns = if shown.len() > ONE_COLUMN { (room / form.column) as usize } else { 1 };
     let (rows, wide) = (shown.len().div_ceil(columns), room / columns as f64);

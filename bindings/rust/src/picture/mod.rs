@@ -117,7 +117,8 @@ pub fn svg(cut: &Cut) -> String {
     for part in &parts {
         y += pen.below(y, |pen| match part {
             Part::Row(row) => row::draw(&play, row, pen),
-            Part::Gap(from, to) => row::gap(&play, *from, *to, pen),
+            Part::Gap(from, to) => row::gap(&play, (*from, *to), 0, pen),
+            Part::Shifted { from, to, captions } => row::gap(&play, (*from, *to), *captions, pen),
         });
     }
     y += pen.below(y, |pen| list::draw(&play, pen));

@@ -2,6 +2,7 @@
 use super::fold::Row;
 use super::ground::{cut, joins, labels, recording, Frame};
 use super::head::count;
+use super::list::{OTHERS, VANISHED};
 use super::pen::{rectangle, Pen, LEFT, MARGIN};
 use super::place::{pieces, Scale};
 use super::play::{Caption, Play};
@@ -62,6 +63,13 @@ fn strip(play: &Play, pen: &mut Pen, scale: Scale, place: usize, look: (&str, &s
     }
     let path: String = joined.iter().map(|&x| rectangle(x, y + 2.0, height - 4.0)).collect();
     pen.path(look.1, &path);
-    pen.words(look.0, MARGIN, y + height / 2.0 + 4.5, &count(look.2, look.3, look.3));
+    let (words, at) = (count(look.2, look.3, look.3), y + height / 2.0 + 4.5);
+    match place {
+        // what was shifted stands in no list
+        3 => pen.words(look.0, MARGIN, at, &words),
+        _ if look.2 == 0 => pen.words(look.0, MARGIN, at, &words),
+        0 => pen.link(VANISHED, look.0, MARGIN, at, &words),
+        _ => pen.link(OTHERS, look.0, MARGIN, at, &words),
+    }
     pen.line("g", (LEFT, y), (right, y));
 }

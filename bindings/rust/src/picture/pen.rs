@@ -47,6 +47,11 @@ impl Pen {
         self.add(format_args!("<text class=\"{class}\" x=\"{}\" y=\"{}\">{}</text>\n", N(x), N(y), escape(words)));
     }
 
+    /// Words that lead to a part of the picture.
+    pub fn link(&mut self, to: &str, class: &str, x: f64, y: f64, words: &str) {
+        self.add(format_args!("<a href=\"#{to}\"><text class=\"{class}\" x=\"{}\" y=\"{}\">{}</text></a>\n", N(x), N(y), escape(words)));
+    }
+
     /// A path, unless it is empty.
     pub fn path(&mut self, class: &str, path: &str) {
         if !path.is_empty() {

@@ -1,5 +1,5 @@
 //! What is to be drawn, measured: where each caption lies in the recording, what of it is kept, and how large things are.
-use super::clock::{clock, span, thousandths};
+use super::clock::{clock, rounded, span, thousandths};
 use super::text::clean;
 use super::{Cut, Drawn, Fate, New, Stretch};
 
@@ -117,6 +117,16 @@ impl<'a> Play<'a> {
         }
         let [from, to] = [times.0, times.1].map(|t| clock(thousandths(t, self.timescale) * 1_000_000, 2));
         format!("{from} – {to}")
+    }
+
+    /// When a stretch begins, rounded down, as `why` has it: to the hundredth where all captions' times are, else to the thousandth.
+    pub fn from(&self, ticks: u64) -> String {
+        rounded(ticks, self.timescale, if self.hundredths { 2 } else { 3 }, false)
+    }
+
+    /// When a stretch ends, rounded up.
+    pub fn to(&self, ticks: u64) -> String {
+        rounded(ticks, self.timescale, if self.hundredths { 2 } else { 3 }, true)
     }
 
     /// How the captions with these places in the list fared.

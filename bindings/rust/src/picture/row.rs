@@ -3,6 +3,7 @@ use super::bars::{class, cross_width, marks, shape, told, word, words, Bar, MARK
 use super::clock::{brief, span};
 use super::fold::Row;
 use super::ground::{cut, joins, labels, recording, Frame};
+use super::head::count;
 use super::lanes::Block;
 use super::pen::{rectangle, Pen, LEFT, MARGIN, N};
 use super::place::{pieces, Scale};
@@ -127,19 +128,23 @@ fn blocks(play: &Play, pen: &mut Pen, look: &Look, side: &Side, top: f64) {
     }
 }
 
-/// A part of the recording in which nothing happens, as one thin line.
-pub fn gap(play: &Play, from: u64, to: u64, pen: &mut Pen) -> f64 {
+/// A part of the recording in which nothing happens but that captions are shifted, as one thin line.
+pub fn gap(play: &Play, (from, to): (u64, u64), captions: usize, pen: &mut Pen) -> f64 {
     let kept = play.cut.segments.iter().find(|s| s.duration > 0 && s.source <= from && to <= end_of(s));
     let (ground, what) = match kept {
         Some(s) => {
             let output = [from, to].map(|t| s.output.saturating_add(t - s.source));
-            ("k", format!("kept, at {} of the cut", span((output[0], output[1]), play.timescale)))
+            ("k", format!("kept, at {} – {} of the cut", play.from(output[0]), play.to(output[1])))
         }
         None if from >= play.end => ("z", "past the end of the recording".to_string()),
         None => ("a", "cut away".to_string()),
     };
     pen.path(ground, &rectangle((LEFT, play.look.right), 0.0, MARK.1 + 5.0));
-    let words = format!("{}, {}: {what}, no captions", span((from, to), play.timescale), brief(to - from, play.timescale));
+    let there = match captions {
+        0 => "no captions".to_string(),
+        n => format!("{} shifted", count(n, "caption", "captions")),
+    };
+    let words = format!("{}, {}: {what}, {there}", span((from, to), play.timescale), brief(to - from, play.timescale));
     pen.words("o m", (LEFT + play.look.right) / 2.0, 14.0, &words);
     MARK.1 + 5.0 + play.look.after
 }

@@ -91,12 +91,5 @@ fn want(play: &Play, bar: &Bar, marks: bool, lane: Option<usize>) -> Want {
     let warned = !told.warnings.is_empty();
     let marks = if marks { told.warnings.len() as f64 * MARK.0 } else { 0.0 };
     let plain = !warned && matches!(told.fate, Fate::Shifted | Fate::Passed);
-    Want {
-        from: bar.whole.0,
-        to: bar.whole.1.max(bar.whole.0 + marks),
-        group: (told.fate as usize, warned),
-        most: play.look.lanes * if plain { 1 } else { 2 },
-        marked: marks > 0.0,
-        lane,
-    }
+    Want { from: bar.whole.0, to: bar.whole.1.max(bar.whole.0 + marks), group: (told.fate as usize, warned), most: play.look.lanes * if plain { 1 } else { 2 }, marked: marks > 0.0, lane }
 }

@@ -79,7 +79,11 @@ pub fn fit(text: &str, size: f64, room: f64) -> String {
         out.push(c);
     }
     let wide_ones = out.chars().filter(|&c| wide(c)).count();
-    if out.chars().count() + wide_ones < FEWEST { String::new() } else { out.trim_end().to_string() + "…" }
+    if out.chars().count() + wide_ones < FEWEST {
+        String::new()
+    } else {
+        out.trim_end().to_string() + "…"
+    }
 }
 
 /// The text in at most `most` lines.

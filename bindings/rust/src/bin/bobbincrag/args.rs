@@ -40,6 +40,11 @@ fn is_value(word: &OsStr) -> bool {
     word == "-" || !word.as_encoded_bytes().starts_with(b"-")
 }
 
+/// A number below zero, which begins with a sign.
+fn is_number(word: &OsStr) -> bool {
+    matches!(word.as_encoded_bytes(), [b'-', b'0'..=b'9' | b'.', ..])
+}
+
 /// An option by one of its names; `--name=value` gives the value too.
 fn option(command: &'static Command, word: &OsStr) -> Result<(&'static Opt, Option<OsString>), Failure> {
     let Some(text) = word.to_str() else {
@@ -56,8 +61,14 @@ fn option(command: &'static Command, word: &OsStr) -> Result<(&'static Opt, Opti
 pub fn read(command: &'static Command, words: &[OsString]) -> Result<Args, Failure> {
     let mut args = Args { command, options: Vec::new(), words: Vec::new() };
     let mut rest = words.iter().peekable();
+    let mut ended = false;
     while let Some(word) = rest.next() {
-        if is_value(word) {
+        // behind -- every word is none of the options
+        if word == "--" && !ended {
+            ended = true;
+            continue;
+        }
+        if ended || is_value(word) {
             args.words.push(word.clone());
             continue;
         }
@@ -72,7 +83,7 @@ pub fn read(command: &'static Command, words: &[OsString]) -> Result<Args, Failu
             }
             values.push(OsString::new());
         } else if values.is_empty() {
-            values.extend(rest.next_if(|w| is_value(w)).cloned());
+            values.extend(rest.next_if(|w| is_value(w) || opt.value == "SECONDS" && is_number(w)).cloned());
             while let Some(more) = rest.next_if(|w| opt.many && is_value(w)) {
                 values.push(more.clone());
             }

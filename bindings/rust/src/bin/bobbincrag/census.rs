@@ -13,17 +13,13 @@ pub fn run(args: &Args) -> Result<(), Failure> {
     let read = |time: &str| units(kind, time).ok_or_else(|| args.usage(format!("{time} is no time: say 2.5, 1:30 or 1:00:00")));
     let (length, count) = (read(length)?, read(span)?);
     let cut = cut::read(args)?;
-    let starts = census(&cut.map, kind, length, count).map_err(Failure::refused)?;
+    let starts = census(&cut.map, kind, length, count).map_err(|refused| match refused.number() {
+        16 => Failure::refused(format!("{refused} (LENGTH and SPAN are at most {}:00:00)", 36_000_000 / kind.units() / 3600)),
+        _ => Failure::refused(refused),
+    })?;
     let time = |units| kind.time_marked(units, '.');
-    let sentence = format!(
-        "Of {count} starts, one every 1/{} s in the first {}, a caption of {} stays whole at {}, is shortened at {} and vanishes at {}.\n",
-        kind.units(),
-        time(count),
-        time(length),
-        starts.shifted,
-        starts.clipped,
-        starts.dropped
-    );
+    let sentence =
+        format!("Of {count} starts, one every 1/{} s in the first {}, a caption of {} stays whole at {}, is shortened at {} and vanishes at {}.\n", kind.units(), time(count), time(length), starts.shifted, starts.clipped, starts.dropped);
     output::print(sentence.as_bytes())
 }
 

@@ -3,8 +3,10 @@ use crate::args::Args;
 use crate::cut::direction;
 use crate::failure::Failure;
 use crate::input::{self, Input};
+use crate::notes;
 use crate::output;
 use crate::progress::Progress;
+use retimer::captions;
 use retimer::faults::{self, Fault};
 use retimer::Kind;
 use std::ffi::OsStr;
@@ -21,14 +23,17 @@ pub fn run(args: &Args) -> Result<(), Failure> {
     let kinds = subs.iter().map(|s| input::kind_of(args, s)).collect::<Result<Vec<Kind>, _>>()?;
     let read = |name: &'static str, most| args.one(name).map(|n| input::read(n, most)).transpose();
     let (sheet, list) = (read("--sheet", input::MOST_SHEET)?, read("--list", input::MOST_LIST)?);
-    let texts = subs.iter().map(|s| input::read(s, input::MOST_TEXT)).collect::<Result<Vec<Input>, _>>()?;
+    let texts = subs.iter().map(|s| input::captions(args, s)).collect::<Result<Vec<Input>, _>>()?;
 
     let mut page = Page::default();
     if let Some(sheet) = &sheet {
         page.add(&sheet.name, faults::in_sheet(&sheet.bytes));
     }
     if let Some(list) = &list {
-        page.add(&list.name, of_list(args, &list.bytes, sheet.as_ref()));
+        let mut found = of_list(args, &list.bytes, sheet.as_ref());
+        page.more = found.len() > faults::MOST_IN_CUT && found[0].refused.number() >= 8 && found[0].refused.number() != 20;
+        found.truncate(if page.more { faults::MOST_IN_CUT } else { found.len() });
+        page.add_of(list, found);
     } else if let Some(sheet) = &sheet {
         // that the whole recording can be kept is asked where there is no list
         let found = if page.faults == 0 { faults::in_cut(&sheet.bytes, b"", direction(args)) } else { Vec::new() };
@@ -38,7 +43,15 @@ pub fn run(args: &Args) -> Result<(), Failure> {
         let progress = Progress::new(format!("checking {}", text.name), text.bytes.len());
         let found = faults::in_captions(kind, &text.bytes, &mut |at| progress.at(at));
         drop(progress);
-        page.add(&text.name, found);
+        let sound = found.faults.is_empty();
+        page.add_of(text, found.faults);
+        if found.more {
+            page.text += &format!("the search ended here: {} may have more faults\n", text.name);
+            page.more = true;
+        }
+        if sound {
+            page.remarks(&text.name, kind, &text.bytes);
+        }
     }
     page.end()
 }
@@ -47,7 +60,7 @@ pub fn run(args: &Args) -> Result<(), Failure> {
 fn of_list(args: &Args, list: &[u8], sheet: Option<&Input>) -> Vec<Fault> {
     let found = faults::in_list(list);
     match sheet {
-        Some(sheet) if found.is_empty() && retimer::check_sheet(&sheet.bytes).is_ok() => faults::in_cut(&sheet.bytes, list, direction(args)),
+        Some(sheet) if found.is_empty() && retimer::check_sheet(&sheet.bytes).is_ok() => faults::in_cut_up_to(&sheet.bytes, list, direction(args), faults::MOST_IN_CUT + 1),
         _ => found,
     }
 }
@@ -59,9 +72,20 @@ struct Page {
     faults: usize,
     files: usize,
     faulty: usize,
+    /// Whether there may be more faults of a list than were looked for.
+    more: bool,
 }
 
 impl Page {
+    /// A text's faults, and what it looks like where it is not UTF-8.
+    fn add_of(&mut self, text: &Input, found: Vec<Fault>) {
+        let bytes = found.iter().any(|f| f.refused.number() == 20);
+        self.add(&text.name, found);
+        if bytes {
+            self.text += &format!("{}\n", input::not_utf8(text));
+        }
+    }
+
     /// A file's faults.
     fn add(&mut self, name: &str, found: Vec<Fault>) {
         self.files += 1;
@@ -92,9 +116,24 @@ impl Page {
         self.faulty += usize::from(!found.is_empty());
     }
 
+    /// What is to be said of captions that can be retimed.
+    fn remarks(&mut self, name: &str, kind: Kind, text: &[u8]) {
+        let read = captions::read(kind, text).map_or(Vec::new(), |r| r.captions);
+        if let Some(note) = notes::none_found(kind, text, &read) {
+            self.text += &format!("note: {note} ({name})\n");
+        }
+        let inside = notes::arrows_inside(kind, &read);
+        for (line, words) in inside.iter().take(MOST) {
+            self.text += &format!("note: {} ({name}, line {line}: \"{words}\")\n", notes::INSIDE);
+        }
+        if inside.len() > MOST {
+            self.text += &format!("and {} more such lines in {name}\n", inside.len() - MOST);
+        }
+    }
+
     fn end(mut self) -> Result<(), Failure> {
         let files = if self.files == 1 { "1 file".to_string() } else { format!("{} files", self.files) };
-        let faults = if self.faults == 1 { "1 fault".to_string() } else { format!("{} faults", self.faults) };
+        let faults = if self.faults == 1 { "1 fault".to_string() } else { format!("{} faults", self.faults) } + if self.more { " or more" } else { "" };
         self.text += &match self.faults {
             0 => format!("{files} checked, all sound\n"),
             _ => format!("{files} checked, {faults} in {}\n", self.faulty),

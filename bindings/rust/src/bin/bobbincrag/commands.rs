@@ -1,7 +1,7 @@
 //! The commands: what each takes, and its help.
 use crate::args::Args;
 use crate::failure::Failure;
-use crate::{census, check, completions, delay, map, picture, retime, why};
+use crate::{census, check, completions, cues, delay, map, picture, retime, sheet, why};
 
 pub struct Opt {
     pub name: &'static str,
@@ -41,25 +41,42 @@ static LIST: Opt = opt("--list", "FILE", "the trim list; without it, or blank, t
 static MAP: Opt = opt("--map", "FILE", "a segment map as the cutter stores it (JSON), in place of sheet and list");
 static INWARD: Opt = opt("--inward", "", "narrow the trims to cutting places; without it they are widened");
 static KIND: Opt = opt("--kind", "KIND", "ass, srt or vtt; without it the file's ending tells");
+static ENCODING: Opt = opt("--encoding", "NAME", "how captions are stored that are not UTF-8: utf-16, utf-16be, utf-32, windows-1252 or iso-8859-1");
 static SUBS: Opt = opt("--subs", "FILE", "the captions");
 static MANY_SUBS: Opt = Opt { name: "--subs", long: "", value: "FILE..", many: true, help: "the captions, one file or several" };
 static OUT: Opt = Opt { name: "-o", long: "--output", value: "OUT", many: false, help: "write to this file, whole or not at all; without it to standard output" };
-static OUTS: Opt = Opt { name: "-o", long: "--output", value: "OUT", many: false, help: "write to this file, whole or not at all; for several caption files the folder for files of the same names" };
+static OUTS: Opt = Opt { name: "-o", long: "--output", value: "OUT", many: false, help: "write to this file, whole or not at all; or to a folder, under the names of the caption files, as several need it" };
 static WARNINGS: Opt = opt("--warnings", "FILE", "write the warnings there too: file, line, number, sentence and words, parted by tabs");
+static DELAY: Opt = opt("--delay", "SECONDS", "let every caption come so much later before it is retimed, or earlier: +5.554, -0.5, to the thousandth");
 static JSON: Opt = opt("--json", "PATH", "print the JSON that the cutter stores; PATH stands in its field input");
+static JSON_LINES: Opt = opt("--json", "", "a line of JSON for each caption");
+static TSV: Opt = opt("--tsv", "", "a line for each caption, parted by tabs, below a line with the names of the columns");
+static FFMPEG: Opt = opt("--ffmpeg", "FILM", "print the list by which ffmpeg cuts this film, whose sheet it is");
+static PACKETS: Opt = opt("--packets", "FILE", "what ffprobe printed of the film, where it is not to be asked");
+static OPEN_GOP: Opt = opt("--open-gop", "", "let a cut begin at every key picture, for cutters that cope with open GOPs");
 static LINE: Opt = opt("--line", "N", "tell of the caption at this line alone, with every kept stretch");
 static BUDGET: Opt = opt("--budget", "N", "try so many shifts; without it all 12001");
 
 const INPUTS: &str = "A FILE that is - is standard input, for one of them.";
 const STATUS: &str = "Status 0: done; 1: refused, as `refused N: sentence`, or a file can't be read or written; 2: the command line is wrong.";
 
-pub static ALL: [Command; 8] = [
+pub static ALL: [Command; 10] = [
+    Command {
+        name: "sheet",
+        about: "write the frame sheet of a film",
+        form: "(FILM | --packets FILE) [--open-gop] [-o OUT]",
+        words: "FILM",
+        options: &[&PACKETS, &OPEN_GOP, &OUT],
+        more: "Asks ffprobe, which comes with ffmpeg, when each frame is shown and where it is stored. Without ffprobe run it elsewhere:\n  ffprobe -v error -select_streams V:0 -show_entries stream=time_base,r_frame_rate:packet=pts,dts,duration,flags -of json play.mp4 >play.json\nA frame lasts until the next one is shown. A cut can begin at a key picture behind which no frame is stored that is shown before it.",
+        example: "bobbincrag sheet play.mp4 -o play.bin",
+        run: sheet::run,
+    },
     Command {
         name: "retime",
         about: "retime captions through a cut",
         form: "--sheet S [--list L] --subs C.. [-o OUT]",
         words: "",
-        options: &[&SHEET, &LIST, &MAP, &INWARD, &MANY_SUBS, &KIND, &OUTS, &WARNINGS],
+        options: &[&SHEET, &LIST, &MAP, &INWARD, &MANY_SUBS, &KIND, &ENCODING, &DELAY, &OUTS, &WARNINGS],
         more: "Captions go to OUT or to standard output, and nothing else does. On standard error stand every warning, with its line and\nthe caption's words, and how many captions were shifted, clipped, dropped and passed. Where one text is refused, none is written.",
         example: "bobbincrag retime --sheet play.bin --list trim.txt --subs en.srt ja.srt de.vtt -o cut",
         run: retime::run,
@@ -67,10 +84,10 @@ pub static ALL: [Command; 8] = [
     Command {
         name: "map",
         about: "print the map of a cut",
-        form: "--sheet S [--list L] [--json PATH] [-o OUT]",
+        form: "--sheet S [--list L] [--json PATH | --ffmpeg FILM] [-o OUT]",
         words: "",
-        options: &[&SHEET, &LIST, &MAP, &INWARD, &JSON, &OUT],
-        more: "Prints `timescale` and the ticks a second, then a line of six numbers for each kept stretch: start frame, end frame, source start,\nframe count, output start, duration.",
+        options: &[&SHEET, &LIST, &MAP, &INWARD, &JSON, &FFMPEG, &PACKETS, &OUT],
+        more: "Prints `timescale` and the ticks a second, then a line of six numbers for each kept stretch: start frame, end frame, source start,\nframe count, output start, duration. With --ffmpeg it prints a list, by which ffmpeg cuts the film:\n  ffmpeg -copyts -f concat -safe 0 -i list.txt -copypriorss 0 -c copy cut.mp4",
         example: "bobbincrag map --sheet play.bin --list trim.txt --json play.mp4 -o play.json",
         run: map::run,
     },
@@ -79,7 +96,7 @@ pub static ALL: [Command; 8] = [
         about: "find every fault of a sheet, a list and captions",
         form: "[--sheet S] [--list L] [--subs C..]",
         words: "",
-        options: &[&SHEET, &LIST, &INWARD, &MANY_SUBS, &KIND],
+        options: &[&SHEET, &LIST, &INWARD, &MANY_SUBS, &KIND, &ENCODING],
         more: "Prints a line for each fault with its place, at most 50 of one number in a file. Whether trims fit the recording is looked at\nwhere sheet and list are given. Status 1 where there is a fault, and the last line sums up.",
         example: "bobbincrag check --sheet play.bin --list trim.txt --subs en.srt ja.ass",
         run: check::run,
@@ -89,10 +106,20 @@ pub static ALL: [Command; 8] = [
         about: "say what becomes of a caption, and why",
         form: "--sheet S [--list L] (--kind K START END | --subs C [--line N])",
         words: "START END",
-        options: &[&SHEET, &LIST, &MAP, &INWARD, &KIND, &SUBS, &LINE],
+        options: &[&SHEET, &LIST, &MAP, &INWARD, &KIND, &SUBS, &ENCODING, &LINE],
         more: "START and END are times of the whole recording, as they stand in captions. With --subs it tells of every caption that is dropped or\nclipped, with the kept stretches next to it.",
         example: "bobbincrag why --sheet play.bin --list trim.txt --kind ass 0:00:12.00 0:00:20.00",
         run: why::run,
+    },
+    Command {
+        name: "cues",
+        about: "list every caption with its fate and its new times",
+        form: "--sheet S [--list L] --subs C.. (--json | --tsv) [-o OUT]",
+        words: "",
+        options: &[&SHEET, &LIST, &MAP, &INWARD, &MANY_SUBS, &KIND, &ENCODING, &JSON_LINES, &TSV, &OUT],
+        more: "Of each caption: file, line, start and end, fate (shifted, clipped, dropped, passed), start and end in the cut, the kept stretch, counted from 1, how\nmuch was cut off at its start and its end, rounded up, warnings, and words. Times are seconds in JSON, and as in captions with --tsv.",
+        example: "bobbincrag cues --sheet play.bin --list trim.txt --subs en.srt --tsv -o play.tsv",
+        run: cues::run,
     },
     Command {
         name: "census",
@@ -109,7 +136,7 @@ pub static ALL: [Command; 8] = [
         about: "find the shift of all captions that loses fewest",
         form: "--sheet S [--list L] --subs C [--budget N]",
         words: "",
-        options: &[&SHEET, &LIST, &MAP, &INWARD, &SUBS, &KIND, &BUDGET],
+        options: &[&SHEET, &LIST, &MAP, &INWARD, &SUBS, &KIND, &ENCODING, &BUDGET],
         more: "Tries shifts of 0, 1 and -1, 2 and -2 units, and so on to 6000; a unit is 1/100 s in ASS, else 1/1000 s. Lost is a caption that is shortened, that\nvanishes, or that would start or end before 0.",
         example: "bobbincrag delay --sheet play.bin --list trim.txt --subs en.srt",
         run: delay::run,
@@ -119,7 +146,7 @@ pub static ALL: [Command; 8] = [
         about: "draw what became of the captions, as SVG",
         form: "--sheet S [--list L] --subs C [-o OUT]",
         words: "",
-        options: &[&SHEET, &LIST, &MAP, &INWARD, &SUBS, &KIND, &OUT],
+        options: &[&SHEET, &LIST, &MAP, &INWARD, &SUBS, &KIND, &ENCODING, &OUT],
         more: "Draws the recording above and the cut below, and each caption where it was and where it is; below the rows it lists what vanished, was\nclipped or is warned of. Any browser shows the file. On standard error stands how many captions were shifted, clipped, dropped and passed.",
         example: "bobbincrag picture --sheet play.bin --list trim.txt --subs en.srt -o play.svg",
         run: picture::run,

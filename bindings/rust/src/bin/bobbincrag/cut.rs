@@ -77,8 +77,9 @@ fn placed(args: &Args, refused: Refused, sheet: &Input, list: Option<&Input>) ->
     let of_cut = || faults::in_cut(&sheet.bytes, bytes, direction(args)).into_iter().map(|f| (name, f));
     let same = |f: &(&str, faults::Fault)| f.1.refused == refused;
     let found = of_sheet().find(same).or_else(|| of_list().find(same)).or_else(|| of_cut().find(same));
-    match found {
-        Some((name, fault)) => Failure::refused(format!("{refused} ({name}, {})", fault.place)),
-        None => Failure::refused(refused),
+    let line = found.map_or(refused.to_string(), |(name, fault)| format!("{refused} ({name}, {})", fault.place));
+    match (refused.number(), list) {
+        (20, Some(list)) => Failure::Refused(vec![line, input::not_utf8(list)]),
+        _ => Failure::refused(line),
     }
 }

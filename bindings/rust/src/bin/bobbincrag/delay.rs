@@ -2,11 +2,11 @@
 use crate::args::Args;
 use crate::cut;
 use crate::failure::Failure;
-use crate::held;
 use crate::input;
 use crate::output;
 use crate::progress::Progress;
 use crate::stderr::say;
+use crate::subs;
 use retimer::captions::Times;
 use retimer::{best_delay, Kind};
 
@@ -22,14 +22,14 @@ pub fn run(args: &Args) -> Result<(), Failure> {
         None => ALL,
     };
     let map = cut::read(args)?.map;
-    let text = input::read(name, input::MOST_TEXT)?;
-    let read = held::captions(&map, kind, &text)?.captions;
-    let captions: Vec<[u64; 2]> = read.iter().filter_map(|(c, _)| times(c.times)).collect();
+    let text = input::captions(args, name)?;
+    let read = subs::read(kind, &text)?;
+    let captions: Vec<[u64; 2]> = read.iter().filter_map(|c| times(c.times)).collect();
     if captions.len() < read.len() {
         say(format_args!("{} captions are left out: they have no times that are read", read.len() - captions.len()));
     }
     let progress = Progress::new(format!("trying shifts for {} captions", captions.len()), 0);
-    let best = best_delay(&map, kind, &captions, budget).map_err(|r| Failure::refused(format!("{r} ({})", text.name)));
+    let best = best_delay(&map, kind, &captions, budget).map_err(|r| Failure::refused(format!("{r} ({}: {})", text.name, too_many(captions.len()))));
     drop(progress);
     let best = best?;
     let (shift, floor) = (seconds(kind, best.delay), best.loss - best.off);
@@ -37,10 +37,18 @@ pub fn run(args: &Args) -> Result<(), Failure> {
     output::print(format!("{found} No shift at all loses fewer than {floor}.\n").as_bytes())
 }
 
+/// What to do where no shift is tried.
+fn too_many(captions: usize) -> String {
+    match captions {
+        0..=4096 => "say --budget 1 or more".to_string(),
+        n => format!("it has {n} captions, and 4096 at most can be shifted: split it in {} files", n.div_ceil(4096)),
+    }
+}
+
 fn times(times: Times) -> Option<[u64; 2]> {
     match times {
         Times::Read { start, stop } => Some([start, stop]),
-        Times::Passed | Times::Unreadable => None,
+        Times::Passed { .. } => None,
     }
 }
 

@@ -1,6 +1,6 @@
 //! Why a command ends without its result.
 use crate::commands::Command;
-use crate::input::Input;
+use crate::input::{not_utf8, Input};
 use crate::stderr::say;
 use retimer::faults::Fault;
 use retimer::Stopped;
@@ -59,8 +59,17 @@ impl Failure {
 /// `refused N: sentence`, and in brackets the file, and where it is at fault its line and the words there.
 pub fn refused_text(stopped: &Stopped, text: &Input) -> String {
     match Fault::of_text(stopped, &text.bytes) {
-        Some(fault) => format!("{} ({}, {})", fault.refused, text.name, fault.place),
+        Some(fault) => fault_text(&fault, text),
         None => format!("{} ({})", stopped.refused, text.name),
+    }
+}
+
+/// A fault of a text; of bytes that are not UTF-8 another line says what they look like.
+pub fn fault_text(fault: &Fault, text: &Input) -> String {
+    let line = format!("{} ({}, {})", fault.refused, text.name, fault.place);
+    match fault.refused.number() {
+        20 => format!("{line}\n{}", not_utf8(text)),
+        _ => line,
     }
 }
 

@@ -1,7 +1,8 @@
 //! Files that are read, and standard input.
 use crate::args::Args;
 use crate::failure::Failure;
-use retimer::Kind;
+use crate::stderr::say;
+use retimer::{Encoding, Kind, Refused};
 use std::ffi::OsStr;
 use std::fs::File;
 use std::io::Read;
@@ -12,6 +13,9 @@ pub const MOST_SHEET: u64 = 1 << 26;
 pub const MOST_LIST: u64 = 1 << 24;
 pub const MOST_TEXT: u64 = (1 << 30) + 1;
 
+/// The options that name files to be read.
+pub const NAMES: [&str; 5] = ["--sheet", "--list", "--map", "--subs", "--packets"];
+
 pub struct Input {
     /// As it is named in messages.
     pub name: String,
@@ -20,8 +24,7 @@ pub struct Input {
 
 /// Standard input can be read once: `-` stands at most once.
 pub fn once(args: &Args) -> Result<(), Failure> {
-    let names = ["--sheet", "--list", "--map", "--subs"];
-    match names.iter().flat_map(|n| args.all(n)).filter(|v| *v == "-").count() {
+    match NAMES.iter().flat_map(|n| args.all(n)).filter(|v| *v == "-").count() {
         0 | 1 => Ok(()),
         _ => Err(args.usage("- is standard input, which can be read once")),
     }
@@ -46,6 +49,38 @@ fn from_file(path: &Path, most: u64, bytes: &mut Vec<u8>) -> std::io::Result<()>
     bytes.reserve_exact(length as usize + 1);
     file.take(most).read_to_end(bytes)?;
     Ok(())
+}
+
+/// A caption file, in the encoding that `--encoding` names. What is written is UTF-8.
+pub fn captions(args: &Args, name: &OsStr) -> Result<Input, Failure> {
+    let encoding = args.one("--encoding").map(|e| named_encoding(args, e)).transpose()?;
+    let long = |name: &str| Failure::refused(format!("{} ({name} has more than 1,073,741,824 bytes: split it)", Refused(16)));
+    let length = std::fs::metadata(Path::new(name)).ok().filter(|m| m.is_file() && name != "-").map_or(0, |m| m.len());
+    if length >= MOST_TEXT {
+        return Err(long(&Path::new(name).display().to_string()));
+    }
+    let text = read(name, MOST_TEXT)?;
+    let Some(encoding) = encoding.filter(|e| *e != Encoding::Utf8) else {
+        return if text.bytes.len() as u64 >= MOST_TEXT { Err(long(&text.name)) } else { Ok(text) };
+    };
+    let bytes = encoding.decode(&text.bytes).map_err(|at| Failure::refused(format!("{} can't be read as {encoding}: byte {at} is none of its characters", text.name)))?;
+    say(format_args!("{}: read as {encoding}; what is written is UTF-8", text.name));
+    Ok(Input { bytes, ..text })
+}
+
+fn named_encoding(args: &Args, name: &OsStr) -> Result<Encoding, Failure> {
+    let names: Vec<&str> = Encoding::ALL.iter().map(|e| e.name()).collect();
+    let read = name.to_str().and_then(|n| n.parse().ok());
+    read.ok_or_else(|| args.usage(format!("--encoding is one of {}, not {}", names.join(", "), name.to_string_lossy())))
+}
+
+/// What to do with a file that is not UTF-8 (20).
+pub fn not_utf8(text: &Input) -> String {
+    let name = &text.name;
+    match Encoding::of(&text.bytes) {
+        Some(encoding) => format!("{name} is not UTF-8: it looks like {encoding}. Save it as UTF-8; captions can be read by --encoding {encoding}"),
+        None => format!("{name} is not UTF-8, and looks like nothing that --encoding can read: save it as UTF-8"),
+    }
 }
 
 /// The kind that `--kind` names.

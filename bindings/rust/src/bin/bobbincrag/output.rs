@@ -1,7 +1,8 @@
 //! Results: on standard output, or in files that are written whole or not at all.
 //!
 //! A file is first written under another name beside its place, and then takes its place in one step, so that one that stood there stays until then. All
-//! are written before the first takes its place. What is no plain file, such as a pipe or a device, is written as it is.
+//! are written before the first takes its place. What is no plain file, such as a pipe or a device, is written as it is, and so is a stream that is open already, such as /dev/stdout.
+use crate::closed;
 use crate::failure::{reason, Failure};
 use std::ffi::OsStr;
 use std::fs::{self, File, OpenOptions};
@@ -10,6 +11,9 @@ use std::path::{Path, PathBuf};
 
 /// Bytes on standard output.
 pub fn print(bytes: &[u8]) -> Result<(), Failure> {
+    if closed::standard_output() {
+        return Err(Failure::refused("cannot write standard output: it is closed"));
+    }
     let mut out = std::io::stdout().lock();
     let done = out.write_all(bytes).and_then(|()| out.flush());
     done.map_err(|e| Failure::refused(format!("cannot write standard output: {}", reason(&e))))
@@ -60,12 +64,15 @@ impl Files {
     /// Writes a file beside its place.
     pub fn add(&mut self, path: &Path, bytes: &[u8]) -> Result<(), Failure> {
         let fails = |e: std::io::Error| Failure::writing(path, reason(&e));
-        // a link leads to the file that is to be written
-        let place = fs::canonicalize(path).unwrap_or_else(|_| path.to_path_buf());
+        let place = led(path);
+        if is_stream(&place) {
+            self.direct.push((place, bytes.to_vec()));
+            return Ok(());
+        }
         match fs::metadata(&place) {
             Ok(there) if there.is_dir() => Err(Failure::writing(path, "it is a folder")),
             Ok(there) if !there.is_file() => {
-                self.direct.push((path.to_path_buf(), bytes.to_vec()));
+                self.direct.push((place, bytes.to_vec()));
                 Ok(())
             }
             Ok(there) => {
@@ -95,8 +102,7 @@ impl Files {
             pending.file.sync_all().map_err(|e| Failure::writing(&pending.shown, reason(&e)))?;
         }
         for (path, bytes) in &self.direct {
-            let written = OpenOptions::new().write(true).open(path).and_then(|mut f| f.write_all(bytes));
-            written.map_err(|e| Failure::writing(path, reason(&e)))?;
+            to_stream(path, bytes).map_err(|e| Failure::writing(path, reason(&e)))?;
         }
         for pending in self.pending.drain(..) {
             fs::rename(&pending.written, &pending.place).map_err(|e| Failure::writing(&pending.shown, reason(&e)))?;
@@ -106,8 +112,53 @@ impl Files {
     }
 }
 
+/// Where a name leads: through links to the file that is to be written, there already or not, or to a stream.
+fn led(path: &Path) -> PathBuf {
+    let mut at = path.to_path_buf();
+    // no more links than a system follows
+    for _ in 0..40 {
+        if is_stream(&at) {
+            return at;
+        }
+        let Ok(next) = fs::read_link(&at) else { break };
+        at = at.parent().unwrap_or(Path::new("")).join(next);
+    }
+    fs::canonicalize(&at).unwrap_or(at)
+}
+
+/// Whether a name is that of a stream that is open already.
+fn is_stream(path: &Path) -> bool {
+    ["/dev/stdout", "/dev/stderr", "/dev/fd", "/proc"].iter().any(|stream| path.starts_with(stream))
+}
+
+/// Bytes to what is no plain file, or behind what stands in an open stream already.
+fn to_stream(path: &Path, bytes: &[u8]) -> std::io::Result<()> {
+    match path.to_str() {
+        Some("/dev/stdout") => std::io::stdout().lock().write_all(bytes).and_then(|()| std::io::stdout().lock().flush()),
+        Some("/dev/stderr") => std::io::stderr().lock().write_all(bytes),
+        _ => OpenOptions::new().append(true).open(path)?.write_all(bytes),
+    }
+}
+
+/// Removes what interrupted calls have left in a folder: files of the form `.bobbincrag-PID-K` that no running process writes, and that nobody has written for a minute, since the folder may be
+/// shared with other machines.
+fn swept(folder: &Path) {
+    let dead = |name: &str| {
+        let pid = name.strip_prefix(".bobbincrag-")?.split_once('-')?.0;
+        let known = Path::new("/proc/self").exists() && pid.parse::<u32>().is_ok();
+        (known && !Path::new("/proc").join(pid).exists()).then_some(())
+    };
+    for entry in fs::read_dir(folder).into_iter().flatten().flatten() {
+        let old = || entry.metadata().and_then(|m| m.modified()).ok()?.elapsed().ok().filter(|age| age.as_secs() >= 60);
+        if entry.file_name().to_str().and_then(dead).is_some() && old().is_some() {
+            let _ = fs::remove_file(entry.path());
+        }
+    }
+}
+
 /// A new file of a name that is free.
 fn created(folder: &Path) -> std::io::Result<(PathBuf, File)> {
+    swept(folder);
     let mut k = 0;
     loop {
         let path = folder.join(format!(".bobbincrag-{}-{k}", std::process::id()));
@@ -127,12 +178,22 @@ pub fn write(out: Option<&OsStr>, bytes: &[u8]) -> Result<(), Failure> {
     files.done()
 }
 
-/// Whether two names lead to the same file.
+/// Whether two names lead to the same file, or would, where there is none yet.
 pub fn same(a: &Path, b: &Path) -> bool {
-    match (fs::canonicalize(a), fs::canonicalize(b)) {
-        (Ok(a), Ok(b)) => a == b || linked(&a, &b),
+    match (placed(a), placed(b)) {
+        (Some(a), Some(b)) => a == b || linked(&a, &b),
         _ => false,
     }
+}
+
+/// Where a name leads: of a file that is not there yet, its folder's place and its name.
+fn placed(path: &Path) -> Option<PathBuf> {
+    let path = led(path);
+    let beside = || {
+        let folder = path.parent().filter(|p| !p.as_os_str().is_empty()).unwrap_or(Path::new("."));
+        Some(fs::canonicalize(folder).ok()?.join(path.file_name()?))
+    };
+    fs::canonicalize(&path).ok().or_else(beside)
 }
 
 #[cfg(unix)]
@@ -150,7 +211,7 @@ fn linked(_: &Path, _: &Path) -> bool {
 /// Usage, where an output is an input, which would be lost, or another output.
 pub fn apart(args: &crate::args::Args, outs: &[PathBuf]) -> Result<(), Failure> {
     for (k, out) in outs.iter().enumerate() {
-        let inputs = ["--sheet", "--list", "--map", "--subs"].iter().flat_map(|name| args.all(name));
+        let inputs = crate::input::NAMES.iter().chain(&["--ffmpeg"]).flat_map(|name| args.all(name)).chain(args.words.iter().map(|w| w.as_os_str()));
         if inputs.filter(|i| *i != "-").any(|i| same(out, Path::new(i))) {
             return Err(args.usage(format!("{} is read, and would be lost: write to another file", out.display())));
         }

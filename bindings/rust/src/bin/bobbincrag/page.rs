@@ -15,11 +15,11 @@ impl Page<'_> {
 
     /// How long so many ticks are, rounded up.
     fn length(&self, ticks: u64) -> String {
-        ticks_to_units_ceil(ticks, self.map.timescale, self.kind).map_or("more than 2^53 ticks".to_string(), |u| self.time(u))
+        ticks_to_units_ceil(ticks, self.map.timescale(), self.kind).map_or("more than 2^53 ticks".to_string(), |u| self.time(u))
     }
 
     fn span(&self, from: u64, duration: u64) -> String {
-        let start = ticks_to_units_floor(from, self.map.timescale, self.kind).unwrap_or(0);
+        let start = ticks_to_units_floor(from, self.map.timescale(), self.kind).unwrap_or(0);
         format!("{} to {}", self.time(start), self.length(from.saturating_add(duration)))
     }
 

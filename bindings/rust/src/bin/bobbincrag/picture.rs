@@ -2,13 +2,13 @@
 use crate::args::Args;
 use crate::cut;
 use crate::failure::Failure;
-use crate::held::{self, Held};
 use crate::input;
 use crate::output;
 use crate::stderr::say;
+use crate::subs::{self, Fared};
 use retimer::captions::{Caption, Times};
 use retimer::picture::{self, svg, Drawn, New, Stretch};
-use retimer::{ticks_to_units_ceil, ticks_to_units_floor, units_to_ticks, Fate, Kind, Map, Refused};
+use retimer::{retime, Fate, Kind, Map, Refused, Warning};
 use std::collections::BTreeMap;
 use std::ffi::OsStr;
 use std::path::{Path, PathBuf};
@@ -20,14 +20,15 @@ pub fn run(args: &Args) -> Result<(), Failure> {
     let outs: Vec<PathBuf> = args.one("-o").map(PathBuf::from).into_iter().collect();
     output::apart(args, &outs)?;
     let cut = cut::read(args)?;
-    let text = input::read(name, input::MOST_TEXT)?;
-    let held = held::captions(&cut.map, kind, &text)?;
+    let text = input::captions(args, name)?;
+    let retimed = retime(kind, &cut.map, &text.bytes).map_err(|stopped| Failure::text(&stopped, &text))?;
+    let read = subs::fates(&cut.map, kind, &text)?;
     let scale = Scale::of(&cut.map, kind);
-    let captions = drawn(&scale, &held).map_err(Failure::refused)?;
+    let captions = drawn(&scale, &read, &retimed.warnings).map_err(Failure::refused)?;
     let recording = cut.recording()?.map(|ticks| scale.ticks(ticks));
     let drawing = svg(&picture::Cut { title: &title(name), timescale: scale.timescale, recording, segments: &scale.stretches(), captions: &captions });
     output::write(args.one("-o"), drawing.as_bytes())?;
-    say(format_args!("{}: {}", text.name, held.counts));
+    say(format_args!("{}: {}", text.name, retimed.counts));
     Ok(())
 }
 
@@ -55,8 +56,8 @@ struct Scale<'m> {
 
 impl Scale<'_> {
     fn of(map: &Map, kind: Kind) -> Scale<'_> {
-        let parts = if map.timescale < COARSE { PARTS } else { 1 };
-        Scale { map, kind, parts, timescale: map.timescale * parts }
+        let parts = if map.timescale() < COARSE { PARTS } else { 1 };
+        Scale { map, kind, parts, timescale: map.timescale() * parts }
     }
 
     /// Ticks of the recording.
@@ -75,40 +76,34 @@ impl Scale<'_> {
         self.map.segments().map(stretch).collect()
     }
 
-    /// Where a kept caption is, as it is written: its start rounded down, its end up.
-    fn kept(&self, times: (u64, u64), place: usize, cut: (u64, u64)) -> Result<Option<New>, Refused> {
-        let Some(s) = self.map.segments().nth(place) else { return Ok(None) };
-        let ticks = |units| units_to_ticks(units, self.map.timescale, self.kind);
-        let moved = |tick: u64| tick.saturating_sub(s.source).saturating_add(s.output);
-        let start = ticks_to_units_floor(moved(ticks(times.0)?.saturating_add(cut.0)), self.map.timescale, self.kind)?;
-        let end = ticks_to_units_ceil(moved(ticks(times.1)?.saturating_sub(cut.1)), self.map.timescale, self.kind)?;
-        Ok(Some(New { stretch: place, start: self.units(start), end: self.units(end), torn: (cut.0 > 0, cut.1 > 0) }))
+    /// Where a kept caption is, as it is written.
+    fn kept(&self, fate: &Fate, times: (u64, u64)) -> Result<Option<New>, Refused> {
+        let (Fate::Kept { place, start_cut, end_cut }, Some([start, end])) = (fate, fate.moved(self.map, self.kind, times.0, times.1)?) else { return Ok(None) };
+        Ok(Some(New { stretch: *place, start: self.units(start), end: self.units(end), torn: (*start_cut > 0, *end_cut > 0) }))
     }
 }
 
 /// The captions as they are drawn.
-fn drawn(scale: &Scale, held: &Held) -> Result<Vec<Drawn>, Refused> {
+fn drawn(scale: &Scale, read: &[Fared<'_>], warnings: &[Warning]) -> Result<Vec<Drawn>, Refused> {
     let mut warned: BTreeMap<u64, Vec<u64>> = BTreeMap::new();
-    for warning in &held.warnings {
+    for warning in warnings {
         warned.entry(warning.line).or_default().push(warning.number.into());
     }
-    let one = |(caption, fate): &(Caption<'_>, Option<Fate>)| one(scale, caption, fate.as_ref(), warned.remove(&caption.line).unwrap_or_default());
-    held.captions.iter().map(one).collect()
+    let one = |(caption, fate): &Fared<'_>| one(scale, caption, fate.as_ref(), warned.remove(&caption.line).unwrap_or_default());
+    read.iter().map(one).collect()
 }
 
 /// One caption; where its times are not looked for it passes, and has none.
 fn one(scale: &Scale, caption: &Caption<'_>, fate: Option<&Fate>, warnings: Vec<u64>) -> Result<Drawn, Refused> {
     let times = match caption.times {
         Times::Read { start, stop } => (start, stop),
-        Times::Passed | Times::Unreadable => (0, 0),
+        Times::Passed { .. } => (0, 0),
     };
     let (fate, new) = match fate {
         None => (picture::Fate::Passed, None),
         Some(Fate::Dropped(_)) => (picture::Fate::Dropped, None),
-        Some(kept @ Fate::Kept { place, start_cut, end_cut }) => {
-            let fate = if kept.is_shifted() { picture::Fate::Shifted } else { picture::Fate::Clipped };
-            (fate, scale.kept(times, *place, (*start_cut, *end_cut))?)
-        }
+        Some(kept) if kept.is_shifted() => (picture::Fate::Shifted, scale.kept(kept, times)?),
+        Some(kept) => (picture::Fate::Clipped, scale.kept(kept, times)?),
     };
     Ok(Drawn { line: caption.line, start: scale.units(times.0), end: scale.units(times.1), fate, new, warnings, words: caption.words() })
 }

@@ -1,4 +1,5 @@
 //! What is told of a retimed text: a line for each warning, and its counts.
+use crate::notes;
 use crate::stderr::say;
 use retimer::captions::{self, shown, Caption};
 use retimer::{Kind, Retimed, Warning};
@@ -7,14 +8,18 @@ use retimer::{Kind, Retimed, Warning};
 pub struct Report {
     name: String,
     told: Vec<(Warning, String)>,
+    notes: Vec<String>,
     counts: retimer::Counts,
 }
 
 impl Report {
     pub fn new(name: &str, kind: Kind, text: &[u8], retimed: &Retimed) -> Report {
-        let read = if retimed.warnings.is_empty() { Vec::new() } else { captions::read(kind, text) };
+        // a text that was retimed is sound
+        let read = captions::read(kind, text).map_or(Vec::new(), |r| r.captions);
         let told = retimed.warnings.iter().map(|w| (*w, words_at(&read, w.line))).collect();
-        Report { name: name.to_string(), told, counts: retimed.counts }
+        let inside = notes::arrows_inside(kind, &read).into_iter().map(|(line, words)| format!("{name}:{line}: {}: \"{words}\"", notes::INSIDE));
+        let none = notes::none_found(kind, text, &read).map(|note| format!("{name}: {note}"));
+        Report { name: name.to_string(), told, notes: inside.chain(none).collect(), counts: retimed.counts }
     }
 
     /// On standard error.
@@ -23,6 +28,7 @@ impl Report {
             let quoted = if words.is_empty() { String::new() } else { format!(": \"{}\"", shown(words)) };
             say(format_args!("{}:{}: warning {}: {}{quoted}", self.name, warning.line, warning.number, warning.sentence()));
         }
+        self.notes.iter().for_each(say);
         say(format_args!("{}: {}", self.name, self.counts));
     }
 

@@ -6,6 +6,7 @@ use crate::input::{self, Input};
 use crate::output::{self, Files};
 use crate::progress::Progress;
 use crate::report::Report;
+use crate::shift;
 use retimer::{retime, Kind, Map, Retimed};
 use std::ffi::OsStr;
 use std::path::{Path, PathBuf};
@@ -24,11 +25,14 @@ pub fn run(args: &Args) -> Result<(), Failure> {
     let kinds = subs.iter().map(|s| input::kind_of(args, s)).collect::<Result<Vec<Kind>, _>>()?;
     let out = out_of(args, &subs)?;
     apart(args, &out)?;
-    let map = cut::read(args)?.map;
-    let texts = subs.iter().map(|s| input::read(s, input::MOST_TEXT)).collect::<Result<Vec<Input>, _>>()?;
+    let mut shift = shift::of(args)?;
+    let map = shift.moved(cut::read(args)?.map)?;
+    let texts = subs.iter().map(|s| input::captions(args, s)).collect::<Result<Vec<Input>, _>>()?;
+    shift.holds(&map, &texts, &kinds)?;
     let retimed = all(&map, &texts, &kinds)?;
     let reports: Vec<Report> = texts.iter().zip(&kinds).zip(&retimed).map(|((t, kind), r)| Report::new(&t.name, *kind, &t.bytes, r)).collect();
     write(args, out, &retimed, &reports)?;
+    shift.say();
     reports.iter().for_each(Report::say);
     Ok(())
 }
@@ -58,9 +62,15 @@ fn out_of(args: &Args, subs: &[&OsStr]) -> Result<Out, Failure> {
         (_, 0) => Err(args.usage("name the captions with --subs")),
         (None, 1) => Ok(Out::Standard),
         (None, _) => Err(args.usage("several caption files need a folder to be written to: name it with -o")),
+        (Some(out), 1) if is_folder(out) => folder_of(args, out.into(), subs),
         (Some(out), 1) => Ok(Out::File(out.into())),
         (Some(out), _) => folder_of(args, out.into(), subs),
     }
+}
+
+/// A folder that is there, or a name that ends in a slash.
+fn is_folder(out: &OsStr) -> bool {
+    out.as_encoded_bytes().ends_with(b"/") || Path::new(out).is_dir()
 }
 
 /// Several texts have names of their own, and no two the same.

@@ -2,10 +2,10 @@
 use crate::args::Args;
 use crate::cut;
 use crate::failure::Failure;
-use crate::held;
 use crate::input;
 use crate::output;
 use crate::page::Page;
+use crate::subs;
 use retimer::captions::{read_time, shown, Caption, Times};
 use retimer::{why, Fate, Kind, Map, Refused};
 
@@ -25,7 +25,7 @@ fn of_times(args: &Args) -> Result<(), Failure> {
         return Err(args.usage("--line names a caption of --subs"));
     }
     let kind = input::named_kind(args)?.ok_or_else(|| args.usage("say the kind of the times with --kind"))?;
-    let read = |text: &str| read_time(kind, text.as_bytes()).ok_or_else(|| Failure::refused(format!("{} ({text})", Refused(22))));
+    let read = |text: &str| read_time(kind, text).ok_or_else(|| Failure::refused(format!("{} ({text})", Refused(22))));
     let (from, to) = (read(start)?, read(stop)?);
     let cut = cut::read(args)?;
     let fate = why(&cut.map, kind, from, to).map_err(Failure::refused)?;
@@ -40,9 +40,12 @@ fn of_text(args: &Args) -> Result<(), Failure> {
     let kind = input::kind_of(args, name)?;
     let line = args.one("--line").map(|n| number(args, n)).transpose()?;
     let map = cut::read(args)?.map;
-    let text = input::read(name, input::MOST_TEXT)?;
-    let read = held::captions(&map, kind, &text)?.captions;
+    let text = input::captions(args, name)?;
+    let read = subs::fates(&map, kind, &text)?;
     let page = match line {
+        Some(line) if line > lines(&text.bytes) => {
+            return Err(Failure::refused(format!("no caption stands at line {line}: {} has {} lines", text.name, lines(&text.bytes))));
+        }
         Some(line) => {
             // the caption that begins at the line or last before it
             let found = read.iter().rev().find(|(c, _)| c.line <= line);
@@ -52,7 +55,7 @@ fn of_text(args: &Args) -> Result<(), Failure> {
         None => {
             let lost = read.iter().filter(|(_, fate)| fate.as_ref().is_some_and(|f| !f.is_shifted()));
             let page: String = lost.map(|(c, fate)| told(&map, kind, &text.name, c, fate.as_ref(), true)).collect();
-            if page.is_empty() {
+            if page.is_empty() && !read.is_empty() {
                 format!("{}: every caption is kept whole\n", text.name)
             } else {
                 page
@@ -62,6 +65,11 @@ fn of_text(args: &Args) -> Result<(), Failure> {
     output::print(page.as_bytes())
 }
 
+/// How many lines a text has.
+fn lines(text: &[u8]) -> u64 {
+    text.split_inclusive(|b| *b == b'\n').count() as u64
+}
+
 fn number(args: &Args, text: &std::ffi::OsStr) -> Result<u64, Failure> {
     let read = text.to_str().and_then(|t| t.parse().ok()).filter(|n| *n > 0);
     read.ok_or_else(|| args.usage("--line is a line, counted from 1"))
@@ -69,10 +77,10 @@ fn number(args: &Args, text: &std::ffi::OsStr) -> Result<u64, Failure> {
 
 /// A caption with its line and words, and below it what becomes of it.
 fn told(map: &Map, kind: Kind, name: &str, caption: &Caption<'_>, fate: Option<&Fate>, near: bool) -> String {
-    let page = Page { map, kind, mark: caption.mark() };
+    let page = Page { map, kind, mark: if kind == Kind::Srt { ',' } else { '.' } };
     let times = match caption.times {
-        Times::Read { start, stop } => format!("{} to {}", kind.time_marked(start, page.mark), kind.time_marked(stop, page.mark)),
-        Times::Passed | Times::Unreadable => "no times are read".to_string(),
+        Times::Read { start, stop } => format!("{} to {}", kind.time(start), kind.time(stop)),
+        Times::Passed { .. } => "no times are read".to_string(),
     };
     let head = format!("{name}:{}: {times}: \"{}\"\n", caption.line, shown(&caption.words()));
     head + &fate.map_or("  passes unchanged\n".to_string(), |f| page.answer(f, near))

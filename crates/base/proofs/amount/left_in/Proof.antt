@@ -1,5 +1,5 @@
-use Rattle.base.proofs.Laws.{chain}
-use Rattle.base.specs.Refusal.{leftIn}
+use Rattle.spec_base.proofs.base.Laws.{chain}
+use Rattle.spec_base.specs.base.Refusal.{leftIn}
 use Rattle.base.proofs.amount.left_in.Statement.{statement}
 use Rattle.base.proofs.amount.left_in.Tie as tie
 

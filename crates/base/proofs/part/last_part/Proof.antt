@@ -3,7 +3,7 @@ use Prim.Native.Nat.{ℕ, _-_}
 use native.Mathlib.Nat.{le-of-lt}
 use mathlib.Core.Path.{_≡_, sym, _∙_, ap}
 use lib.ListN.{drop, length}
-use Rattle.base.specs.Part.{last}
+use Rattle.spec_base.specs.base.Part.{last}
 use borrow.Author.Needs.{needs}
 use Rattle.base.proofs.part.last_part.Statement.{statement}
 use Rattle.base.proofs.part.last_part.Tie as tie

@@ -1,4 +1,4 @@
-use Rattle.base.proofs.PutLaws.{at-past, at-back, placed-room}
+use Rattle.spec_base.proofs.base.PutLaws.{at-past, at-back, placed-room}
 use native.Mathlib.Omega.{arith}
 use mathlib.Core.Path.{sym}
 use borrow.Author.Needs.{needs}

@@ -1,6 +1,6 @@
 use lib.ListN.{length-set}
 use native.Mathlib.Omega.{arith}
-use Rattle.base.proofs.PutLaws.{at-past, pair-short, pair-stored}
+use Rattle.spec_base.proofs.base.PutLaws.{at-past, pair-short, pair-stored}
 use borrow.Author.Needs.{needs}
 use Rattle.base.proofs.write.pair_at.Statement.{statement}
 use Rattle.base.proofs.write.pair_at.Tie as tie

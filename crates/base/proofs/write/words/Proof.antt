@@ -1,8 +1,8 @@
 use mathlib.Core.Path.{_≡_, refl, sym, _∙_}
 use Prim.Native.Nat.{_≤_, _-_}
 use lib.ListN.{length, take, length-set}
-use Rattle.base.specs.Put.{put}
-use Rattle.base.proofs.PutLaws.{put-nil, put-take, copied, not-copied}
+use Rattle.spec_base.specs.base.Put.{put}
+use Rattle.spec_base.proofs.base.PutLaws.{put-nil, put-take, copied, not-copied}
 use native.Mathlib.Omega.{arith}
 use borrow.Author.Needs.{needs}
 use Rattle.base.proofs.write.words.Statement.{statement}

@@ -1,10 +1,10 @@
 use borrow.Author.Needs.{needs}
 use mathlib.Core.Path.{_≡_, sym, refl}
 use lib.ListN.{length, drop}
-use Rattle.base.proofs.Laws.{drop-less}
-use Rattle.pattern.specs.Find.{equals}
-use Rattle.json.specs.Str.{charsBytes}
-use Rattle.json.proofs.CharsLaws.{are-stop, are-end, are-other, are-again}
+use Rattle.spec_base.proofs.base.Laws.{drop-less}
+use Rattle.spec_text.specs.pattern.Find.{equals}
+use Rattle.spec_json.specs.json.Str.{charsBytes}
+use Rattle.spec_json.proofs.json.CharsLaws.{are-stop, are-end, are-other, are-again}
 use Rattle.json.proofs.string.decoded_are.Statement.{statement}
 use Rattle.json.proofs.string.decoded_are.Tie as tie
 use Rattle.json.proofs.string.decoded_are.Reads as reads

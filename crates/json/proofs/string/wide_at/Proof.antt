@@ -1,4 +1,4 @@
-use Rattle.json.proofs.CharsLaws.{wide-at, at-low, at-quote, at-one}
+use Rattle.spec_json.proofs.json.CharsLaws.{wide-at, at-low, at-quote, at-one}
 use borrow.Author.Needs.{needs}
 use Rattle.json.proofs.string.wide_at.Statement.{statement}
 use Rattle.json.proofs.string.wide_at.Tie as tie

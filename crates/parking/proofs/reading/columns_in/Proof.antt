@@ -1,4 +1,4 @@
-use Rattle.parking.proofs.ReadLaws.{columns-are}
+use Rattle.spec_parking.proofs.parking.ReadLaws.{columns-are}
 use borrow.Author.Needs.{needs}
 use Rattle.parking.proofs.reading.columns_in.Statement.{statement}
 use Rattle.parking.proofs.reading.columns_in.Tie as tie

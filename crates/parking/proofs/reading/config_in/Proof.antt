@@ -1,4 +1,4 @@
-use Rattle.parking.proofs.ReadLaws.{config-is}
+use Rattle.spec_parking.proofs.parking.ReadLaws.{config-is}
 use borrow.Author.Needs.{needs}
 use Rattle.parking.proofs.reading.config_in.Statement.{statement}
 use Rattle.parking.proofs.reading.config_in.Tie as tie

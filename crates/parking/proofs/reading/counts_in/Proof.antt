@@ -1,4 +1,4 @@
-use Rattle.parking.proofs.ReadLaws.{counts-are}
+use Rattle.spec_parking.proofs.parking.ReadLaws.{counts-are}
 use borrow.Author.Needs.{needs}
 use Rattle.parking.proofs.reading.counts_in.Statement.{statement}
 use Rattle.parking.proofs.reading.counts_in.Tie as tie

@@ -1,4 +1,4 @@
-use Rattle.parking.proofs.ReadLaws.{ended-7, ended-room, ended-no}
+use Rattle.spec_parking.proofs.parking.ReadLaws.{ended-7, ended-room, ended-no}
 use borrow.Author.Needs.{needs}
 use Rattle.parking.proofs.reading.ended_zero.Statement.{statement}
 use Rattle.parking.proofs.reading.ended_zero.Tie as tie

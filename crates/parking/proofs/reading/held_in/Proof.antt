@@ -1,4 +1,4 @@
-use Rattle.parking.proofs.ReadLaws.{held-is}
+use Rattle.spec_parking.proofs.parking.ReadLaws.{held-is}
 use borrow.Author.Needs.{needs}
 use Rattle.parking.proofs.reading.held_in.Statement.{statement}
 use Rattle.parking.proofs.reading.held_in.Tie as tie

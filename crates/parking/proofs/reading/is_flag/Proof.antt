@@ -1,4 +1,4 @@
-use Rattle.parking.proofs.ReadLaws.{flag-0, flag-1}
+use Rattle.spec_parking.proofs.parking.ReadLaws.{flag-0, flag-1}
 use Rattle.parking.proofs.reading.is_flag.Statement.{statement}
 use Rattle.parking.proofs.reading.is_flag.Tie as tie
 

@@ -1,4 +1,4 @@
-use Rattle.parking.proofs.ReadLaws.{mark-1, mark-2}
+use Rattle.spec_parking.proofs.parking.ReadLaws.{mark-1, mark-2}
 use Rattle.parking.proofs.reading.is_mark.Statement.{statement}
 use Rattle.parking.proofs.reading.is_mark.Tie as tie
 

@@ -1,4 +1,4 @@
-use Rattle.parking.proofs.ReadLaws.{parked-all, parked-words}
+use Rattle.spec_parking.proofs.parking.ReadLaws.{parked-all, parked-words}
 use borrow.Author.Needs.{needs}
 use Rattle.parking.proofs.reading.is_parked.Statement.{statement}
 use Rattle.parking.proofs.reading.is_parked.Tie as tie

@@ -1,4 +1,4 @@
-use Rattle.parking.proofs.ReadLaws.{session-made}
+use Rattle.spec_parking.proofs.parking.ReadLaws.{session-made}
 use borrow.Author.Needs.{needs}
 use Rattle.parking.proofs.reading.session_in.Statement.{statement}
 use Rattle.parking.proofs.reading.session_in.Tie as tie

@@ -1,4 +1,4 @@
-use Rattle.parking.proofs.ReadLaws.{unused-live, unused-ended, unused-no}
+use Rattle.spec_parking.proofs.parking.ReadLaws.{unused-live, unused-ended, unused-no}
 use borrow.Author.Needs.{needs}
 use Rattle.parking.proofs.reading.unused_zero.Statement.{statement}
 use Rattle.parking.proofs.reading.unused_zero.Tie as tie

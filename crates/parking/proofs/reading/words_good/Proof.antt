@@ -1,4 +1,4 @@
-use Rattle.parking.proofs.ReadLaws.{good-12, good-5, good-4, good-1}
+use Rattle.spec_parking.proofs.parking.ReadLaws.{good-12, good-5, good-4, good-1}
 use borrow.Author.Needs.{needs}
 use Rattle.parking.proofs.reading.words_good.Statement.{statement}
 use Rattle.parking.proofs.reading.words_good.Tie as tie

@@ -1,4 +1,4 @@
-use Rattle.parking.proofs.StoreLaws.{ended-head}
+use Rattle.spec_parking.proofs.parking.StoreLaws.{ended-head}
 use Rattle.parking.proofs.storing.ended_words.Statement.{statement}
 use Rattle.parking.proofs.storing.ended_words.Tie as tie
 

@@ -1,4 +1,4 @@
-use Rattle.parking.proofs.StoreLaws.{head-bytes}
+use Rattle.spec_parking.proofs.parking.StoreLaws.{head-bytes}
 use borrow.Author.Needs.{needs}
 use Rattle.parking.proofs.storing.head_bytes.Statement.{statement}
 use Rattle.parking.proofs.storing.head_bytes.Tie as tie

@@ -1,4 +1,4 @@
-use Rattle.parking.proofs.StoreLaws.{words-bytes}
+use Rattle.spec_parking.proofs.parking.StoreLaws.{words-bytes}
 use borrow.Author.Needs.{needs}
 use Rattle.parking.proofs.storing.head_words.Statement.{statement}
 use Rattle.parking.proofs.storing.head_words.Tie as tie

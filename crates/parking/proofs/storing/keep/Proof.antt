@@ -1,4 +1,4 @@
-use Rattle.parking.proofs.StoreLaws.{keep-16, keep-0}
+use Rattle.spec_parking.proofs.parking.StoreLaws.{keep-16, keep-0}
 use borrow.Author.Needs.{needs}
 use Rattle.parking.proofs.storing.keep.Statement.{statement}
 use Rattle.parking.proofs.storing.keep.Tie as tie

@@ -1,4 +1,4 @@
-use Rattle.parking.proofs.StoreLaws.{live-head}
+use Rattle.spec_parking.proofs.parking.StoreLaws.{live-head}
 use borrow.Author.Needs.{needs}
 use Rattle.parking.proofs.storing.live_words.Statement.{statement}
 use Rattle.parking.proofs.storing.live_words.Tie as tie

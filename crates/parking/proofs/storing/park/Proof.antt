@@ -1,4 +1,4 @@
-use Rattle.parking.proofs.StoreLaws.{park-refused, park-passed, park-done}
+use Rattle.spec_parking.proofs.parking.StoreLaws.{park-refused, park-passed, park-done}
 use borrow.Author.Needs.{needs}
 use Rattle.parking.proofs.storing.park.Statement.{statement}
 use Rattle.parking.proofs.storing.park.Tie as tie

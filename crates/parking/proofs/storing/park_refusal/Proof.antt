@@ -1,4 +1,4 @@
-use Rattle.parking.proofs.StoreLaws.{park-17, park-16, park-0}
+use Rattle.spec_parking.proofs.parking.StoreLaws.{park-17, park-16, park-0}
 use borrow.Author.Needs.{needs}
 use Rattle.parking.proofs.storing.park_refusal.Statement.{statement}
 use Rattle.parking.proofs.storing.park_refusal.Tie as tie

@@ -1,6 +1,6 @@
 use mathlib.Core.Path.{_≡_}
 use lib.ListN.{length}
-use Rattle.parking.proofs.StoreLaws.{stored-is}
+use Rattle.spec_parking.proofs.parking.StoreLaws.{stored-is}
 use borrow.Author.Needs.{needs}
 use Rattle.parking.proofs.storing.store.Statement.{statement}
 use Rattle.parking.proofs.storing.store.Tie as tie

@@ -1,4 +1,4 @@
-use Rattle.parking.proofs.TakeLaws.{none-is}
+use Rattle.spec_parking.proofs.parking.TakeLaws.{none-is}
 use Rattle.parking.proofs.taking.no_session.Statement.{statement}
 use Rattle.parking.proofs.taking.no_session.Tie as tie
 

@@ -1,4 +1,4 @@
-use Rattle.parking.proofs.TakeLaws.{refused-is}
+use Rattle.spec_parking.proofs.parking.TakeLaws.{refused-is}
 use borrow.Author.Needs.{needs}
 use Rattle.parking.proofs.taking.refused.Statement.{statement}
 use Rattle.parking.proofs.taking.refused.Tie as tie

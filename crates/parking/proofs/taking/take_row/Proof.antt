@@ -1,4 +1,4 @@
-use Rattle.parking.proofs.TakeLaws.{take-17, take-0, take-27}
+use Rattle.spec_parking.proofs.parking.TakeLaws.{take-17, take-0, take-27}
 use borrow.Author.Needs.{needs}
 use Rattle.parking.proofs.taking.take_row.Statement.{statement}
 use Rattle.parking.proofs.taking.take_row.Tie as tie

@@ -1,5 +1,5 @@
-use Rattle.parking.proofs.ReadLaws.{row-true, row-room, room-long}
-use Rattle.parking.proofs.TakeLaws.{take-unsealed}
+use Rattle.spec_parking.proofs.parking.ReadLaws.{row-true, row-room, room-long}
+use Rattle.spec_parking.proofs.parking.TakeLaws.{take-unsealed}
 use borrow.Author.Needs.{needs}
 use Rattle.parking.proofs.taking.take_up.Statement.{statement}
 use Rattle.parking.proofs.taking.take_up.Tie as tie

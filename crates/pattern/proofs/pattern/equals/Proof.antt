@@ -1,4 +1,4 @@
-use Rattle.pattern.proofs.Laws.{equals-starts, equals-other}
+use Rattle.spec_text.proofs.pattern.Laws.{equals-starts, equals-other}
 use borrow.Author.Needs.{needs}
 use Rattle.pattern.proofs.pattern.equals.Statement.{statement}
 use Rattle.pattern.proofs.pattern.equals.Tie as tie

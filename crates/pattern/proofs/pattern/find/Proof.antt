@@ -4,8 +4,8 @@ use Prim.Native.Nat.{_≤_, _-_, _+_}
 use mathlib.Core.Path.{_≡_, refl, sym}
 use native.Mathlib.Nat.{zero-add}
 use lib.ListN.{length, drop}
-use Rattle.pattern.proofs.Laws.{first-found, first-again, first-none}
-use Rattle.pattern.specs.Find.{first}
+use Rattle.spec_text.proofs.pattern.Laws.{first-found, first-again, first-none}
+use Rattle.spec_text.specs.pattern.Find.{first}
 use Rattle.pattern.proofs.pattern.find.Statement.{statement}
 use Rattle.pattern.proofs.pattern.find.Tie as tie
 

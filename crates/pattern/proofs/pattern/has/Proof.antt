@@ -1,4 +1,4 @@
-use Rattle.pattern.proofs.Laws.{has-found}
+use Rattle.spec_text.proofs.pattern.Laws.{has-found}
 use borrow.Author.Needs.{needs}
 use Rattle.pattern.proofs.pattern.has.Statement.{statement}
 use Rattle.pattern.proofs.pattern.has.Tie as tie

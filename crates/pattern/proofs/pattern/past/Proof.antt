@@ -1,4 +1,4 @@
-use Rattle.pattern.proofs.Laws.{rest-found}
+use Rattle.spec_text.proofs.pattern.Laws.{rest-found}
 use borrow.Author.Needs.{needs}
 use Rattle.pattern.proofs.pattern.past.Statement.{statement}
 use Rattle.pattern.proofs.pattern.past.Tie as tie

@@ -1,5 +1,5 @@
 use native.Mathlib.Omega.{arith}
-use Rattle.pattern.proofs.Laws.{stands-none, stands-other, stands-asked}
+use Rattle.spec_text.proofs.pattern.Laws.{stands-none, stands-other, stands-asked}
 use borrow.Author.Needs.{needs}
 use Rattle.pattern.proofs.pattern.stands.Statement.{statement}
 use Rattle.pattern.proofs.pattern.stands.Tie as tie

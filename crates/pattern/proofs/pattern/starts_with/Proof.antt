@@ -3,8 +3,8 @@ use borrow.Author.Needs.{needs}
 use Prim.Native.Nat.{_≤_, _-_}
 use mathlib.Core.Path.{_≡_, refl}
 use lib.ListN.{length, drop}
-use Rattle.pattern.proofs.Laws.{starts-refused, starts-refused-2, starts-again, starts-passed}
-use Rattle.pattern.specs.Find.{starts}
+use Rattle.spec_text.proofs.pattern.Laws.{starts-refused, starts-refused-2, starts-again, starts-passed}
+use Rattle.spec_text.specs.pattern.Find.{starts}
 use Rattle.pattern.proofs.pattern.starts_with.Statement.{statement}
 use Rattle.pattern.proofs.pattern.starts_with.Tie as tie
 

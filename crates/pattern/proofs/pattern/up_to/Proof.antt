@@ -1,4 +1,4 @@
-use Rattle.pattern.proofs.Laws.{front-found}
+use Rattle.spec_text.proofs.pattern.Laws.{front-found}
 use borrow.Author.Needs.{needs}
 use Rattle.pattern.proofs.pattern.up_to.Statement.{statement}
 use Rattle.pattern.proofs.pattern.up_to.Tie as tie

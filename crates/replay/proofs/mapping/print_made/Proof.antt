@@ -6,7 +6,7 @@ use Rattle.replay.proofs.mapping.print_made.Statement.{statement}
 use Rattle.replay.proofs.mapping.print_made.Tie as tie
 use Rattle.replay.proofs.mapping.print_made.Reads as reads
 use Rattle.replay.proofs.mapping.print_made.Lts as lts
-use Rattle.mapfile.proofs.print_map_of.Reads as print-map-of-reads
+use Rattle.files_map.proofs.print_map_of.Reads as print-map-of-reads
 use Rattle.replay.proofs.mapping.work_lent.Reads as work-lent-reads
 
 work-lent-requires : tie.Need-work-lent-requires

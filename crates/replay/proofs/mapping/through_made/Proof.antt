@@ -6,8 +6,8 @@ use Rattle.replay.proofs.mapping.through_made.Statement.{statement}
 use Rattle.replay.proofs.mapping.through_made.Tie as tie
 use Rattle.replay.proofs.mapping.through_made.Reads as reads
 use Rattle.replay.proofs.mapping.through_made.Lts as lts
-use Rattle.mapfile.proofs.print_number.Reads as print-number-reads
-use Rattle.mapfile.proofs.first_segments.Reads as first-segments-reads
+use Rattle.files_map.proofs.print_number.Reads as print-number-reads
+use Rattle.files_map.proofs.first_segments.Reads as first-segments-reads
 use Rattle.replay.proofs.mapping.work_lent.Reads as work-lent-reads
 use Rattle.segmap.proofs.make.Reads as make-reads
 

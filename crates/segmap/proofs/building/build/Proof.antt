@@ -2,11 +2,11 @@ use native.Mathlib.Omega.{arith}
 use mathlib.Core.Path.{_≡_, refl}
 use Prim.Native.Nat.{_-_, _*_, _≤_}
 use lib.ListN.{length}
-use Rattle.base.specs.Limits.{mostTicks, mostSegments}
-use Rattle.plan.proofs.PairLaws.{leftOf}
-use Rattle.segmap.specs.Build.{rangesFault}
+use Rattle.spec_base.specs.base.Limits.{mostTicks, mostSegments}
+use Rattle.spec_map.proofs.plan.PairLaws.{leftOf}
+use Rattle.spec_map.specs.segmap.Build.{rangesFault}
 use Rattle.segmap.specs.Marks.{Carried}
-use Rattle.segmap.proofs.BuildLaws.{testing-zero, Building, building-start, building-next, building-done, Adding, adding-start, adding-next, adding-done, free-next, free-ordered, free-within, free-summed}
+use Rattle.spec_map.proofs.segmap.BuildLaws.{testing-zero, Building, building-start, building-next, building-done, Adding, adding-start, adding-next, adding-done, free-next, free-ordered, free-within, free-summed}
 use borrow.Author.Needs.{needs}
 use Rattle.segmap.proofs.building.build.Statement.{statement}
 use Rattle.segmap.proofs.building.build.Tie as tie

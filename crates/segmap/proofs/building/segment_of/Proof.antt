@@ -1,6 +1,6 @@
 use native.Mathlib.Omega.{arith}
-use Rattle.segmap.proofs.TicksLaws.{ticks-order, sum-before, sum-upto}
-use Rattle.segmap.proofs.BuildLaws.{segment-is}
+use Rattle.spec_map.proofs.segmap.TicksLaws.{ticks-order, sum-before, sum-upto}
+use Rattle.spec_map.proofs.segmap.BuildLaws.{segment-is}
 use borrow.Author.Needs.{needs}
 use Rattle.segmap.proofs.building.segment_of.Statement.{statement}
 use Rattle.segmap.proofs.building.segment_of.Tie as tie

@@ -1,4 +1,4 @@
-use Rattle.segmap.proofs.BuildLaws.{fault-turned, fault-past, fault-none}
+use Rattle.spec_map.proofs.segmap.BuildLaws.{fault-turned, fault-past, fault-none}
 use borrow.Author.Needs.{needs}
 use Rattle.segmap.proofs.faults.range_fault.Statement.{statement}
 use Rattle.segmap.proofs.faults.range_fault.Tie as tie

@@ -2,9 +2,9 @@ use native.Mathlib.Omega.{arith}
 use mathlib.Core.Path.{_≡_}
 use Prim.Native.Nat.{_-_, _*_, _≤_}
 use lib.ListN.{length, take}
-use Rattle.plan.proofs.PairLaws.{leftOf}
-use Rattle.segmap.specs.Build.{rangesFault}
-use Rattle.segmap.proofs.BuildLaws.{testing-start, testing-short, testing-done, testing-here, testing-next}
+use Rattle.spec_map.proofs.plan.PairLaws.{leftOf}
+use Rattle.spec_map.specs.segmap.Build.{rangesFault}
+use Rattle.spec_map.proofs.segmap.BuildLaws.{testing-start, testing-short, testing-done, testing-here, testing-next}
 use borrow.Author.Needs.{needs}
 use Rattle.segmap.proofs.faults.ranges_fault.Statement.{statement}
 use Rattle.segmap.proofs.faults.ranges_fault.Tie as tie

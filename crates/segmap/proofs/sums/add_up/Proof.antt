@@ -1,8 +1,8 @@
 use native.Mathlib.Omega.{arith}
 use mathlib.Core.Path.{_≡_}
 use Prim.Native.Nat.{_-_, _≤_}
-use Rattle.frames.specs.Frames.{ticksFrom}
-use Rattle.segmap.proofs.TicksLaws.{sample-next, sample-fits, ticks-done}
+use Rattle.spec_sheet.specs.sheet_frames.Frames.{ticksFrom}
+use Rattle.spec_map.proofs.segmap.TicksLaws.{sample-next, sample-fits, ticks-done}
 use borrow.Author.Needs.{needs}
 use Rattle.segmap.proofs.sums.add_up.Statement.{statement}
 use Rattle.segmap.proofs.sums.add_up.Tie as tie

@@ -2,9 +2,9 @@ use native.Mathlib.Omega.{arith}
 use mathlib.Core.Path.{_≡_}
 use Prim.Native.Nat.{_-_, _≤_}
 use lib.ListN.{length}
-use Rattle.frames.specs.Frames.{ticksFrom}
+use Rattle.spec_sheet.specs.sheet_frames.Frames.{ticksFrom}
 use Rattle.segmap.specs.Marks.{Noted}
-use Rattle.segmap.proofs.TicksLaws.{ticks-done}
+use Rattle.spec_map.proofs.segmap.TicksLaws.{ticks-done}
 use Rattle.segmap.proofs.MarkLaws.{noted-start, noted-next, noted-done}
 use borrow.Author.Needs.{needs}
 use Rattle.segmap.proofs.sums.go_on.Statement.{statement}

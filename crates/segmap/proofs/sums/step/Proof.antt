@@ -1,5 +1,5 @@
 use native.Mathlib.Omega.{arith}
-use Rattle.segmap.proofs.TicksLaws.{ticks-moved}
+use Rattle.spec_map.proofs.segmap.TicksLaws.{ticks-moved}
 use Rattle.segmap.proofs.MarkLaws.{step-within, step-short, step-marked}
 use borrow.Author.Needs.{needs}
 use Rattle.segmap.proofs.sums.step.Statement.{statement}

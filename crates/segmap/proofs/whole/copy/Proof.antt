@@ -1,11 +1,11 @@
-use Rattle.trim.proofs.ReadLaws.{copy-again, copy-done}
+use Rattle.spec_map.proofs.trim.ReadLaws.{copy-again, copy-done}
 use native.Mathlib.Omega.{arith}
 use Prim.Native.Nat.{_≤_, _-_}
 use mathlib.Core.Path.{_≡_, refl, sym, ap, _∙_}
 use native.Mathlib.Nat.{zero-add}
 use lib.ListN.{length, take}
-use Rattle.base.specs.Put.{put}
-use Rattle.base.proofs.PutLaws.{put-nil}
+use Rattle.spec_base.specs.base.Put.{put}
+use Rattle.spec_base.proofs.base.PutLaws.{put-nil}
 use borrow.Author.Needs.{needs}
 use Rattle.segmap.proofs.whole.copy.Statement.{statement}
 use Rattle.segmap.proofs.whole.copy.Tie as tie

@@ -1,6 +1,6 @@
 use mathlib.Core.Path.{refl}
 use native.Mathlib.Omega.{arith}
-use Rattle.segmap.proofs.KeptLaws.{kept-overlap, kept-range, kept-over, kept-sound, kept-copied}
+use Rattle.spec_map.proofs.segmap.KeptLaws.{kept-overlap, kept-range, kept-over, kept-sound, kept-copied}
 use borrow.Author.Needs.{needs}
 use Rattle.segmap.proofs.whole.keep.Statement.{statement}
 use Rattle.segmap.proofs.whole.keep.Tie as tie

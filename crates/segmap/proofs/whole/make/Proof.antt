@@ -1,5 +1,5 @@
 use native.Mathlib.Omega.{arith}
-use Rattle.segmap.proofs.MapLaws.{short-made, short-work, short-map, direction-made, direction-work, direction-map, checked-work, sheet-made, sheet-map, cut-made, cut-map, sound-fault, sound-frames, sound-timescale, sound-within}
+use Rattle.spec_map.proofs.segmap.MapLaws.{short-made, short-work, short-map, direction-made, direction-work, direction-map, checked-work, sheet-made, sheet-map, cut-made, cut-map, sound-fault, sound-frames, sound-timescale, sound-within}
 use borrow.Author.Needs.{needs}
 use Rattle.segmap.proofs.whole.make.Statement.{statement}
 use Rattle.segmap.proofs.whole.make.Tie as tie

@@ -1,7 +1,7 @@
 use Prim.Native.Nat.{_≤_}
-use Rattle.base.specs.Limits.{mostSegments}
+use Rattle.spec_base.specs.base.Limits.{mostSegments}
 use native.Mathlib.Omega.{arith}
-use Rattle.segmap.proofs.MapLaws.{frames-few, count-few, list-made, list-map, ranges-made, ranges-map, whole-made, whole-map}
+use Rattle.spec_map.proofs.segmap.MapLaws.{frames-few, count-few, list-made, list-map, ranges-made, ranges-map, whole-made, whole-map}
 use borrow.Author.Needs.{needs}
 use Rattle.segmap.proofs.whole.map_ranges.Statement.{statement}
 use Rattle.segmap.proofs.whole.map_ranges.Tie as tie

@@ -1,6 +1,6 @@
 use lib.ListN.{length-set}
 use native.Mathlib.Omega.{arith}
-use Rattle.segmap.proofs.MapLaws.{kept-refused, kept-vacuous, kept-list, list-front, kept-blank, blank-front}
+use Rattle.spec_map.proofs.segmap.MapLaws.{kept-refused, kept-vacuous, kept-list, list-front, kept-blank, blank-front}
 use borrow.Author.Needs.{needs}
 use Rattle.segmap.proofs.whole.ranges_of.Statement.{statement}
 use Rattle.segmap.proofs.whole.ranges_of.Tie as tie

@@ -1,5 +1,5 @@
 use native.Mathlib.Omega.{arith}
-use Rattle.segment.proofs.SegmentLaws.{excess-tells}
+use Rattle.spec_map.proofs.segment.SegmentLaws.{excess-tells}
 use borrow.Author.Needs.{needs}
 use Rattle.segment.proofs.segment.excess.Statement.{statement}
 use Rattle.segment.proofs.segment.excess.Tie as tie

@@ -1,6 +1,6 @@
 use mathlib.Core.Path.{refl}
 use lib.ListN.{length}
-use Rattle.segment.proofs.SegmentLaws.{Left, left-parts, left-many, segments-start, left-sum, left-again, six-less, left-none}
+use Rattle.spec_map.proofs.segment.SegmentLaws.{Left, left-parts, left-many, segments-start, left-sum, left-again, six-less, left-none}
 use borrow.Author.Needs.{needs}
 use Rattle.segment.proofs.segment.map_bad.Statement.{statement}
 use Rattle.segment.proofs.segment.map_bad.Tie as tie

@@ -1,6 +1,6 @@
 use Prim.Native.Nat.{_<_, _^_}
 use native.Mathlib.Omega.{arith}
-use Rattle.segment.proofs.SegmentLaws.{past-tells, past-small}
+use Rattle.spec_map.proofs.segment.SegmentLaws.{past-tells, past-small}
 use borrow.Author.Needs.{needs}
 use Rattle.segment.proofs.segment.past.Statement.{statement}
 use Rattle.segment.proofs.segment.past.Tie as tie

@@ -1,11 +1,11 @@
-use Rattle.session.proofs.CallLaws.{begin-is}
+use Rattle.spec_session.proofs.session.CallLaws.{begin-is}
 use borrow.Author.Needs.{needs}
 use Rattle.session.proofs.calling.begin.Statement.{statement}
 use Rattle.session.proofs.calling.begin.Tie as tie
 use Rattle.session.proofs.calling.begin.Reads as reads
 use Rattle.session.proofs.calling.begin.Lts as lts
 use Rattle.base.proofs.front.Reads as front-reads
-use Rattle.foreign.proofs.block_end.Reads as block-end-reads
+use Rattle.session_state.proofs.block_end.Reads as block-end-reads
 
 front-requires : tie.Need-front-requires
 front-requires c κs = search needs

@@ -1,4 +1,4 @@
-use Rattle.base.specs.Limits.{mostHeld}
+use Rattle.spec_base.specs.base.Limits.{mostHeld}
 use lib.ListN.{replicate}
 use borrow.Author.Needs.{needs}
 use Rattle.session.proofs.calling.end_session.Statement.{statement}

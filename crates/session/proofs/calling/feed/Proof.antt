@@ -2,7 +2,7 @@ use mathlib.Core.Path.{_≡_, sym, _∙_}
 use native.Mathlib.Omega.{arith}
 use Prim.Native.Nat.{_≤_}
 use lib.ListN.{length}
-use Rattle.session.proofs.CallLaws.{feed-refused, answered-empty, Passed, not-refused, passed-ready, passed-opening, answered-dead, answered-live, end-small}
+use Rattle.spec_session.proofs.session.CallLaws.{feed-refused, answered-empty, Passed, not-refused, passed-ready, passed-opening, answered-dead, answered-live, end-small}
 use borrow.Author.Needs.{needs}
 use Rattle.session.proofs.calling.feed.Statement.{statement}
 use Rattle.session.proofs.calling.feed.Tie as tie

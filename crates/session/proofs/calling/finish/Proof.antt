@@ -1,6 +1,6 @@
 use mathlib.Core.Path.{_≡_, sym, _∙_}
 use lib.ListN.{length}
-use Rattle.session.proofs.CallLaws.{finish-refused, Passed, not-refused, passed-ready, passed-opening, answered-finished}
+use Rattle.spec_session.proofs.session.CallLaws.{finish-refused, Passed, not-refused, passed-ready, passed-opening, answered-finished}
 use borrow.Author.Needs.{needs}
 use Rattle.session.proofs.calling.finish.Statement.{statement}
 use Rattle.session.proofs.calling.finish.Tie as tie

@@ -1,4 +1,4 @@
-use Rattle.base.specs.Limits.{mostPiece, leastOutput, leastPlaces}
+use Rattle.spec_base.specs.base.Limits.{mostPiece, leastOutput, leastPlaces}
 use borrow.Author.Tests.{lt-ltb, le-ltb}
 use native.Mathlib.Omega.{arith}
 use borrow.Author.Needs.{needs}

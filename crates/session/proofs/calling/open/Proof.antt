@@ -1,4 +1,4 @@
-use Rattle.session.proofs.CallLaws.{opened-refused, opened-fresh}
+use Rattle.spec_session.proofs.session.CallLaws.{opened-refused, opened-fresh}
 use borrow.Author.Needs.{needs}
 use Rattle.session.proofs.calling.open.Statement.{statement}
 use Rattle.session.proofs.calling.open.Tie as tie

@@ -1,7 +1,7 @@
-use Rattle.session.specs.Answer.{openOf}
-use Rattle.segment.specs.Segment.{mapBad}
-use Rattle.time.specs.Convert.{timescaleBad}
-use Rattle.time.specs.Kind.{kindBad}
+use Rattle.spec_session.specs.session.Answer.{openOf}
+use Rattle.spec_map.specs.segment.Segment.{mapBad}
+use Rattle.spec_caption.specs.caption_time.Convert.{timescaleBad}
+use Rattle.spec_caption.specs.caption_time.Kind.{kindBad}
 use mathlib.Core.Bool.{true, false}
 use mathlib.Core.Path.{_≡_, sym, _∙_}
 use borrow.Author.Needs.{needs}
@@ -10,8 +10,8 @@ use Rattle.session.proofs.calling.open_refusal.Tie as tie
 use Rattle.session.proofs.calling.open_refusal.Reads as reads
 use Rattle.session.proofs.calling.open_refusal.Lts as lts
 use Rattle.segment.proofs.map_bad.Reads as map-bad-reads
-use Rattle.time.proofs.timescale_bad.Reads as timescale-bad-reads
-use Rattle.time.proofs.kind_bad.Reads as kind-bad-reads
+use Rattle.caption_time.proofs.timescale_bad.Reads as timescale-bad-reads
+use Rattle.caption_time.proofs.kind_bad.Reads as kind-bad-reads
 
 timescale-bad-requires : tie.Need-timescale-bad-requires
 timescale-bad-requires c κs = search needs

@@ -1,4 +1,4 @@
-use Rattle.session.proofs.CallLaws.{ended-is}
+use Rattle.spec_session.proofs.session.CallLaws.{ended-is}
 use borrow.Author.Needs.{needs}
 use Rattle.session.proofs.calling.over.Statement.{statement}
 use Rattle.session.proofs.calling.over.Tie as tie

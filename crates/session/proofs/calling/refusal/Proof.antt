@@ -1,7 +1,7 @@
-use Rattle.session.specs.Answer.{refusalOf, lengthsBad}
-use Rattle.foreign.proofs.ViewLaws.{native-view}
-use Rattle.foreign.specs.View.{foreignOf}
-use Rattle.segment.specs.Segment.{mapBad}
+use Rattle.spec_session.specs.session.Answer.{refusalOf, lengthsBad}
+use Rattle.spec_session.proofs.session_state.ViewLaws.{native-view}
+use Rattle.spec_session.specs.session_state.View.{foreignOf}
+use Rattle.spec_map.specs.segment.Segment.{mapBad}
 use lib.ListN.{length}
 use mathlib.Core.Bool.{true, false}
 use mathlib.Core.Path.{_≡_, sym, _∙_}
@@ -12,7 +12,7 @@ use Rattle.session.proofs.calling.refusal.Reads as reads
 use Rattle.session.proofs.calling.refusal.Lts as lts
 use Rattle.segment.proofs.map_bad.Reads as map-bad-reads
 use Rattle.session.proofs.calling.lengths_bad.Reads as lengths-bad-reads
-use Rattle.foreign.proofs.foreign.Reads as foreign-reads
+use Rattle.session_state.proofs.foreign.Reads as foreign-reads
 
 foreign-requires : tie.Need-foreign-requires
 foreign-requires c κs = search needs

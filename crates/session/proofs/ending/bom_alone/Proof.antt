@@ -1,4 +1,4 @@
-use Rattle.session.proofs.EndLaws.{alone-no, alone-asked}
+use Rattle.spec_session.proofs.session.EndLaws.{alone-no, alone-asked}
 use borrow.Author.Needs.{needs}
 use Rattle.session.proofs.ending.bom_alone.Statement.{statement}
 use Rattle.session.proofs.ending.bom_alone.Tie as tie

@@ -1,15 +1,15 @@
 use mathlib.Core.Path.{sym}
 use native.Mathlib.Omega.{arith}
 use lib.Seq.{length-take-le}
-use Rattle.kinds.specs.Takes.{machineOf, ends}
-use Rattle.session.proofs.EndLaws.{finish-ass, block-done, block-sums, close-none, close-block}
+use Rattle.spec_session.specs.kinds.Takes.{machineOf, ends}
+use Rattle.spec_session.proofs.session.EndLaws.{finish-ass, block-done, block-sums, close-none, close-block}
 use borrow.Author.Needs.{needs}
 use Rattle.session.proofs.ending.close.Statement.{statement}
 use Rattle.session.proofs.ending.close.Tie as tie
 use Rattle.session.proofs.ending.close.Reads as reads
 use Rattle.session.proofs.ending.close.Lts as lts
 use Rattle.session.proofs.ending.closing.Reads as closing-reads
-use Rattle.lines.proofs.end_block.Reads as end-block-reads
+use Rattle.session_lines.proofs.end_block.Reads as end-block-reads
 
 returns : tie.Need-returns
 returns c =

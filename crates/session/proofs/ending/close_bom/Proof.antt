@@ -2,10 +2,10 @@ use mathlib.Core.Path.{sym, ap}
 use native.Mathlib.Omega.{arith}
 use lib.ListN.{length}
 use lib.Seq.{length-take-le}
-use Rattle.kinds.specs.Takes.{machineOf, ends}
-use Rattle.session.specs.declared.running.Going.{Going}
-use Rattle.session.proofs.RunLaws.{begin-sizes}
-use Rattle.session.proofs.EndLaws.{finish-ass, bom-only, bom-ends, bom-sums, bom-stops, bom-closes}
+use Rattle.spec_session.specs.kinds.Takes.{machineOf, ends}
+use Rattle.spec_session.specs.declared.session.Going.{Going}
+use Rattle.spec_session.proofs.session.RunLaws.{begin-sizes}
+use Rattle.spec_session.proofs.session.EndLaws.{finish-ass, bom-only, bom-ends, bom-sums, bom-stops, bom-closes}
 use borrow.Author.Needs.{needs}
 use Rattle.session.proofs.ending.close_bom.Statement.{statement}
 use Rattle.session.proofs.ending.close_bom.Tie as tie
@@ -14,8 +14,8 @@ use Rattle.session.proofs.ending.close_bom.Lts as lts
 use Rattle.session.proofs.ending.after_bom.Reads as after-bom-reads
 use Rattle.session.proofs.ending.closing.Reads as closing-reads
 use Rattle.session.proofs.running.stop.Reads as stop-reads
-use Rattle.lines.proofs.end_block.Reads as end-block-reads
-use Rattle.lines.proofs.put_bom.Reads as put-bom-reads
+use Rattle.session_lines.proofs.end_block.Reads as end-block-reads
+use Rattle.session_lines.proofs.put_bom.Reads as put-bom-reads
 
 after-bom-requires : tie.Need-after-bom-requires
 after-bom-requires c κs = search needs

@@ -1,6 +1,6 @@
 use mathlib.Core.Path.{refl}
 use native.Mathlib.Omega.{arith}
-use Rattle.session.proofs.EndLaws.{start-shows, start-parsed, start-held, close-start, end-room, finish-none, finish-bom, finish-fault, finish-last, close-last}
+use Rattle.spec_session.proofs.session.EndLaws.{start-shows, start-parsed, start-held, close-start, end-room, finish-none, finish-bom, finish-fault, finish-last, close-last}
 use borrow.Author.Needs.{needs}
 use Rattle.session.proofs.ending.finish_run.Statement.{statement}
 use Rattle.session.proofs.ending.finish_run.Tie as tie

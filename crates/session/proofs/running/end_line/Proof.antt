@@ -3,8 +3,8 @@ use Prim.Native.Nat.{_≤_, _<_, _+_, _-_, _^_}
 use native.Mathlib.Omega.{arith}
 use lib.Seq.{length-take-le}
 use borrow.Author.Tests.{not-true, not-false}
-use Rattle.kinds.specs.Takes.{machineOf}
-use Rattle.session.proofs.StandLaws.{held-block, line-done, line-skip, skip-held, line-sums, end-stop, end-empty, end-added}
+use Rattle.spec_session.specs.kinds.Takes.{machineOf}
+use Rattle.spec_session.proofs.session.StandLaws.{held-block, line-done, line-skip, skip-held, line-sums, end-stop, end-empty, end-added}
 use borrow.Author.Needs.{needs}
 use Rattle.session.proofs.running.end_line.Statement.{statement}
 use Rattle.session.proofs.running.end_line.Tie as tie
@@ -13,7 +13,7 @@ use Rattle.session.proofs.running.end_line.Lts as lts
 use Rattle.session.proofs.running.lined.Reads as lined-reads
 use Rattle.session.proofs.running.move_down.Reads as move-down-reads
 use Rattle.session.proofs.running.stop.Reads as stop-reads
-use Rattle.lines.proofs.take_line.Reads as take-line-reads
+use Rattle.session_lines.proofs.take_line.Reads as take-line-reads
 
 slice-reshare-prefix-take-line : tie.Need-slice-reshare-prefix-take-line
 slice-reshare-prefix-take-line c = search needs

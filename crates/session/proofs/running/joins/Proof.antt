@@ -2,7 +2,7 @@ use mathlib.Core.Path.{_≡_, ap}
 use mathlib.Core.Bool.{Bool, true, false, cond}
 use Prim.Native.Nat.{ℕ}
 use native.Mathlib.Omega.{arith}
-use Rattle.session.specs.Stand.{Joins}
+use Rattle.spec_session.specs.session.Stand.{Joins}
 use Rattle.session.proofs.running.joins.Statement.{statement}
 use Rattle.session.proofs.running.joins.Tie as tie
 use Rattle.session.proofs.running.joins.Reads as reads

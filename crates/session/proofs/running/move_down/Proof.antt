@@ -2,7 +2,7 @@ use mathlib.Core.Path.{_≡_, refl, sym}
 use Prim.Native.Nat.{_≤_, _+_, _-_}
 use native.Mathlib.Omega.{arith}
 use lib.ListN.{length, take, drop, length-set}
-use Rattle.session.proofs.StandLaws.{moved-none, moved-more, moved-rest}
+use Rattle.spec_session.proofs.session.StandLaws.{moved-none, moved-more, moved-rest}
 use mathlib.Core.List.{_++_, append-nil}
 use native.Mathlib.Nat.{add-zero}
 use borrow.Author.Needs.{needs}

@@ -3,10 +3,10 @@ use Prim.Native.Nat.{_-_, _<_}
 use native.Mathlib.Omega.{arith}
 use lib.ListN.{length, take}
 use lib.Seq.{take-length}
-use Rattle.kinds.specs.Takes.{machineOf}
-use Rattle.session.specs.declared.running.Going.{Going}
-use Rattle.session.specs.Stand.{resumeAt, holdingTo}
-use Rattle.session.proofs.RunLaws.{Turn, begin-shows, turn-byte, turn-held, turn-place, turn-join, run-parsed, run-more}
+use Rattle.spec_session.specs.kinds.Takes.{machineOf}
+use Rattle.spec_session.specs.declared.session.Going.{Going}
+use Rattle.spec_session.specs.session.Stand.{resumeAt, holdingTo}
+use Rattle.spec_session.proofs.session.RunLaws.{Turn, begin-shows, turn-byte, turn-held, turn-place, turn-join, run-parsed, run-more}
 use borrow.Author.Needs.{needs}
 use Rattle.session.proofs.running.run_piece.Statement.{statement}
 use Rattle.session.proofs.running.run_piece.Tie as tie

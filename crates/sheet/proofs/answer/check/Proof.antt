@@ -1,15 +1,15 @@
-use Rattle.sheet.proofs.FaultLaws.{fault-answer, fault-work, once-answer, once-work, total-answer, sound-answer}
-use Rattle.sheet.proofs.SheetLaws.{frames-few}
+use Rattle.spec_sheet.proofs.sheet.FaultLaws.{fault-answer, fault-work, once-answer, once-work, total-answer, sound-answer}
+use Rattle.spec_sheet.proofs.sheet.SheetLaws.{frames-few}
 use borrow.Author.Needs.{needs}
 use Rattle.sheet.proofs.answer.check.Statement.{statement}
 use Rattle.sheet.proofs.answer.check.Tie as tie
 use Rattle.sheet.proofs.answer.check.Reads as reads
 use Rattle.sheet.proofs.answer.check.Lts as lts
-use Rattle.frames.proofs.frames.Reads as frames-reads
-use Rattle.frames.proofs.rate_den.Reads as rate-den-reads
-use Rattle.frames.proofs.rate_num.Reads as rate-num-reads
-use Rattle.frames.proofs.timescale.Reads as timescale-reads
-use Rattle.once.proofs.once_fault.Reads as once-fault-reads
+use Rattle.sheet_frames.proofs.frames.Reads as frames-reads
+use Rattle.sheet_frames.proofs.rate_den.Reads as rate-den-reads
+use Rattle.sheet_frames.proofs.rate_num.Reads as rate-num-reads
+use Rattle.sheet_frames.proofs.timescale.Reads as timescale-reads
+use Rattle.sheet_permutation.proofs.once_fault.Reads as once-fault-reads
 use Rattle.sheet.proofs.faults.fault.Reads as fault-reads
 use Rattle.sheet.proofs.totals.total_fault.Reads as total-fault-reads
 

@@ -1,10 +1,10 @@
-use Rattle.sheet.proofs.FaultLaws.{fault-empty, fault-cut, fault-check, fault-head, fault-length, fault-blocks}
+use Rattle.spec_sheet.proofs.sheet.FaultLaws.{fault-empty, fault-cut, fault-check, fault-head, fault-length, fault-blocks}
 use borrow.Author.Needs.{needs}
 use Rattle.sheet.proofs.faults.fault.Statement.{statement}
 use Rattle.sheet.proofs.faults.fault.Tie as tie
 use Rattle.sheet.proofs.faults.fault.Reads as reads
 use Rattle.sheet.proofs.faults.fault.Lts as lts
-use Rattle.frames.proofs.frames.Reads as frames-reads
+use Rattle.sheet_frames.proofs.frames.Reads as frames-reads
 use Rattle.sheet.proofs.heads.head_fault.Reads as head-fault-reads
 use Rattle.sheet.proofs.records.blocks_fault.Reads as blocks-fault-reads
 use Rattle.sheet.proofs.records.check_fault.Reads as check-fault-reads

@@ -1,13 +1,13 @@
-use Rattle.sheet.proofs.FaultLaws.{head-layout, head-none, head-fast, head-empty, head-long, head-rest}
+use Rattle.spec_sheet.proofs.sheet.FaultLaws.{head-layout, head-none, head-fast, head-empty, head-long, head-rest}
 use borrow.Author.Needs.{needs}
 use Rattle.sheet.proofs.heads.head_fault.Statement.{statement}
 use Rattle.sheet.proofs.heads.head_fault.Tie as tie
 use Rattle.sheet.proofs.heads.head_fault.Reads as reads
 use Rattle.sheet.proofs.heads.head_fault.Lts as lts
-use Rattle.blocks.proofs.word.Reads as word-reads
-use Rattle.frames.proofs.frames.Reads as frames-reads
-use Rattle.frames.proofs.long.Reads as long-reads
-use Rattle.frames.proofs.timescale.Reads as timescale-reads
+use Rattle.checked_blocks.proofs.word.Reads as word-reads
+use Rattle.sheet_frames.proofs.frames.Reads as frames-reads
+use Rattle.sheet_frames.proofs.long.Reads as long-reads
+use Rattle.sheet_frames.proofs.timescale.Reads as timescale-reads
 use Rattle.sheet.proofs.heads.spare_fault.Reads as spare-fault-reads
 use Rattle.sheet.proofs.heads.timescale_in.Reads as timescale-in-reads
 

@@ -1,15 +1,15 @@
 use Prim.Native.Nat.{_-_, _≤_}
 use mathlib.Core.Path.{_≡_}
-use Rattle.base.specs.Refusal.{firstOf}
-use Rattle.base.proofs.RefusalLaws.{left-done}
-use Rattle.sheet.specs.Sheet.{spareFault}
-use Rattle.sheet.proofs.FaultLaws.{spare-here, spare-next}
+use Rattle.spec_base.specs.base.Refusal.{firstOf}
+use Rattle.spec_base.proofs.base.RefusalLaws.{left-done}
+use Rattle.spec_sheet.specs.sheet.Sheet.{spareFault}
+use Rattle.spec_sheet.proofs.sheet.FaultLaws.{spare-here, spare-next}
 use borrow.Author.Needs.{needs}
 use Rattle.sheet.proofs.heads.spare_fault.Statement.{statement}
 use Rattle.sheet.proofs.heads.spare_fault.Tie as tie
 use Rattle.sheet.proofs.heads.spare_fault.Reads as reads
 use Rattle.sheet.proofs.heads.spare_fault.Lts as lts
-use Rattle.blocks.proofs.word.Reads as word-reads
+use Rattle.checked_blocks.proofs.word.Reads as word-reads
 
 abbrev Inv-loop : tie.InvT-loop
 Inv-loop s i₀ i = (i ≤ 127) × (firstOf (spareFault s 13) i (127 - i) ≡ firstOf (spareFault s 13) 6 121)

@@ -1,5 +1,5 @@
-use Rattle.sheet.proofs.FaultLaws.{block-check, block-records}
-use Rattle.frames.proofs.FrameLaws.{told-as}
+use Rattle.spec_sheet.proofs.sheet.FaultLaws.{block-check, block-records}
+use Rattle.spec_sheet.proofs.sheet_frames.FrameLaws.{told-as}
 use borrow.Author.Needs.{needs}
 use Rattle.sheet.proofs.records.block_fault.Statement.{statement}
 use Rattle.sheet.proofs.records.block_fault.Tie as tie

@@ -1,10 +1,10 @@
 use Prim.Native.Nat.{_-_, _≤_}
 use mathlib.Core.Path.{_≡_}
-use Rattle.base.specs.Refusal.{firstOf}
-use Rattle.base.proofs.RefusalLaws.{left-here, left-done}
-use Rattle.frames.specs.Frames.{longOf}
-use Rattle.sheet.specs.Sheet.{blockFault, recordBlocks}
-use Rattle.sheet.proofs.FaultLaws.{left-pass, blocks-start}
+use Rattle.spec_base.specs.base.Refusal.{firstOf}
+use Rattle.spec_base.proofs.base.RefusalLaws.{left-here, left-done}
+use Rattle.spec_sheet.specs.sheet_frames.Frames.{longOf}
+use Rattle.spec_sheet.specs.sheet.Sheet.{blockFault, recordBlocks}
+use Rattle.spec_sheet.proofs.sheet.FaultLaws.{left-pass, blocks-start}
 use borrow.Author.Needs.{needs}
 use Rattle.sheet.proofs.records.blocks_fault.Statement.{statement}
 use Rattle.sheet.proofs.records.blocks_fault.Tie as tie

@@ -1,10 +1,10 @@
-use Rattle.sheet.proofs.FaultLaws.{check-held, check-failed}
+use Rattle.spec_sheet.proofs.sheet.FaultLaws.{check-held, check-failed}
 use borrow.Author.Needs.{needs}
 use Rattle.sheet.proofs.records.check_fault.Statement.{statement}
 use Rattle.sheet.proofs.records.check_fault.Tie as tie
 use Rattle.sheet.proofs.records.check_fault.Reads as reads
 use Rattle.sheet.proofs.records.check_fault.Lts as lts
-use Rattle.blocks.proofs.block_holds.Reads as block-holds-reads
+use Rattle.checked_blocks.proofs.block_holds.Reads as block-holds-reads
 
 block-holds-requires : tie.Need-block-holds-requires
 block-holds-requires c κs = search needs

@@ -1,4 +1,4 @@
-use Rattle.sheet.proofs.FaultLaws.{start-long, start-short}
+use Rattle.spec_sheet.proofs.sheet.FaultLaws.{start-long, start-short}
 use borrow.Author.Needs.{needs}
 use Rattle.sheet.proofs.records.first_record.Statement.{statement}
 use Rattle.sheet.proofs.records.first_record.Tie as tie

@@ -1,4 +1,4 @@
-use Rattle.sheet.proofs.FaultLaws.{blocks-long, blocks-short}
+use Rattle.spec_sheet.proofs.sheet.FaultLaws.{blocks-long, blocks-short}
 use borrow.Author.Needs.{needs}
 use Rattle.sheet.proofs.records.record_blocks.Statement.{statement}
 use Rattle.sheet.proofs.records.record_blocks.Tie as tie

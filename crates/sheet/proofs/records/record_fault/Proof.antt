@@ -1,10 +1,10 @@
-use Rattle.sheet.proofs.FaultLaws.{record-high, record-good, record-first, record-second, record-third, record-clear, record-short}
+use Rattle.spec_sheet.proofs.sheet.FaultLaws.{record-high, record-good, record-first, record-second, record-third, record-clear, record-short}
 use borrow.Author.Needs.{needs}
 use Rattle.sheet.proofs.records.record_fault.Statement.{statement}
 use Rattle.sheet.proofs.records.record_fault.Tie as tie
 use Rattle.sheet.proofs.records.record_fault.Reads as reads
 use Rattle.sheet.proofs.records.record_fault.Lts as lts
-use Rattle.blocks.proofs.word.Reads as word-reads
+use Rattle.checked_blocks.proofs.word.Reads as word-reads
 
 word-requires : tie.Need-word-requires
 word-requires c κs = search needs

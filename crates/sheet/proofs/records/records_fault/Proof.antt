@@ -1,10 +1,10 @@
 use Prim.Native.Nat.{_+_, _-_, _*_, _^_, _≤_, _<_}
 use mathlib.Core.Path.{_≡_}
-use Rattle.base.specs.Refusal.{firstOf}
-use Rattle.base.proofs.RefusalLaws.{left-here, left-done}
-use Rattle.frames.specs.Frames.{perBlock}
-use Rattle.sheet.specs.Sheet.{recordFault}
-use Rattle.sheet.proofs.FaultLaws.{left-pass, record-on-fits, record-at, record-on, record-none, records-start}
+use Rattle.spec_base.specs.base.Refusal.{firstOf}
+use Rattle.spec_base.proofs.base.RefusalLaws.{left-here, left-done}
+use Rattle.spec_sheet.specs.sheet_frames.Frames.{perBlock}
+use Rattle.spec_sheet.specs.sheet.Sheet.{recordFault}
+use Rattle.spec_sheet.proofs.sheet.FaultLaws.{left-pass, record-on-fits, record-at, record-on, record-none, records-start}
 use borrow.Author.Needs.{needs}
 use Rattle.sheet.proofs.records.records_fault.Statement.{statement}
 use Rattle.sheet.proofs.records.records_fault.Tie as tie

@@ -1,11 +1,11 @@
 use Prim.Native.Nat.{_-_, _≤_}
-use Rattle.sheet.proofs.TotalLaws.{Left, total-start, total-over, total-next, total-done}
+use Rattle.spec_sheet.proofs.sheet.TotalLaws.{Left, total-start, total-over, total-next, total-done}
 use borrow.Author.Needs.{needs}
 use Rattle.sheet.proofs.totals.sum_fault.Statement.{statement}
 use Rattle.sheet.proofs.totals.sum_fault.Tie as tie
 use Rattle.sheet.proofs.totals.sum_fault.Reads as reads
 use Rattle.sheet.proofs.totals.sum_fault.Lts as lts
-use Rattle.frames.proofs.duration_at.Reads as duration-at-reads
+use Rattle.sheet_frames.proofs.duration_at.Reads as duration-at-reads
 
 abbrev Inv-loop : tie.InvT-loop
 Inv-loop s n left₀ i₀ left i = (i ≤ n) × Left s left i

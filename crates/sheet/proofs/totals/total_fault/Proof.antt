@@ -1,12 +1,12 @@
 use Prim.Native.Nat.{ℕ, _<_}
 use lib.ListN.{getD}
-use Rattle.sheet.proofs.TotalLaws.{total-short}
+use Rattle.spec_sheet.proofs.sheet.TotalLaws.{total-short}
 use borrow.Author.Needs.{needs}
 use Rattle.sheet.proofs.totals.total_fault.Statement.{statement}
 use Rattle.sheet.proofs.totals.total_fault.Tie as tie
 use Rattle.sheet.proofs.totals.total_fault.Reads as reads
 use Rattle.sheet.proofs.totals.total_fault.Lts as lts
-use Rattle.frames.proofs.long.Reads as long-reads
+use Rattle.sheet_frames.proofs.long.Reads as long-reads
 use Rattle.sheet.proofs.totals.sum_fault.Reads as sum-fault-reads
 
 long-requires : tie.Need-long-requires

@@ -3,8 +3,8 @@ use borrow.Author.Needs.{needs}
 use Prim.Native.Nat.{_≤_, _<_, _-_, _+_}
 use mathlib.Core.Path.{_≡_, refl, sym}
 use lib.ListN.{length, drop}
-use Rattle.text.proofs.Laws.{natural-empty, digits-refused, digit-low, digit-high, digit-some, value-refused, digits-again, value-again, natural-passed}
-use Rattle.text.specs.Number.{digits, valueFrom}
+use Rattle.spec_text.proofs.text.Laws.{natural-empty, digits-refused, digit-low, digit-high, digit-some, value-refused, digits-again, value-again, natural-passed}
+use Rattle.spec_text.specs.text.Number.{digits, valueFrom}
 use Rattle.text.proofs.decimal.digits_to.Statement.{statement}
 use Rattle.text.proofs.decimal.digits_to.Tie as tie
 

@@ -1,5 +1,5 @@
-use Rattle.base.proofs.Laws.{chain}
-use Rattle.text.specs.Number.{digit}
+use Rattle.spec_base.proofs.base.Laws.{chain}
+use Rattle.spec_text.specs.text.Number.{digit}
 use Rattle.text.proofs.decimal.is_digit.Statement.{statement}
 use Rattle.text.proofs.decimal.is_digit.Tie as tie
 

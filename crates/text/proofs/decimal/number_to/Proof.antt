@@ -1,4 +1,4 @@
-use Rattle.text.proofs.Laws.{number-plus, number-none}
+use Rattle.spec_text.proofs.text.Laws.{number-plus, number-none}
 use borrow.Author.Needs.{needs}
 use Rattle.text.proofs.decimal.number_to.Statement.{statement}
 use Rattle.text.proofs.decimal.number_to.Tie as tie

@@ -1,10 +1,10 @@
-use Rattle.text.proofs.LineLaws.{blank-found}
+use Rattle.spec_text.proofs.text.LineLaws.{blank-found}
 use borrow.Author.Needs.{needs}
 use Rattle.text.proofs.line.is_blank.Statement.{statement}
 use Rattle.text.proofs.line.is_blank.Tie as tie
 use Rattle.text.proofs.line.is_blank.Reads as reads
 use Rattle.text.proofs.line.is_blank.Lts as lts
-use Rattle.white.proofs.trim_head.Reads as trim-head-reads
+use Rattle.whitespace.proofs.trim_head.Reads as trim-head-reads
 
 trim-head-requires : tie.Need-trim-head-requires
 trim-head-requires c κs = search needs

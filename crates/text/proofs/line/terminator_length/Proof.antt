@@ -1,4 +1,4 @@
-use Rattle.text.proofs.LineLaws.{ends-two, ends-one, ends-none}
+use Rattle.spec_text.proofs.text.LineLaws.{ends-two, ends-one, ends-none}
 use borrow.Author.Needs.{needs}
 use Rattle.text.proofs.line.terminator_length.Statement.{statement}
 use Rattle.text.proofs.line.terminator_length.Tie as tie

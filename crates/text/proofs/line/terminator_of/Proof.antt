@@ -1,4 +1,4 @@
-use Rattle.text.proofs.LineLaws.{terminator-found}
+use Rattle.spec_text.proofs.text.LineLaws.{terminator-found}
 use borrow.Author.Needs.{needs}
 use Rattle.text.proofs.line.terminator_of.Statement.{statement}
 use Rattle.text.proofs.line.terminator_of.Tie as tie

@@ -1,4 +1,4 @@
-use Rattle.text.proofs.LineLaws.{text-found}
+use Rattle.spec_text.proofs.text.LineLaws.{text-found}
 use borrow.Author.Needs.{needs}
 use Rattle.text.proofs.line.text_of.Statement.{statement}
 use Rattle.text.proofs.line.text_of.Tie as tie

@@ -1,4 +1,4 @@
-use Rattle.base.proofs.Laws.{chain}
+use Rattle.spec_base.proofs.base.Laws.{chain}
 use Rattle.trim.proofs.token.is_plain.Statement.{statement}
 use Rattle.trim.proofs.token.is_plain.Tie as tie
 

@@ -4,8 +4,8 @@ use Prim.Native.Nat.{_≤_, _-_, _+_}
 use mathlib.Core.Path.{_≡_, sym}
 use native.Mathlib.Nat.{zero-add}
 use lib.ListN.{length, drop}
-use Rattle.utf8.proofs.Laws.{run-found, run-again, run-all, run-block}
-use Rattle.utf8.specs.Utf8.{asciiRun}
+use Rattle.spec_text.proofs.utf8.Laws.{run-found, run-again, run-all, run-block}
+use Rattle.spec_text.specs.utf8.Utf8.{asciiRun}
 use Rattle.utf8.proofs.utf8.ascii_run.Statement.{statement}
 use Rattle.utf8.proofs.utf8.ascii_run.Tie as tie
 

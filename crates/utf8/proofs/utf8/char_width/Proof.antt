@@ -1,5 +1,5 @@
-use Rattle.utf8.proofs.Laws.{width-one}
-use Rattle.utf8.specs.Utf8.{charWidth}
+use Rattle.spec_text.proofs.utf8.Laws.{width-one}
+use Rattle.spec_text.specs.utf8.Utf8.{charWidth}
 use borrow.Author.Needs.{needs}
 use Rattle.utf8.proofs.utf8.char_width.Statement.{statement}
 use Rattle.utf8.proofs.utf8.char_width.Tie as tie

@@ -1,5 +1,5 @@
-use Rattle.base.proofs.Laws.{chain}
-use Rattle.utf8.specs.Utf8.{codeBy}
+use Rattle.spec_base.proofs.base.Laws.{chain}
+use Rattle.spec_text.specs.utf8.Utf8.{codeBy}
 use borrow.Author.Needs.{needs}
 use Rattle.utf8.proofs.utf8.code_by.Statement.{statement}
 use Rattle.utf8.proofs.utf8.code_by.Tie as tie

@@ -1,4 +1,4 @@
-use Rattle.utf8.specs.Utf8.{codeHead}
+use Rattle.spec_text.specs.utf8.Utf8.{codeHead}
 use borrow.Author.Needs.{needs}
 use Rattle.utf8.proofs.utf8.code_head.Statement.{statement}
 use Rattle.utf8.proofs.utf8.code_head.Tie as tie

@@ -1,5 +1,5 @@
-use Rattle.base.proofs.Laws.{chain}
-use Rattle.utf8.specs.Utf8.{tail}
+use Rattle.spec_base.proofs.base.Laws.{chain}
+use Rattle.spec_text.specs.utf8.Utf8.{tail}
 use Rattle.utf8.proofs.utf8.is_tail.Statement.{statement}
 use Rattle.utf8.proofs.utf8.is_tail.Tie as tie
 

@@ -2,8 +2,8 @@ use borrow.Author.Needs.{needs}
 use native.Mathlib.Omega.{arith}
 use mathlib.Core.Path.{_≡_, refl}
 use lib.ListN.{length}
-use Rattle.utf8.proofs.Laws.{ascii-less, ascii-again, three-less, three-on, char-less, char-again, char-refused, utf8-passed}
-use Rattle.utf8.specs.Utf8.{utf8}
+use Rattle.spec_text.proofs.utf8.Laws.{ascii-less, ascii-again, three-less, three-on, char-less, char-again, char-refused, utf8-passed}
+use Rattle.spec_text.specs.utf8.Utf8.{utf8}
 use Rattle.utf8.proofs.utf8.is_utf8.Statement.{statement}
 use Rattle.utf8.proofs.utf8.is_utf8.Tie as tie
 

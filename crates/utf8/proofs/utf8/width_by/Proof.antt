@@ -1,5 +1,5 @@
-use Rattle.base.proofs.Laws.{calls}
-use Rattle.utf8.specs.Utf8.{widthBy}
+use Rattle.spec_base.proofs.base.Laws.{calls}
+use Rattle.spec_text.specs.utf8.Utf8.{widthBy}
 use borrow.Author.Needs.{needs}
 use Rattle.utf8.proofs.utf8.width_by.Statement.{statement}
 use Rattle.utf8.proofs.utf8.width_by.Tie as tie

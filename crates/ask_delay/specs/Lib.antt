@@ -1,0 +1,2 @@
+-- The delay that loses least.
+pub mod Choice

@@ -1,5 +1,0 @@
-pub mod LineLaws
-pub mod StandLaws
-pub mod TextLaws
-pub mod ToldLaws
-pub mod HandLaws

@@ -1,4 +1,0 @@
--- A whole text retimed at once.
-pub mod Text
-pub mod Ran
-pub mod Lined

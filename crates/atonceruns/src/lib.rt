@@ -1,1 +1,0 @@
-// Theorems on a whole text at once: no code.

@@ -1,4 +1,0 @@
-// Blocks of lines (SRT, WebVTT): what becomes of one closed block.
-mod srt;
-
-pub use srt::block;

@@ -1,0 +1,5 @@
+// Blocks of lines (SRT, WebVTT): what becomes of one closed block.
+mod numbering;
+mod srt;
+
+pub use srt::block;

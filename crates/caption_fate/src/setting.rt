@@ -1,0 +1,1 @@
+// What captions are decided by, beside the map.

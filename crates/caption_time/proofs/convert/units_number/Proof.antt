@@ -1,0 +1,24 @@
+use Rattle.spec_base.proofs.base.RefusalLaws.{else-here}
+use Rattle.spec_caption.proofs.caption_time.Limits.{value-over, value-within}
+use Rattle.spec_caption.specs.caption_time.Convert.{unitsNumber}
+use borrow.Author.Needs.{needs}
+use Rattle.caption_time.proofs.convert.units_number.Statement.{statement}
+use Rattle.caption_time.proofs.convert.units_number.Tie as tie
+
+setting-number-requires : tie.Need-setting-number-requires
+setting-number-requires c κs = search needs
+
+returns : tie.Need-returns
+unfolding unitsNumber
+returns c = search else-here
+
+returns-2 : tie.Need-returns-2
+unfolding unitsNumber
+returns-2 c = search value-over
+
+returns-3 : tie.Need-returns-3
+unfolding unitsNumber
+returns-3 c = search value-within
+
+pub units-number-spec : {M : Type 1} → statement M
+units-number-spec = tie.close (tie.spec setting-number-requires returns returns-2 returns-3)

@@ -1,5 +1,0 @@
-pub mod AmountLaws
-pub mod HeldLaws
-pub mod ViewLaws
-pub mod ForeignLaws
-pub mod MarkLaws

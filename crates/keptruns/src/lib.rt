@@ -1,1 +1,0 @@
-// Theorems on sessions that are kept as bytes: no code.

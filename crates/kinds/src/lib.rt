@@ -1,1 +1,0 @@
-// No code: the three kinds of captions as sessions.

@@ -1,0 +1,4 @@
+pub mod Slots
+pub mod Fields
+pub mod Walk
+pub mod Steps

@@ -1,0 +1,9 @@
+// A segment map read from the JSON of the Rust cutter.
+mod fields;
+mod list;
+mod number;
+mod reading;
+mod walk;
+
+pub use reading::read_map;
+pub use spec_json::map_json_read::Taken;

@@ -1,9 +1,0 @@
-// A segment map as the JSON of the Rust cutter.
-mod layout;
-mod pieces;
-mod quoting;
-mod writing;
-
-pub use quoting::Escape;
-pub use writing::Wrote;
-pub use writing::write_map;

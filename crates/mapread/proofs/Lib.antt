@@ -1,5 +1,0 @@
-pub mod NumberLaws
-pub mod ListLaws
-pub mod PartLaws
-pub mod SlotLaws
-pub mod GiveLaws

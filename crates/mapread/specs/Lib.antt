@@ -1,4 +1,0 @@
-pub mod Answer
-pub mod Fields
-pub mod Slots
-pub mod Steps

@@ -1,8 +1,0 @@
-// A segment map read from the JSON of the Rust cutter.
-mod fields;
-mod list;
-mod number;
-mod reading;
-
-pub use reading::Taken;
-pub use reading::read_map;

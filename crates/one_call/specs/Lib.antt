@@ -1,0 +1,2 @@
+-- A whole text retimed at once.
+pub mod Lined

@@ -1,6 +1,0 @@
-pub mod Again
-pub mod Kept
-pub mod StoreLaws
-pub mod ReadLaws
-pub mod TakeLaws
-pub mod Rows

@@ -1,8 +1,0 @@
-// Why a caption is kept or dropped (request 2.8).
-mod causes;
-mod places;
-mod telling;
-
-pub use places::fate_code;
-pub use telling::Why;
-pub use telling::reason;

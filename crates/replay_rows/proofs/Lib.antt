@@ -1,0 +1,2 @@
+-- Captions as rows, as `replay` is asked about them.
+pub mod OpLaws

@@ -1,7 +1,0 @@
-// Times known only roughly (request 2.11).
-mod judging;
-
-pub use judging::Judged;
-pub use judging::number;
-pub use judging::rough;
-pub use judging::told;

@@ -1,6 +1,0 @@
-pub mod RecordLaws
-pub mod BuildLaws
-pub mod Again
-pub mod Walk
-pub mod LocalArray
-pub mod SameMap

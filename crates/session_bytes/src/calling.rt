@@ -1,0 +1,99 @@
+// A session taken up, called and parked again.
+use session_state::Session;
+use spec_parking::session_bytes::Told;
+ghost use mathlib.Core.Path.{_≡_};
+ghost use lib.ListN.{length};
+ghost use Rattle.spec_session.specs.session.Answer.{feedCall, finishCall};
+ghost use Rattle.spec_parking.specs.session_bytes.Answer.{refuses, toldIn, keptNext, Called};
+
+// Whether the number refuses a call: 15 to 18, or 27.
+fn refuses_call(number: u32) -> bool
+    ensures { λ r. ⌜ r ≡ refuses number ⌝ }
+{
+    if number == 27 {
+        return true;
+    }
+    if number < 15 {
+        return false;
+    }
+    number <= 18
+}
+
+// What a place holds afterwards, where `before` stood: the value, or the same where the call is refused.
+pub fn told_in(number: u32, value: u64, before: u64) -> u64
+    ensures { λ r. ⌜ r ≡ toldIn number value before ⌝ }
+{
+    if refuses_call(number) {
+        return before;
+    }
+    value
+}
+
+fn refused(number: u32) -> Told
+    ensures { λ r. ⌜ r ≡ record { number = number; written = 0; warned = 0 } ⌝ }
+{
+    Told {
+        number,
+        written: 0,
+        warned: 0,
+    }
+}
+
+// Stores the session that a call returned, where something was fed and the number does not refuse the call. It is stored as it is: one that 17 refuses, which only forged bytes lead to, is told by the next call.
+fn keep_next(number: u32, nothing: bool, next: Session, bytes: &mut [u8])
+    ensures { λ _. ⌜ now (bytes .exit) ≡ keptNext number nothing next (now (bytes .entry)) ⌝ }
+{
+    if nothing {
+        return;
+    }
+    if refuses_call(number) {
+        return;
+    }
+    parking::keep(next, bytes);
+}
+
+// A piece of the text. An empty one leaves the bytes as they are.
+pub fn feed(
+    bytes: &mut [u8],
+    map: &[u64],
+    piece: &[u8],
+    out: &mut [u8],
+    warnings: &mut [u64],
+) -> Told
+    ensures { λ r. ⌜ Called (feedCall (now (map .entry)) (now (piece .entry)) (length (now (out .entry))) (length (now (warnings .entry)))) r (now (bytes .entry)) (now (bytes .exit)) (now (out .entry)) (now (out .exit)) (now (warnings .entry)) (now (warnings .exit)) ⌝ }
+{
+    let up = parking::take_up(bytes);
+    let k = up.number;
+    if k != 0 {
+        return refused(k);
+    }
+    let session = up.session;
+    let fed = session::feed(session, map, piece, out, warnings);
+    let number = fed.number;
+    keep_next(number, piece.len() == 0, fed.session, bytes);
+    Told {
+        number,
+        written: fed.written,
+        warned: fed.warned,
+    }
+}
+
+// What is held as a last line; the session ends.
+pub fn finish(bytes: &mut [u8], map: &[u64], out: &mut [u8], warnings: &mut [u64]) -> Told
+    ensures { λ r. ⌜ Called (finishCall (now (map .entry)) (length (now (out .entry))) (length (now (warnings .entry)))) r (now (bytes .entry)) (now (bytes .exit)) (now (out .entry)) (now (out .exit)) (now (warnings .entry)) (now (warnings .exit)) ⌝ }
+{
+    let up = parking::take_up(bytes);
+    let k = up.number;
+    if k != 0 {
+        return refused(k);
+    }
+    let session = up.session;
+    let fed = session::finish(session, map, out, warnings);
+    let number = fed.number;
+    keep_next(number, false, fed.session, bytes);
+    Told {
+        number,
+        written: fed.written,
+        warned: fed.warned,
+    }
+}

@@ -1,4 +1,0 @@
-pub mod FaultLaws
-pub mod SheetLaws
-pub mod AnswerLaws
-pub mod TotalLaws

@@ -1,0 +1,7 @@
+-- The delay that loses least.
+pub mod Delay
+pub mod Loss
+pub mod Paint
+pub mod Tally
+pub mod Answer
+pub mod Order

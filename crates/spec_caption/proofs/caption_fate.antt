@@ -1,0 +1,13 @@
+pub mod HitLaws
+pub mod DecideLaws
+pub mod FateLaws
+pub mod OnlyFate
+pub mod CaseLaws
+pub mod FineLaws
+pub mod WordLaws
+pub mod LostLaws
+pub mod WarnLaws
+pub mod LostRows
+pub mod TellLaws
+pub mod CountRows
+pub mod MarkRows

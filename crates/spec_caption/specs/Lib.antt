@@ -1,0 +1,3 @@
+pub mod caption_time
+pub mod caption_stamp
+pub mod caption_fate

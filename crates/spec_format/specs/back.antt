@@ -1,0 +1,2 @@
+-- What a caption that is read stands in.
+pub mod Stands

@@ -1,0 +1,5 @@
+pub mod Examples
+pub mod Back
+pub mod Clean
+pub mod Whole
+pub mod Limits

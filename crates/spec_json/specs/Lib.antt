@@ -1,0 +1,3 @@
+pub mod json
+pub mod map_json_write
+pub mod map_json_read

@@ -1,0 +1,4 @@
+pub mod trim
+pub mod plan
+pub mod segment
+pub mod segmap

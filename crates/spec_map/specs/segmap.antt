@@ -1,0 +1,3 @@
+-- The segment map.
+pub mod Build
+pub mod Map

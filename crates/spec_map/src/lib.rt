@@ -1,0 +1,4 @@
+// No function: the trim list, snapping, the segment map, as definitions in specs/ and laws in proofs/, and the types that they name.
+pub mod segmap;
+pub mod segment;
+pub mod trim;

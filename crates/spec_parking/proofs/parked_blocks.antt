@@ -1,0 +1,4 @@
+pub mod Bytes
+pub mod Again
+pub mod WriteLaws
+pub mod ReadLaws

@@ -1,0 +1,7 @@
+pub mod Again
+pub mod Kept
+pub mod Only
+pub mod StoreLaws
+pub mod ReadLaws
+pub mod TakeLaws
+pub mod Rows

@@ -1,0 +1,3 @@
+// No function: a session as 18 blocks, as definitions in specs/ and laws in proofs/, and the types that they name.
+pub mod parking;
+pub mod session_bytes;

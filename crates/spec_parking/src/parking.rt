@@ -1,0 +1,7 @@
+// Types that the definitions of parking name.
+use spec_session::session_state::Session;
+
+pub struct TakenUp {
+    pub number: u32,
+    pub session: Session,
+}

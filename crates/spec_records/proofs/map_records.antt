@@ -1,0 +1,4 @@
+pub mod RecordLaws
+pub mod BuildLaws
+pub mod SameMap
+pub mod Rows

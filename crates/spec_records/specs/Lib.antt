@@ -1,0 +1,2 @@
+pub mod map_records
+pub mod map_records_own

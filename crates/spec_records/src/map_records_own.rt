@@ -1,0 +1,9 @@
+// Types that the definitions of through name.
+use spec_caption::caption_fate::Hit;
+use spec_map::segmap::Made;
+
+// What the map call answers, and the segment that a caption meets.
+pub struct Through {
+    pub made: Made,
+    pub hit: Hit,
+}

@@ -1,0 +1,8 @@
+pub mod sequence
+pub mod mapback
+pub mod fed
+pub mod parkruns
+pub mod keptruns
+pub mod atonceruns
+pub mod cueplaces
+pub mod cuefates

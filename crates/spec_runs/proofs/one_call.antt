@@ -1,0 +1,3 @@
+pub mod StandLaws
+pub mod TextLaws
+pub mod ToldLaws

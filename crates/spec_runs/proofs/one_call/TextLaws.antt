@@ -1,0 +1,245 @@
+-- The loop over the pieces of a text: its turn, and both of its ends.
+use mathlib.Core.Path.{_≡_, refl, sym, ap, subst, _∙_}
+use mathlib.Core.Bool.{Bool, true, false, cond}
+use mathlib.Core.List.{List, [], _++_}
+use Prim.Native.Nat.{ℕ, _+_, _-_, _*_, _≤_, _<_}
+use native.Mathlib.Omega.{arith}
+use lib.Dec.{ltb}
+use lib.ListN.{length, take, drop, length-take, length-drop, length-append, take-append-drop}
+use lib.Seq.{take-add, take-all}
+use borrow.Author.Tests.{ltb-true, ltb-false, lt-ltb, le-ltb}
+use Rattle.spec_base.specs.base.Limits.{mostTaken, leastOutput, leastPlaces}
+use Rattle.spec_base.specs.base.Put.{put}
+use Rattle.spec_base.proofs.base.PutLaws.{put-nil, length-put, length-tail}
+use Rattle.spec_caption.specs.declared.caption_fate.Config.{Config}
+use Rattle.spec_caption.specs.caption_fate.Says.{Part}
+use Rattle.spec_caption.specs.caption_fate.Emit.{emitsOf, outputOf, warningsOf, placesOf}
+use Rattle.spec_session.specs.session_counts.Counts.{countsOf}
+use Rattle.spec_session.specs.session_counts.Reader.{Reading, reading}
+use Rattle.spec_session.specs.session_counts.Session.{Call, emitted}
+use Rattle.spec_session.proofs.session_counts.Numbers.{Opened}
+use Rattle.spec_session.proofs.kinds.Fits.{answer-fits}
+use Rattle.spec_session.specs.declared.session_state.Session.{Session}
+use Rattle.spec_session.specs.session_state.View.{view}
+use Rattle.spec_session.specs.session_lines.Done.{Wrote}
+use Rattle.spec_session.specs.declared.session.Fed.{Fed}
+use Rattle.spec_session.specs.session.Answer.{feedCall, finishCall, answerOf, Answered}
+use Rattle.spec_session.proofs.session.StandLaws.{lent, back}
+use Rattle.promise.specs.Plain.{plainRead}
+use Rattle.promise.specs.Promise.{configOf}
+use Rattle.spec_runs.specs.declared.one_call.Ran.{Ran}
+use Rattle.spec_runs.specs.one_call.Text.{outputFor, placesFor, emitsFor}
+use Rattle.spec_runs.specs.one_call.Ran.{pieceEnd, RanText}
+use Rattle.spec_runs.proofs.one_call.StandLaws.{Stands, Over, stands-room, partsBehind, led-turn, led-fault, led-end, wrote-behind, over-plain}
+
+-- ---- where a piece ends
+pub end-last : (i n : ℕ) → n < i + 1024 → n ≡ pieceEnd i n
+unfolding pieceEnd
+end-last i n h = sym (rw (lt-ltb n (i + 1024) h))
+
+pub end-next : (i n : ℕ) → i + 1024 ≤ n → i + 1024 ≡ pieceEnd i n
+unfolding pieceEnd
+end-next i n h = sym (rw (le-ltb n (i + 1024) h))
+
+pub record Ends (i e n : ℕ) : Type 0 where
+  pub lo : i < e
+  pub hi : e ≤ n
+  pub near : e ≤ i + 1024
+
+end-by : (i n : ℕ) (t : Bool) → ltb n (i + 1024) ≡ t → i < n → Ends i (cond t n (i + 1024)) n
+end-by i n true q h = record { lo = h; hi = omega arith; near = omega (arith, ltb-true n (i + 1024) q) }
+end-by i n false q h = record { lo = omega arith; hi = ltb-false n (i + 1024) q; near = omega arith }
+
+pub end-of : (i n e : ℕ) → e ≡ pieceEnd i n → i < n → Ends i e n
+unfolding pieceEnd
+end-of i n e q h = subst (λ (x : ℕ). Ends i x n) (sym q) (end-by i n (ltb n (i + 1024)) refl h)
+
+module _ (text : List ℕ) (i e : ℕ) (E : Ends i e (length text)) where
+  pub piece-length : length (take (e - i) (drop i text)) ≡ e - i
+  piece-length = length-take (e - i) (drop i text) ∙ omega (arith, length-drop i text, E .lo, E .hi)
+
+  pub front-length : length (take i text) ≡ i
+  front-length = length-take i text ∙ omega (arith, E .lo, E .hi)
+
+  pub front-is : take i text ++ take (e - i) (drop i text) ≡ take e text
+  front-is =
+      let q : i + (e - i) ≡ e = omega (arith, E .lo) in
+      sym (take-add i (e - i) text) ∙ ap (λ (k : ℕ). take k text) q
+
+  -- a piece is short, and the text up to its end too
+  pub piece-short : length (take (e - i) (drop i text)) ≤ 1024
+  piece-short = omega (arith, piece-length, E .near)
+
+  pub piece-taken : length text ≤ mostTaken → length (take i text) + length (take (e - i) (drop i text)) ≤ mostTaken
+  piece-taken h = omega (arith, piece-length, front-length, E .lo, E .hi)
+
+-- the first i bytes have been fed
+pub record At (c : Config) (m text : List ℕ) (i : ℕ) (s : Session) (o w : ℕ) (out₀ out places₀ places : List ℕ) : Type 0 where
+  pub opens : Opened c m
+  pub within : i ≤ length text
+  pub short : length text ≤ mostTaken
+  pub output : outputFor (length text) ≤ length out₀
+  pub warned : placesFor (length text) ≤ length places₀
+  pub stands : Stands c m opens (take i text) s o w out₀ out places₀ places
+
+-- ---- the start
+pub none-wrote : (c : Config) (m out places : List ℕ) → Wrote c m [] 0 0 out out places places
+unfolding emitsOf outputOf warningsOf placesOf
+none-wrote c m out places = record { written = refl; warned = refl; text = sym (put-nil out); warnings = sym (put-nil places) }
+
+abbrev pub ownOf : Session → Config
+ownOf s = configOf (s .config .kind) (s .config .timescale)
+
+-- ---- the text has ended
+pub record Ended (c : Config) (m text : List ℕ) (number : ℕ) (s : Session) (o w : ℕ) (out₀ out places₀ places : List ℕ) : Type 0 where
+  pub opens : Opened c m
+  pub parts : List Part
+  pub over : Over c m opens text number s parts
+  pub wrote : Wrote c m parts o w out₀ out places₀ places
+
+back-length : (a : ℕ) (l y : List ℕ) → a ≤ length l → length y ≡ length (lent a l) → length (back a l y) ≡ length l
+back-length a l y h e =
+    let p = length-append (take a l) (y ++ drop (length l - a) (drop a l)) in
+    let q = length-append y (drop (length l - a) (drop a l)) in
+    omega (arith, p, q, length-take a l, length-drop (length l - a) (drop a l), length-drop a l, length-tail a l)
+
+-- ---- a turn
+module _ (c : Config) (m text : List ℕ) (i : ℕ) (s : Session) (o w : ℕ) (out₀ out places₀ places : List ℕ) (A : At c m text i s o w out₀ out places₀ places) where
+  pub few : (o ≤ 3 * length text) × (3 * w ≤ length text)
+  few =
+      let r = stands-room c m (A .opens) (take i text) s o w out₀ out places₀ places (A .stands) in
+      let n = length-take i text in
+      (omega (arith, r .0, n), omega (arith, r .1, n))
+
+  out-long : length out ≡ length out₀
+  out-long =
+      let W = A .stands .wrote in
+      ap length (W .text) ∙ length-put _ out₀ (omega (arith, W .written, few .0, A .output))
+
+  places-long : length places ≡ length places₀
+  places-long =
+      let W = A .stands .wrote in
+      ap length (W .warnings) ∙ length-put _ places₀ (omega (arith, W .warned, few .1, A .warned))
+
+  -- enough is left for a call
+  pub at-room : (o + 32768 ≤ length out) × (w + 4096 ≤ length places)
+  at-room = (omega (arith, few .0, A .output, out-long), omega (arith, few .1, A .warned, places-long))
+
+  enough : leastOutput ≤ length (lent o out)
+  enough = omega (arith, length-tail o out, at-room .0)
+
+  enough-places : leastPlaces ≤ length (lent w places)
+  enough-places = omega (arith, length-tail w places, at-room .1)
+
+  -- what a call wrote fits behind what was written, and the buffers keep their lengths
+  pub at-sums : (x : Call) (r : Fed) (u u′ v v′ : List ℕ) → Answered s x r u u′ v v′ → (o + r .written ≤ 4294967295) × (w + r .warned ≤ 4294967295)
+  unfolding answerOf
+  at-sums x r u u′ v v′ a =
+      let f = answer-fits (view s) x in
+      (omega (arith, a .written, f .out, few .0, A .short), omega (arith, a .warned, f .places, few .1, A .short))
+
+  pub at-lengths : (x : Call) (r : Fed) (y z : List ℕ) → Answered s x r (lent o out) y (lent w places) z
+      → (length (back o out y) ≡ length out₀) × (length (back w places z) ≡ length places₀)
+  unfolding answerOf
+  at-lengths x r y z a =
+      let f = answer-fits (view s) x in
+      let p : length y ≡ length (lent o out) = ap length (a .text) ∙ length-put _ (lent o out) (omega (arith, f .out, enough)) in
+      let q : length z ≡ length (lent w places) = ap length (a .warnings) ∙ length-put _ (lent w places) (omega (arith, f .places, enough-places)) in
+      (back-length o out y (omega (arith, at-room .0)) p ∙ out-long, back-length w places z (omega (arith, at-room .1)) q ∙ places-long)
+
+  module _ (e : ℕ) (E : Ends i e (length text)) where
+    abbrev piece : List ℕ
+    piece = take (e - i) (drop i text)
+
+    abbrev X : Call
+    X = feedCall m piece (length (lent o out)) (length (lent w places))
+
+    module _ (r : Fed) (y z : List ℕ) (a : Answered s X r (lent o out) y (lent w places) z) where
+      pub at-turn : r .number ≡ 0 → At c m text e (r .session) (o + r .written) (w + r .warned) out₀ (back o out y) places₀ (back w places z)
+      at-turn n =
+          record {
+            opens = A .opens;
+            within = E .hi;
+            short = A .short;
+            output = A .output;
+            warned = A .warned;
+            stands =
+                subst (λ (t : List ℕ). Stands c m (A .opens) t (r .session) (o + r .written) (w + r .warned) out₀ (back o out y) places₀ (back w places z)) (front-is text i e E)
+                (record {
+                  parts = partsBehind c m (A .opens) (take i text) s (A .stands .parts) (A .stands .led) X refl;
+                  led =
+                      led-turn c m (A .opens) (take i text) s (A .stands .parts) (A .stands .led) piece (piece-short text i e E) (piece-taken text i e E (A .short))
+                      (length (lent o out)) (length (lent w places)) enough enough-places r (lent o out) y (lent w places) z a n;
+                  wrote = wrote-behind c m (A .opens) (take i text) s o w out₀ out places₀ places (A .stands) X refl r y z a;
+                });
+          }
+
+      pub at-fault : (r .number ≡ 0 → ⊥) → Ended c m text (r .number) (r .session) (o + r .written) (w + r .warned) out₀ (back o out y) places₀ (back w places z)
+      at-fault f =
+          record {
+            opens = A .opens;
+            parts = partsBehind c m (A .opens) (take i text) s (A .stands .parts) (A .stands .led) X refl;
+            over =
+                subst (λ (t : List ℕ). Over c m (A .opens) t (r .number) (r .session) (partsBehind c m (A .opens) (take i text) s (A .stands .parts) (A .stands .led) X refl))
+                (ap (λ (t : List ℕ). t ++ drop e text) (front-is text i e E) ∙ take-append-drop e text)
+                (led-fault c m (A .opens) (take i text) s (A .stands .parts) (A .stands .led) piece (piece-short text i e E) (piece-taken text i e E (A .short))
+                (length (lent o out)) (length (lent w places)) enough enough-places r (lent o out) y (lent w places) z a (drop e text) f);
+            wrote = wrote-behind c m (A .opens) (take i text) s o w out₀ out places₀ places (A .stands) X refl r y z a;
+          }
+
+  -- ---- the end of the text
+  pub at-end : length text ≤ i → (r : Fed) (y z : List ℕ) → Answered s (finishCall m (length (lent o out)) (length (lent w places))) r (lent o out) y (lent w places) z
+      → Ended c m text (r .number) (r .session) (o + r .written) (w + r .warned) out₀ (back o out y) places₀ (back w places z)
+  at-end l r y z a =
+      let x : Call = finishCall m (length (lent o out)) (length (lent w places)) in
+      record {
+        opens = A .opens;
+        parts = partsBehind c m (A .opens) (take i text) s (A .stands .parts) (A .stands .led) x refl;
+        over =
+            subst (λ (t : List ℕ). Over c m (A .opens) t (r .number) (r .session) (partsBehind c m (A .opens) (take i text) s (A .stands .parts) (A .stands .led) x refl)) (take-all i text l)
+            (led-end c m (A .opens) (take i text) s (A .stands .parts) (A .stands .led) (omega (arith, length-take i text, A .short)) (length (lent o out)) (length (lent w places)) enough enough-places
+            r (lent o out) y (lent w places) z a);
+        wrote = wrote-behind c m (A .opens) (take i text) s o w out₀ out places₀ places (A .stands) x refl r y z a;
+      }
+
+-- ---- as the code has it: the loop's last call, then what is handed out
+abbrev Hands : Ran → (number written warned : ℕ) → Session → Type 0
+Hands r k o w s = (r .number ≡ k) × (r .written ≡ o) × (r .warned ≡ w) × (r .counts ≡ s .counts)
+
+module _ (c : Config) (m text : List ℕ) (k : ℕ) (s : Session) (o w : ℕ) (out₀ out places₀ places : List ℕ) (v : Ended (configOf (c .kind) (c .timescale)) m text k s o w out₀ out places₀ places) where
+  plain : plainRead (c .kind) true text ≡ reading k (v .parts)
+  plain = over-plain (configOf (c .kind) (c .timescale)) m (v .opens) text k s (v .parts) (v .over)
+
+  parts-are : v .parts ≡ plainRead (c .kind) true text .parts
+  parts-are = sym (ap (λ (r : Reading). r .parts) plain)
+
+  ended-ran : (r : Ran) → Hands r k o w s → RanText c m text r out₀ out places₀ places
+  unfolding emitsFor
+  ended-ran r e =
+      let C = configOf (c .kind) (c .timescale) in
+      let W = v .wrote in
+      record {
+        number = e .0 ∙ sym (ap (λ (x : Reading). x .fault) plain);
+        written = e .1 ∙ W .written ∙ ap (λ (ps : List Part). length (outputOf (emitted C m ps))) parts-are;
+        warned = e .2 ∙ W .warned ∙ ap (λ (ps : List Part). length (placesOf (warningsOf (emitted C m ps)))) parts-are;
+        counts = e .3 ∙ v .over .counts ∙ ap (λ (ps : List Part). countsOf (emitted C m ps)) parts-are;
+        output = W .text ∙ ap (λ (ps : List Part). put (outputOf (emitted C m ps)) out₀) parts-are;
+        warnings = W .warnings ∙ ap (λ (ps : List Part). put (placesOf (warningsOf (emitted C m ps))) places₀) parts-are;
+      }
+
+module _ (b : Session) (m text : List ℕ) (i : ℕ) (s : Session) (o w : ℕ) (out₀ out places₀ places : List ℕ) (A : At (ownOf b) m text i s o w out₀ out places₀ places) where
+  pub text-fault : (e : ℕ) → e ≡ pieceEnd i (length text) → i < length text
+      → (f : Fed) (y z : List ℕ) → Answered s (feedCall m (take (e - i) (drop i text)) (length (lent o out)) (length (lent w places))) f (lent o out) y (lent w places) z
+      → (f .number ≡ 0 → ⊥) → (r : Ran) → Hands r (f .number) (o + f .written) (w + f .warned) (f .session)
+      → RanText (b .config) m text r out₀ (back o out y) places₀ (back w places z)
+  text-fault e p h f y z a n r q =
+      let E = end-of i (length text) e p h in
+      ended-ran (b .config) m text (f .number) (f .session) (o + f .written) (w + f .warned) out₀ (back o out y) places₀ (back w places z)
+      (at-fault (ownOf b) m text i s o w out₀ out places₀ places A e E f y z a n) r q
+
+  pub text-end : (i < length text → ⊥) → (f : Fed) (y z : List ℕ) → Answered s (finishCall m (length (lent o out)) (length (lent w places))) f (lent o out) y (lent w places) z
+      → (r : Ran) → Hands r (f .number) (o + f .written) (w + f .warned) (f .session)
+      → RanText (b .config) m text r out₀ (back o out y) places₀ (back w places z)
+  text-end n f y z a r q =
+      ended-ran (b .config) m text (f .number) (f .session) (o + f .written) (w + f .warned) out₀ (back o out y) places₀ (back w places z)
+      (at-end (ownOf b) m text i s o w out₀ out places₀ places A (omega arith) f y z a) r q

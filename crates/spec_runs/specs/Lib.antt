@@ -1,0 +1,10 @@
+pub mod sequence
+pub mod mapback
+pub mod fed
+pub mod parkruns
+pub mod keptruns
+pub mod one_call
+pub mod atonceruns
+pub mod caption_rows
+pub mod cueplaces
+pub mod cuefates

@@ -1,0 +1,3 @@
+-- A whole text retimed at once.
+pub mod Text
+pub mod Ran

@@ -1,0 +1,10 @@
+// Types that the definitions of atonce name.
+use spec_session::session_counts::Counts;
+
+// What the calls told together.
+pub struct Ran {
+    pub number: u32,
+    pub written: usize,
+    pub warned: usize,
+    pub counts: Counts,
+}

@@ -1,0 +1,6 @@
+pub mod AmountLaws
+pub mod HeldLaws
+pub mod ViewLaws
+pub mod ForeignLaws
+pub mod MarkLaws
+pub mod Rows

@@ -1,0 +1,5 @@
+pub mod session_counts
+pub mod kinds
+pub mod session_state
+pub mod session_lines
+pub mod session

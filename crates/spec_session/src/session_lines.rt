@@ -1,0 +1,22 @@
+// Types that the definitions of lines name.
+use crate::session_counts::Counts;
+use spec_format::ass_columns::Columns;
+
+// What a line told. `skip`: the bytes of a BOM before it; `added`: it joins the open block.
+pub struct Taken {
+    pub number: u32,
+    pub skip: usize,
+    pub added: bool,
+    pub counts: Counts,
+    pub columns: Columns,
+    pub written: usize,
+    pub warned: usize,
+}
+
+// What the end of a block told.
+pub struct Ended {
+    pub number: u32,
+    pub counts: Counts,
+    pub written: usize,
+    pub warned: usize,
+}

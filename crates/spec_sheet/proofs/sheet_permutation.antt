@@ -1,0 +1,4 @@
+pub mod BitLaws
+pub mod NamingLaws
+pub mod NamedLaws
+pub mod Rows

@@ -1,0 +1,5 @@
+pub mod order
+pub mod checked_blocks
+pub mod sheet_frames
+pub mod sheet_permutation
+pub mod sheet

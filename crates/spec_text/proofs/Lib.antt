@@ -1,0 +1,4 @@
+pub mod utf8
+pub mod whitespace
+pub mod pattern
+pub mod unicode

@@ -1,9 +1,0 @@
--- Laws of times as text.
-pub mod Pad
-pub mod Written
-pub mod Reading
-pub mod RoundTrip
-pub mod ReadFree
-mod Marks
-mod Values
-mod Examples

@@ -1,2 +1,0 @@
-pub mod StructArray
-pub mod ThroughLaws

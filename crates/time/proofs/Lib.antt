@@ -1,6 +1,0 @@
--- Laws of kinds, conversions and drift.
-pub mod Scale
-pub mod Conversions
-pub mod Drift
-pub mod Limits
-mod Examples

@@ -1,1 +1,0 @@
-// Whole texts of each kind, as definitions. There is no code here.
