@@ -1,4 +1,5 @@
 pub mod HitLaws
+pub mod GroupedLaws
 pub mod DecideLaws
 pub mod FateLaws
 pub mod OnlyFate

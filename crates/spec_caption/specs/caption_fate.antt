@@ -1,5 +1,6 @@
 -- One caption against the map, and what a text's parts become through it.
 pub mod Hit
+pub mod Grouped
 pub mod Lost
 pub mod Decide
 pub mod Fates
