@@ -1,5 +1,5 @@
 use mathlib.Core.Path.{refl}
-use Rattle.spec_map.specs.segment.Segment.{segmentsOf}
+use Rattle.spec_caption.specs.caption_fate.Grouped.{segmentsBy}
 use Rattle.spec_format.proofs.ass_line.SayLaws.{line-short, line-few, line-section, line-events, line-other}
 use borrow.Author.Needs.{needs}
 use Rattle.ass_line.proofs.caption.line.Statement.{statement}
@@ -19,13 +19,13 @@ refused-requires : tie.Need-refused-requires
 refused-requires c κs = search needs
 
 returns : tie.Need-returns
-returns c = let a = c .before .before .before .before .before .before .args in line-short (a .config) (segmentsOf (a .map .now)) (a .columns) (a .n) (a .text .now) _ (a .out .now) _ (a .warnings .now) _ (c .before .if1 .taken) refl refl (c .refused .ensures)
+returns c = let a = c .before .before .before .before .before .before .before .args in line-short (a .config) (segmentsBy (a .groups .now) (a .map .now)) (a .columns) (a .n) (a .text .now) _ (a .out .now) _ (a .warnings .now) _ (c .before .if1 .taken) refl refl (c .refused .ensures)
 
 refused-requires-2 : tie.Need-refused-requires-2
 refused-requires-2 c κs = search needs
 
 returns-2 : tie.Need-returns-2
-returns-2 c = let a = c .before .before .before .before .before .before .before .args in line-few (a .config) (segmentsOf (a .map .now)) (a .columns) (a .n) (a .text .now) _ (a .out .now) _ (a .warnings .now) _ (c .before .before .if1 .left) (c .before .if2 .taken) refl refl (c .refused2 .ensures)
+returns-2 c = let a = c .before .before .before .before .before .before .before .before .args in line-few (a .config) (segmentsBy (a .groups .now) (a .map .now)) (a .columns) (a .n) (a .text .now) _ (a .out .now) _ (a .warnings .now) _ (c .before .before .if1 .left) (c .before .if2 .taken) refl refl (c .refused2 .ensures)
 
 text-of-requires : tie.Need-text-of-requires
 text-of-requires c κs = search needs
@@ -49,7 +49,7 @@ same-length : tie.Need-same-length
 same-length c = search needs
 
 returns-3 : tie.Need-returns-3
-returns-3 c = let a = c .before .before .before .before .before .before .before .before .before .before .before .before .before .before .before .before .args in line-section (a .config) (segmentsOf (a .map .now)) (a .columns) (a .n) (a .text .now) _ (a .out .now) _ (a .warnings .now) _ (c .before .before .before .before .before .before .before .before .before .before .before .if1 .left) (c .before .before .before .before .before .before .before .before .before .before .if2 .left) _ _ _ (c .before .before .before .before .before .before .before .before .before .text-of .ensures) (c .before .before .before .before .before .before .before .before .trimmed .ensures) (c .before .before .before .before .before .before .before .is-section .ensures) _ _ (c .before .before .before .before .before .before .if3 .taken) (c .before .before .before .before .before .names-events .ensures) (c .before .before .before .before .in-section .ensures) refl (c .before .before .stayed .ensures)
+returns-3 c = let a = c .before .before .before .before .before .before .before .before .before .before .before .before .before .before .before .before .before .args in line-section (a .config) (segmentsBy (a .groups .now) (a .map .now)) (a .columns) (a .n) (a .text .now) _ (a .out .now) _ (a .warnings .now) _ (c .before .before .before .before .before .before .before .before .before .before .before .if1 .left) (c .before .before .before .before .before .before .before .before .before .before .if2 .left) _ _ _ (c .before .before .before .before .before .before .before .before .before .text-of .ensures) (c .before .before .before .before .before .before .before .before .trimmed .ensures) (c .before .before .before .before .before .before .before .is-section .ensures) _ _ (c .before .before .before .before .before .before .if3 .taken) (c .before .before .before .before .before .names-events .ensures) (c .before .before .before .before .in-section .ensures) refl (c .before .before .stayed .ensures)
 
 event-line-requires : tie.Need-event-line-requires
 event-line-requires c κs = search needs
@@ -61,7 +61,7 @@ same-length-3 : tie.Need-same-length-3
 same-length-3 c = search needs
 
 returns-4 : tie.Need-returns-4
-returns-4 c = let a = c .before .before .before .before .before .before .before .before .before .before .before .before .before .before .before .before .before .before .args in line-events (a .config) (segmentsOf (a .map .now)) (a .columns) (a .n) (a .text .now) _ (a .out .now) _ (a .warnings .now) _ (c .before .before .before .before .before .before .before .before .before .before .before .before .before .if1 .left) (c .before .before .before .before .before .before .before .before .before .before .before .before .if2 .left) _ _ _ (c .before .before .before .before .before .before .before .before .before .before .before .text-of .ensures) (c .before .before .before .before .before .before .before .before .before .before .trimmed .ensures) (c .before .before .before .before .before .before .before .before .before .is-section .ensures) (c .before .before .before .before .before .before .before .before .if3 .left) _ (c .before .before .before .before .before .before .before .if4 .taken) (c .before .before .before .before .event-line .ensures)
+returns-4 c = let a = c .before .before .before .before .before .before .before .before .before .before .before .before .before .before .before .before .before .before .before .args in line-events (a .config) (segmentsBy (a .groups .now) (a .map .now)) (a .columns) (a .n) (a .text .now) _ (a .out .now) _ (a .warnings .now) _ (c .before .before .before .before .before .before .before .before .before .before .before .before .before .if1 .left) (c .before .before .before .before .before .before .before .before .before .before .before .before .if2 .left) _ _ _ (c .before .before .before .before .before .before .before .before .before .before .before .text-of .ensures) (c .before .before .before .before .before .before .before .before .before .before .trimmed .ensures) (c .before .before .before .before .before .before .before .before .before .is-section .ensures) (c .before .before .before .before .before .before .before .before .if3 .left) _ (c .before .before .before .before .before .before .before .if4 .taken) (c .before .before .before .before .event-line .ensures)
 
 stayed-requires-2 : tie.Need-stayed-requires-2
 stayed-requires-2 c κs = search needs
@@ -70,7 +70,7 @@ same-length-4 : tie.Need-same-length-4
 same-length-4 c = search needs
 
 returns-5 : tie.Need-returns-5
-returns-5 c = let a = c .before .before .before .before .before .before .before .before .before .before .before .before .before .before .before .args in line-other (a .config) (segmentsOf (a .map .now)) (a .columns) (a .n) (a .text .now) _ (a .out .now) _ (a .warnings .now) _ (c .before .before .before .before .before .before .before .before .before .before .if1 .left) (c .before .before .before .before .before .before .before .before .before .if2 .left) _ _ _ (c .before .before .before .before .before .before .before .before .text-of .ensures) (c .before .before .before .before .before .before .before .trimmed .ensures) (c .before .before .before .before .before .before .is-section .ensures) (c .before .before .before .before .before .if3 .left) (c .before .before .before .before .if4 .left) refl (c .before .before .stayed2 .ensures)
+returns-5 c = let a = c .before .before .before .before .before .before .before .before .before .before .before .before .before .before .before .before .args in line-other (a .config) (segmentsBy (a .groups .now) (a .map .now)) (a .columns) (a .n) (a .text .now) _ (a .out .now) _ (a .warnings .now) _ (c .before .before .before .before .before .before .before .before .before .before .if1 .left) (c .before .before .before .before .before .before .before .before .before .if2 .left) _ _ _ (c .before .before .before .before .before .before .before .before .text-of .ensures) (c .before .before .before .before .before .before .before .trimmed .ensures) (c .before .before .before .before .before .before .is-section .ensures) (c .before .before .before .before .before .if3 .left) (c .before .before .before .before .if4 .left) refl (c .before .before .stayed2 .ensures)
 
 pub line-spec : {M : Type 1} → statement M
 line-spec =
