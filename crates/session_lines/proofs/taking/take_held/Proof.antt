@@ -58,7 +58,7 @@ returns c =
     let a = st .args in
     let n = c .before .before .before .before .before .before .any-line in
     let k = c .before .before .before .before .before .before .before .before .before .bom-size .result in
-    take-fault (a .config) (segmentsBy (a .groups .now) (a .map .now)) (a .columns) (a .counts) (n .result) (a .out .now) (n .last .1 .1 .1 .1 .1 .1 .1 .1 .0) (a .warnings .now) (n .last .1 .1 .1 .1 .1 .1 .1 .1 .1 .0) (stateOf (a .config .kind) (a .columns) (take (a .s) (a .held .now))) (a .n) (a .held .now) (a .s) k (b .0) (n .ensures) (c .if1 .taken)
+    take-fault (a .config) (segmentsBy (a .groups .now) (a .map .now)) (a .columns) (a .counts) (n .result) (a .out .now) (n .last .1 .1 .1 .1 .1 .1 .1 .1 .1 .0) (a .warnings .now) (n .last .1 .1 .1 .1 .1 .1 .1 .1 .1 .1 .0) (stateOf (a .config .kind) (a .columns) (take (a .s) (a .held .now))) (a .n) (a .held .now) (a .s) k (b .0) (n .ensures) (c .if1 .taken)
 
 same-length-3 : tie.Need-same-length-3
 same-length-3 c = search needs
@@ -73,7 +73,7 @@ returns-2 c =
     let a = st .args in
     let n = c .before .before .before .before .before .before .before .any-line in
     let k = c .before .before .before .before .before .before .before .before .before .before .bom-size .result in
-    take-plain (a .config) (segmentsBy (a .groups .now) (a .map .now)) (a .columns) (a .counts) (n .result) (a .out .now) (n .last .1 .1 .1 .1 .1 .1 .1 .1 .0) (a .warnings .now) (n .last .1 .1 .1 .1 .1 .1 .1 .1 .1 .0) (stateOf (a .config .kind) (a .columns) (take (a .s) (a .held .now))) (a .n) (a .held .now) (a .s) k (b .0) (n .ensures) (c .if2 .taken)
+    take-plain (a .config) (segmentsBy (a .groups .now) (a .map .now)) (a .columns) (a .counts) (n .result) (a .out .now) (n .last .1 .1 .1 .1 .1 .1 .1 .1 .1 .0) (a .warnings .now) (n .last .1 .1 .1 .1 .1 .1 .1 .1 .1 .1 .0) (stateOf (a .config .kind) (a .columns) (take (a .s) (a .held .now))) (a .n) (a .held .now) (a .s) k (b .0) (n .ensures) (c .if2 .taken)
 
 put-bom-requires : tie.Need-put-bom-requires
 put-bom-requires c κs = search needs
@@ -84,7 +84,7 @@ behind-bom-requires c κs =
     let a = st .args in
     let n = c .before .before .before .before .before .before .before .before .before .before .before .any-line in
     let k = c .before .before .before .before .before .before .before .before .before .before .before .before .before .before .bom-size .result in
-    let f = behind-room (a .config) (segmentsBy (a .groups .now) (a .map .now)) (a .columns) (a .counts) (n .result) (a .out .now) (n .last .1 .1 .1 .1 .1 .1 .1 .1 .0) (a .warnings .now) (n .last .1 .1 .1 .1 .1 .1 .1 .1 .1 .0) (stateOf (a .config .kind) (a .columns) (take (a .s) (a .held .now))) (a .n) (a .held .now) (a .s) k (n .ensures) (n .kept .1 .1 .1 .1 .1 .1 .1 .1 .0) (n .kept .1 .1 .1 .1 .1 .1 .1 .1 .1 .0) in
+    let f = behind-room (a .config) (segmentsBy (a .groups .now) (a .map .now)) (a .columns) (a .counts) (n .result) (a .out .now) (n .last .1 .1 .1 .1 .1 .1 .1 .1 .1 .0) (a .warnings .now) (n .last .1 .1 .1 .1 .1 .1 .1 .1 .1 .1 .0) (stateOf (a .config .kind) (a .columns) (take (a .s) (a .held .now))) (a .n) (a .held .now) (a .s) k (n .ensures) (n .kept .1 .1 .1 .1 .1 .1 .1 .1 .1 .0) (n .kept .1 .1 .1 .1 .1 .1 .1 .1 .1 .1 .0) in
     omega (arith, f, st, c .before .before .before .before .if2 .left)
 
 same-length-5 : tie.Need-same-length-5
@@ -102,7 +102,7 @@ returns-3 c =
     let n = c .before .before .before .before .before .before .before .before .before .before .before .before .any-line in
     let k = c .before .before .before .before .before .before .before .before .before .before .before .before .before .before .before .bom-size .result in
     let e = c .behind-bom .ensures in
-    take-behind (a .config) (segmentsBy (a .groups .now) (a .map .now)) (a .columns) (a .counts) (n .result) (a .out .now) (n .last .1 .1 .1 .1 .1 .1 .1 .1 .0) (a .warnings .now) (n .last .1 .1 .1 .1 .1 .1 .1 .1 .1 .0) (stateOf (a .config .kind) (a .columns) (take (a .s) (a .held .now))) (a .n) (a .held .now) (a .s) k _ _ (b .0) (n .ensures) (c .before .before .before .before .before .before .if1 .left) (c .before .before .before .before .before .if2 .left) (omega (arith, v, st .pre .0 .room-long)) (c .before .before .before .put-bom .ensures) e
+    take-behind (a .config) (segmentsBy (a .groups .now) (a .map .now)) (a .columns) (a .counts) (n .result) (a .out .now) (n .last .1 .1 .1 .1 .1 .1 .1 .1 .1 .0) (a .warnings .now) (n .last .1 .1 .1 .1 .1 .1 .1 .1 .1 .1 .0) (stateOf (a .config .kind) (a .columns) (take (a .s) (a .held .now))) (a .n) (a .held .now) (a .s) k _ _ (b .0) (n .ensures) (c .before .before .before .before .before .before .if1 .left) (c .before .before .before .before .before .if2 .left) (omega (arith, v, st .pre .0 .room-long)) (c .before .before .before .put-bom .ensures) e
 
 pub take-held-spec : {M : Type 1} → statement M
 take-held-spec =
