@@ -50,10 +50,6 @@ use Rattle.spec_session.specs.session_text.Answer.{textSession}
 use Rattle.spec_session.specs.session_text.Lined.{Closed, LineEnd, Joins, lineStart, startState, Starts, linedOf, Lining, Onto, textRun, Ends}
 use Rattle.spec_session.proofs.session_text.StartLaws.{run-line, run-open, run-long, own, ready, L, text-few, start-within, start-block, start-first, start-run, ran-ok, ran-room, ran-slow}
 
--- the same numbers under another name
-pub lining-as : (h : Head) (m text : List ℕ) (x r : Lined) (out₀ out places₀ places : List ℕ) → r ≡ x → Lining h m text x out₀ out places₀ places → Lining h m text r out₀ out places₀ places
-lining-as h m text x r out₀ out places₀ places e L = subst (λ (y : Lined). Lining h m text y out₀ out places₀ places) (sym e) L
-
 -- ---- a BOM stands only before a first line
 later-none : (n : ℕ) (l : List ℕ) → eqb n 0 ≡ false → bomSize n l ≡ 0
 unfolding bomSize
@@ -349,8 +345,22 @@ module _ (h : Head) (m text : List ℕ) (at : Lined) (out₀ out places₀ place
             warnings = v .warnings ∙ ap (λ (x : List Part). put (placesOf (warningsOf (emitted c m x))) places₀) (append-nil (A .parts));
           }
 
-      line-wrote : (told .number ≡ 0 → ⊥) → Wrote c m (A .parts) (at .written) (at .warned) out₀ (back (at .written) out y) places₀ (back (at .warned) places z)
-      line-wrote f = stays-by (takeLine Q (A .state) (at .lines) line) done f
+      pub line-stays : (told .number ≡ 0 → ⊥) → Lining h m text at out₀ (back (at .written) out y) places₀ (back (at .warned) places z)
+      line-stays f =
+          record {
+            starts = A .starts;
+            from = A .from;
+            within = A .within;
+            order = A .order;
+            first = A .first;
+            state = A .state;
+            parts = A .parts;
+            ran = A .ran;
+            columns = A .columns;
+            block = A .block;
+            counts = A .counts;
+            wrote = stays-by (takeLine Q (A .state) (at .lines) line) done f;
+          }
 
       line-stops : (x : Says State) → Done c m (A .state) line x (at .counts) told (lent (at .written) out) y (lent (at .warned) places) z → (told .number ≡ 0 → ⊥)
           → lineEnd Q (at .lines) (A .parts) x ≡ stopped (told .number) (A .parts)
@@ -373,7 +383,7 @@ module _ (h : Head) (m text : List ℕ) (at : Lined) (out₀ out places₀ place
       ends-fault f r q =
           rw q
           (subst (λ (x : Run State). Ends h m text x (linedOf (told .number) (at .lines) (at .counts) (at .columns) (at .begin) (at .place) (at .written) (at .warned)) out₀ (back (at .written) out y) places₀ (back (at .warned) places z))
-          (sym (fault-run f)) (record { number = refl; counts = A .counts; wrote = line-wrote f; keeps = tt }))
+          (sym (fault-run f)) (record { number = refl; counts = A .counts; wrote = stays-by (takeLine Q (A .state) (at .lines) line) done f; keeps = tt }))
 
   -- ---- no line more
   abbrev rest : List ℕ

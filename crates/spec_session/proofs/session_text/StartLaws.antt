@@ -204,9 +204,6 @@ module _ (h : Head) (m text : List ℕ) (out places : ℕ) (S : Starts h m text 
   held-size : length held ≡ h .«held_len»
   held-size = length-take-le (h .«held_len») text (S .long)
 
-  pub text-short : h .taken + (length text - h .«held_len») ≤ mostTaken
-  text-short = S .few
-
   pub text-few : length text ≤ mostTaken
   text-few = omega (arith, own .held-few, held-size, S .few, S .long)
 
@@ -268,4 +265,3 @@ module _ (h : Head) (m text : List ℕ) (out places : ℕ) (S : Starts h m text 
   ran-slow xs =
       run-slow (h .config .kind) L (h .lines) (h .lines + begin) startRun xs start-ok
       (omega (arith, parts-none, lawful-pending (h .config .kind) (own .kind-known) (startState h text)))
-

@@ -1,11 +1,11 @@
 -- What a feed answers whose new bytes stand behind the held ones: refused, ended by a fault, or going on.
 use mathlib.Core.Path.{_≡_, refl, sym, ap, ap₂, subst, _∙_}
-use mathlib.Core.Bool.{Bool, true, false, _||_}
+use mathlib.Core.Bool.{Bool, true, false}
 use mathlib.Core.List.{List, [], _++_}
 use Prim.Native.Nat.{ℕ, _+_, _-_, _*_, _/_, _≤_, _<_}
 use native.Mathlib.Omega.{arith}
-use lib.Dec.{eqb, ltb}
-use lib.ListN.{length, take, drop, length-append, length-drop, drop-of-length-le}
+use lib.Dec.{ltb}
+use lib.ListN.{length, take, length-drop, drop-of-length-le}
 use borrow.Author.Tests.{ltb-false, eqb-false, lt-ltb, le-ltb}
 use Rattle.spec_base.specs.base.Limits.{mostTaken}
 use Rattle.spec_base.specs.base.Put.{put}
@@ -13,10 +13,9 @@ use Rattle.spec_base.proofs.base.Laws.{or-left, or-right}
 use Rattle.spec_base.proofs.base.PutLaws.{put-nil}
 use Rattle.spec_text.specs.text.Line.{concat}
 use Rattle.spec_map.specs.segment.Segment.{mapBad}
-use Rattle.spec_caption.specs.caption_fate.Says.{Part}
 use Rattle.spec_caption.specs.caption_fate.Emit.{outputOf, warningsOf, placesOf}
 use Rattle.spec_format.specs.declared.ass_columns.Columns.{Columns}
-use Rattle.spec_session.specs.session_counts.Machine.{Run, going, stopped, run}
+use Rattle.spec_session.specs.session_counts.Machine.{Run, going, stopped}
 use Rattle.spec_session.specs.session_counts.Session.{Gate, refuse, admit, gate, foreign, respond, settle, resume}
 use Rattle.spec_session.specs.session_counts.Session as model
 use Rattle.spec_session.proofs.session_counts.Emits.{output-none}
@@ -30,8 +29,8 @@ use Rattle.spec_session.proofs.session.RunLaws.{places-none}
 use Rattle.spec_session.proofs.session.CallLaws.{gate-passed}
 use Rattle.spec_session.specs.declared.session_text.TextFed.{TextFed}
 use Rattle.spec_session.specs.declared.session_text.Lined.{Lined}
-use Rattle.spec_session.specs.session_text.Answer.{textHeld, textNew, textSession, textBad, textGate, textAnswer, textHead, textKept, headBy, keptBy, TextTells, TextAnswered}
-use Rattle.spec_session.specs.session_text.Lined.{headRefusal, Starts, textRun, Keeps, Ends, unchangedText, endedText, goingText}
+use Rattle.spec_session.specs.session_text.Answer.{textNew, textSession, textBad, textGate, textAnswer, textHead, textKept, headBy, keptBy, TextTells, TextAnswered}
+use Rattle.spec_session.specs.session_text.Lined.{headRefusal, Starts, textRun, Ends, unchangedText, endedText, goingText}
 
 -- ---- 16, test by test
 module _ (b : Bool) (h : Head) (n o w : ℕ) where
@@ -45,6 +44,10 @@ module _ (b : Bool) (h : Head) (n o w : ℕ) where
     bad-short p = rw (e, lt-ltb n (h .«held_len») p)
 
     module _ (p : h .«held_len» ≤ n) where
+      pub bad-much : mostTaken < n - h .«held_len» → true ≡ textBad b h n o w
+      unfolding textBad
+      bad-much q = rw (e, le-ltb n (h .«held_len») p, lt-ltb mostTaken (h .taken + (n - h .«held_len»)) (omega arith))
+
       pub bad-taken : mostTaken < h .taken + (n - h .«held_len») → true ≡ textBad b h n o w
       unfolding textBad
       bad-taken q = rw (e, le-ltb n (h .«held_len») p, lt-ltb mostTaken (h .taken + (n - h .«held_len»)) q)
@@ -153,8 +156,7 @@ module _ (h : Head) (m text : List ℕ) (b : Bool) (out places held : List ℕ) 
     admits : textGate h m text b (length out) (length places) ≡ admit
     unfolding textGate
     admits =
-        let q = passed .3 in
-        ap (gate (foreign kit (textSession h text)) (h .ended) (mapBad m)) q
+        ap (gate (foreign kit (textSession h text)) (h .ended) (mapBad m)) (passed .3)
         ∙ ap (λ (x : Bool). gate (foreign kit (textSession h text)) (h .ended) x false) (passed .2)
         ∙ ap (λ (x : Bool). gate (foreign kit (textSession h text)) x false false) (passed .1)
         ∙ ap (λ (x : Bool). gate x false false false) (passed .0)
