@@ -1,4 +1,4 @@
-use mathlib.Core.Path.{_≡_, ap, _∙_}
+use mathlib.Core.Path.{_≡_, refl, ap, _∙_}
 use mathlib.Core.List.{List}
 use Prim.Native.Nat.{ℕ}
 use native.Mathlib.Omega.{arith}
@@ -6,7 +6,7 @@ use lib.ListN.{length, take}
 use Rattle.spec_text.specs.text.Line.{concat}
 use Rattle.spec_session.specs.session_counts.Cut.{closedLines}
 use Rattle.spec_session.specs.declared.session_state.Head.{Head}
-use Rattle.spec_session.specs.session_text.Lined.{lineStart, Starts}
+use Rattle.spec_session.specs.session_text.Lined.{lineStart}
 use Rattle.spec_session.proofs.session_text.TextLaws.{text-refused, text-starts, text-ended, text-goes, begin-within}
 use borrow.Author.Needs.{needs}
 use Rattle.session_text.proofs.taking.take_text.Statement.{statement}
@@ -48,13 +48,22 @@ run-lines-requires : tie.Need-run-lines-requires
 run-lines-requires c κs = (search text-starts depth 12, search start-is depth 12)
 
 sub-taken : tie.Need-sub-taken
-sub-taken c = search needs
+sub-taken c =
+    let A = c .before .before .before .before .before .before .before .before .before .before .before .before .before .before .before .before .before .args in
+    let S = text-starts (A .head) (A .map .now) (A .text .now) (A .bad) (A .out .now) (A .warnings .now) _ _ _ (c .before .before .before .before .before .before .before .before .before .before .before .front .ensures) (c .before .before .before .before .before .before .before .before .before .before .before .before .text-bad .ensures) (c .before .before .before .before .before .before .before .before .before .before .refusal .ensures) (c .before .before .before .before .before .before .before .before .before .if1 .left) in
+    S .long
 
 cast-taken : tie.Need-cast-taken
-cast-taken c = search needs
+cast-taken c =
+    let A = c .before .before .before .before .before .before .before .before .before .before .before .before .before .before .before .before .before .args in
+    let S = text-starts (A .head) (A .map .now) (A .text .now) (A .bad) (A .out .now) (A .warnings .now) _ _ _ (c .before .before .before .before .before .before .before .before .before .before .before .front .ensures) (c .before .before .before .before .before .before .before .before .before .before .before .before .text-bad .ensures) (c .before .before .before .before .before .before .before .before .before .before .refusal .ensures) (c .before .before .before .before .before .before .before .before .before .if1 .left) in
+    omega (arith, S .few)
 
 add-taken : tie.Need-add-taken
-add-taken c = search needs
+add-taken c =
+    let A = c .before .before .before .before .before .before .before .before .before .before .before .before .before .before .before .before .before .before .args in
+    let S = text-starts (A .head) (A .map .now) (A .text .now) (A .bad) (A .out .now) (A .warnings .now) _ _ _ (c .before .before .before .before .before .before .before .before .before .before .before .before .front .ensures) (c .before .before .before .before .before .before .before .before .before .before .before .before .before .text-bad .ensures) (c .before .before .before .before .before .before .before .before .before .before .before .refusal .ensures) (c .before .before .before .before .before .before .before .before .before .before .if1 .left) in
+    omega (arith, S .few)
 
 over-requires : tie.Need-over-requires
 over-requires c κs = search needs
@@ -66,10 +75,16 @@ same-length-2 : tie.Need-same-length-2
 same-length-2 c = search needs
 
 returns-2 : tie.Need-returns-2
-returns-2 c = search text-ended depth 12
+returns-2 c =
+    let A = c .before .before .before .before .before .before .before .before .before .before .before .before .before .before .before .before .before .before .before .before .before .before .args in
+    let R = c .before .before .before .before .before .before .before .before .before .before .run-lines in
+    text-ended (A .head) (A .map .now) (A .text .now) (A .bad) (A .out .now) (A .warnings .now) _ _ _ (c .before .before .before .before .before .before .before .before .before .before .before .before .before .before .before .before .front .ensures) (c .before .before .before .before .before .before .before .before .before .before .before .before .before .before .before .before .before .text-bad .ensures) (c .before .before .before .before .before .before .before .before .before .before .before .before .before .before .before .refusal .ensures) (c .before .before .before .before .before .before .before .before .before .before .before .before .before .before .if1 .left) (R .result) _ _ (R .ensures) _ refl (c .before .if2 .taken) _ (c .over .ensures)
 
 going-on-requires : tie.Need-going-on-requires
-going-on-requires c κs = search begin-within depth 12
+going-on-requires c κs =
+    let A = c .before .before .before .before .before .before .before .before .before .before .before .before .before .before .before .before .before .before .before .before .before .args in
+    let R = c .before .before .before .before .before .before .before .before .before .run-lines in
+    begin-within (A .head) (A .map .now) (A .text .now) (A .bad) (A .out .now) (A .warnings .now) _ _ _ (c .before .before .before .before .before .before .before .before .before .before .before .before .before .before .before .front .ensures) (c .before .before .before .before .before .before .before .before .before .before .before .before .before .before .before .before .text-bad .ensures) (c .before .before .before .before .before .before .before .before .before .before .before .before .before .before .refusal .ensures) (c .before .before .before .before .before .before .before .before .before .before .before .before .before .if1 .left) (R .result) _ _ (R .ensures) _ refl (c .if2 .left)
 
 same-length-3 : tie.Need-same-length-3
 same-length-3 c = search needs
@@ -78,7 +93,10 @@ same-length-4 : tie.Need-same-length-4
 same-length-4 c = search needs
 
 returns-3 : tie.Need-returns-3
-returns-3 c = search text-goes depth 12
+returns-3 c =
+    let A = c .before .before .before .before .before .before .before .before .before .before .before .before .before .before .before .before .before .before .before .before .before .before .args in
+    let R = c .before .before .before .before .before .before .before .before .before .before .run-lines in
+    text-goes (A .head) (A .map .now) (A .text .now) (A .bad) (A .out .now) (A .warnings .now) _ _ _ (c .before .before .before .before .before .before .before .before .before .before .before .before .before .before .before .before .front .ensures) (c .before .before .before .before .before .before .before .before .before .before .before .before .before .before .before .before .before .text-bad .ensures) (c .before .before .before .before .before .before .before .before .before .before .before .before .before .before .before .refusal .ensures) (c .before .before .before .before .before .before .before .before .before .before .before .before .before .before .if1 .left) (R .result) _ _ (R .ensures) _ refl (c .before .if2 .left) _ (c .going-on .ensures)
 
 pub take-text-spec : {M : Type 1} → statement M
 take-text-spec =
