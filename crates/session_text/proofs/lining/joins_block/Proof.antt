@@ -1,7 +1,7 @@
-use Rattle.one_call.proofs.LineLaws.{joins-not, joins-yes}
+use Rattle.spec_session.proofs.session_text.LineLaws.{joins-not, joins-yes}
 use borrow.Author.Needs.{needs}
-use Rattle.one_call.proofs.lining.joins_block.Statement.{statement}
-use Rattle.one_call.proofs.lining.joins_block.Tie as tie
+use Rattle.session_text.proofs.lining.joins_block.Statement.{statement}
+use Rattle.session_text.proofs.lining.joins_block.Tie as tie
 
 returns : tie.Need-returns
 returns c = search joins-not

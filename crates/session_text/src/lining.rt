@@ -1,29 +1,19 @@
 // The lines of a text, taken where they stand in it.
 use ass_columns::Columns;
-use caption_fate::Config;
 use session_counts::Counts;
-use session_state::Session;
+use session_state::Head;
+use spec_session::session_text::Lined;
 ghost use mathlib.Core.Path.{_≡_};
 ghost use mathlib.Core.Bool.{true, cond};
-ghost use Prim.Native.Nat.{_≤_};
+ghost use Prim.Native.Nat.{_≤_, _+_};
+ghost use lib.Dec.{ltb};
 ghost use lib.ListN.{length};
-ghost use Rattle.spec_base.specs.base.Limits.{mostTaken};
-ghost use Rattle.one_call.specs.Lined.{Closed, begunOf, linedOf, Joins, Onto, Lining, Resumes, Sized};
-
-// How far the lines have led: `place` bytes are taken, the open block begins at `begin`.
-pub struct Lined {
-    pub lines: u32,
-    pub counts: Counts,
-    pub columns: Columns,
-    pub begin: usize,
-    pub place: usize,
-    pub written: usize,
-    pub warned: usize,
-}
+ghost use Rattle.spec_base.specs.base.Limits.{mostTaken, mostLine};
+ghost use Rattle.spec_session.specs.session_text.Lined.{LineEnd, Joins, lineStart, Starts, linedOf, Onto, textRun, Ends};
 
 // Where the line that begins at i ends, behind its LF; 0 where no LF ends it within 4,096 bytes.
 fn line_end(text: &[u8], i: usize) -> usize
-    ensures { λ r. ⌜ ((r ≡ 0 → ⊥) → Closed (now (text .entry)) i r) ⌝ }
+    ensures { λ r. ⌜ LineEnd (now (text .entry)) i r ⌝ }
 {
     let line = base::front(base::rest(text, i), base::MOST_LINE);
     let k = text::line_length(line);
@@ -46,11 +36,31 @@ fn block_begin(added: bool, b: usize, e: usize) -> usize
     e
 }
 
+// The number where no LF ends a line any more and k bytes are left: 19 where they are too many.
+fn rest_number(k: usize) -> u32
+    ensures { λ r. ⌜ r ≡ cond (ltb mostLine k) 19 0 ⌝ }
+{
+    if base::MOST_LINE < k {
+        return 19;
+    }
+    0
+}
+
 // How far the lines have led, of its numbers.
-fn led_to(n: u32, counts: Counts, columns: Columns, b: usize, i: usize, o: usize, w: usize) -> Lined
-    ensures { λ r. ⌜ r ≡ linedOf n counts columns b i o w ⌝ }
+fn led_to(
+    number: u32,
+    n: u32,
+    counts: Counts,
+    columns: Columns,
+    b: usize,
+    i: usize,
+    o: usize,
+    w: usize,
+) -> Lined
+    ensures { λ r. ⌜ r ≡ linedOf number n counts columns b i o w ⌝ }
 {
     Lined {
+        number,
         lines: n,
         counts,
         columns,
@@ -85,7 +95,7 @@ fn joins_block(kind: u32, n: u32, size: usize, line: &[u8]) -> bool
 
 // Passes over the lines from i on that only join the open block, which begins at b.
 fn pass_joins(kind: u32, lines: u32, b: usize, begin: usize, text: &[u8]) -> Passed
-    requires { ⌜ (lines ≤ begin) × (b ≤ begin) × (begin ≤ length (now text)) × (length (now text) ≤ mostTaken) ⌝ }
+    requires { ⌜ (lines ≤ mostTaken + begin) × (b ≤ begin) × (begin ≤ length (now text)) × (length (now text) ≤ mostTaken) ⌝ }
     ensures { λ r. ⌜ begin ≤ r .place ⌝ }
     ensures { λ r. ⌜ Onto kind b (now (text .entry)) lines begin (r .lines) (r .place) ⌝ }
 {
@@ -106,30 +116,32 @@ fn pass_joins(kind: u32, lines: u32, b: usize, begin: usize, text: &[u8]) -> Pas
     Passed { lines: n, place: i }
 }
 
-// The lines that end with LF, up to one that is too long or at fault.
+// All lines of a text: the held unfinished one begins at `start`. They end with a fault, or with what is unfinished.
 pub fn run_lines(
-    config: Config,
+    head: Head,
     map: &[u64],
-    start: Lined,
+    start: usize,
     text: &[u8],
     out: &mut [u8],
     warnings: &mut [u64],
 ) -> Lined
-    requires { ⌜ Lining config (now map) (now text) start (now out) (now out) (now warnings) (now warnings) ⌝ }
-    ensures { λ r. ⌜ Lining config (now (map .entry)) (now (text .entry)) r (now (out .entry)) (now (out .exit)) (now (warnings .entry)) (now (warnings .exit)) ⌝ }
+    requires { ⌜ Starts head (now map) (now text) (length (now out)) (length (now warnings)) × (start ≡ lineStart head (now text)) ⌝ }
+    ensures { λ r. ⌜ Ends head (now (map .entry)) (now (text .entry)) (textRun head (now (text .entry))) r (now (out .entry)) (now (out .exit)) (now (warnings .entry)) (now (warnings .exit)) ⌝ }
 {
-    let mut counts = start.counts;
-    let mut columns = start.columns;
-    let mut n = start.lines;
-    let mut b = start.begin;
-    let mut i = start.place;
-    let mut o = start.written;
-    let mut w = start.warned;
+    let mut counts = head.counts;
+    let mut columns = head.columns;
+    let mut n = head.lines;
+    let mut b: usize = 0;
+    let mut i = start;
+    let mut o: usize = 0;
+    let mut w: usize = 0;
     while i < text.len() {
+        let config = head.config;
         let p = pass_joins(config.kind, n, b, i, text);
         let e = line_end(text, p.place);
         if e == 0 {
-            return led_to(p.lines, counts, columns, b, p.place, o, w);
+            let number = rest_number(text.len() - p.place);
+            return led_to(number, p.lines, counts, columns, b, p.place, o, w);
         }
         let told = session_lines::take_line(
             config,
@@ -143,7 +155,7 @@ pub fn run_lines(
             &mut warnings[w..],
         );
         if told.number != 0 {
-            return led_to(p.lines, counts, columns, b, p.place, o, w);
+            return led_to(told.number, p.lines, counts, columns, b, p.place, o, w);
         }
         b = block_begin(told.added, b + told.skip, e);
         counts = told.counts;
@@ -153,47 +165,5 @@ pub fn run_lines(
         n = p.lines + 1;
         i = e;
     }
-    led_to(n, counts, columns, b, i, o, w)
-}
-
-// Before the first line.
-pub fn begun(session: Session) -> Lined
-    ensures { λ r. ⌜ r ≡ begunOf session ⌝ }
-{
-    let counts = session.counts;
-    let columns = session.columns;
-    Lined {
-        lines: 0,
-        counts,
-        columns,
-        begin: 0,
-        place: 0,
-        written: 0,
-        warned: 0,
-    }
-}
-
-// The session that has taken these lines.
-pub fn resumed(session: Session, at: Lined, text: &[u8]) -> Session
-    requires { ⌜ Sized at (length (now text)) ⌝ }
-    ensures { λ r. ⌜ Resumes session at (now (text .entry)) r ⌝ }
-{
-    let config = session.config;
-    let counts = at.counts;
-    let columns = at.columns;
-    let mut held = session.held;
-    let b = at.begin;
-    let i = at.place;
-    let n = base::bytes(&mut held, &text[b..i]);
-    Session {
-        config,
-        ended: false,
-        outcome: 0,
-        taken: at.place as u32,
-        lines: at.lines,
-        counts,
-        columns,
-        held_len: n,
-        held,
-    }
+    led_to(0, n, counts, columns, b, i, o, w)
 }

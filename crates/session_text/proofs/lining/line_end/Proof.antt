@@ -1,10 +1,10 @@
 use native.Mathlib.Omega.{arith}
-use Rattle.one_call.proofs.LineLaws.{closed-none, line-last, line-sum, closed-line}
+use Rattle.spec_session.proofs.session_text.StartLaws.{end-none, end-open, line-last, line-sum, end-closed}
 use borrow.Author.Needs.{needs}
-use Rattle.one_call.proofs.lining.line_end.Statement.{statement}
-use Rattle.one_call.proofs.lining.line_end.Tie as tie
-use Rattle.one_call.proofs.lining.line_end.Reads as reads
-use Rattle.one_call.proofs.lining.line_end.Lts as lts
+use Rattle.session_text.proofs.lining.line_end.Statement.{statement}
+use Rattle.session_text.proofs.lining.line_end.Tie as tie
+use Rattle.session_text.proofs.lining.line_end.Reads as reads
+use Rattle.session_text.proofs.lining.line_end.Lts as lts
 use Rattle.base.proofs.front.Reads as front-reads
 use Rattle.base.proofs.rest.Reads as rest-reads
 use Rattle.text.proofs.line_length.Reads as line-length-reads
@@ -19,7 +19,7 @@ line-length-requires : tie.Need-line-length-requires
 line-length-requires c κs = search needs
 
 returns : tie.Need-returns
-returns c = search closed-none
+returns c = search end-none depth 12
 
 sub-if2 : tie.Need-sub-if2
 sub-if2 c = search needs
@@ -34,10 +34,10 @@ add-result c =
     omega (arith, h)
 
 returns-2 : tie.Need-returns-2
-returns-2 c = search closed-line depth 12
+returns-2 c = search end-closed depth 12
 
 returns-3 : tie.Need-returns-3
-returns-3 c = search closed-none
+returns-3 c = search end-open depth 12
 
 pub line-end-spec : {M : Type 1} → statement M
 line-end-spec =
