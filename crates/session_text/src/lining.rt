@@ -1,14 +1,19 @@
 // The lines of a text, taken where they stand in it.
 use ass_columns::Columns;
+use caption_fate::Config;
 use session_counts::Counts;
+use session_lines::Taken;
 use session_state::Head;
 use spec_session::session_text::Lined;
 ghost use mathlib.Core.Path.{_≡_};
-ghost use mathlib.Core.Bool.{true, cond};
+ghost use mathlib.Core.Bool.{true, false, cond};
 ghost use Prim.Native.Nat.{_≤_, _+_};
 ghost use lib.Dec.{ltb};
 ghost use lib.ListN.{length};
 ghost use Rattle.spec_base.specs.base.Limits.{mostTaken, mostLine};
+ghost use Rattle.spec_map.specs.segment.Segment.{segmentsOf, mapBad};
+ghost use Rattle.spec_map.specs.segment.Groups.{groupsOf};
+ghost use Rattle.spec_session.specs.session_lines.Answer.{takeIn, LineTells};
 ghost use Rattle.spec_session.specs.session_text.Lined.{LineEnd, Joins, lineStart, Starts, linedOf, Onto, textRun, Ends};
 
 // Where the line that begins at i ends, behind its LF; 0 where no LF ends it within 4,096 bytes.
@@ -116,16 +121,47 @@ fn pass_joins(kind: u32, lines: u32, b: usize, begin: usize, text: &[u8]) -> Pas
     Passed { lines: n, place: i }
 }
 
+// A line with the BOM that may begin it, through a map with the bounds of its groups.
+fn take_grouped(
+    config: Config,
+    map: &[u64],
+    groups: &[u64],
+    n: u32,
+    counts: Counts,
+    columns: Columns,
+    held: &[u8],
+    s: usize,
+    out: &mut [u8],
+    warnings: &mut [u64],
+) -> Taken
+    requires { ⌜ (mapBad (now map) ≡ false) × (now groups ≡ groupsOf (now map)) ⌝ }
+    ensures { λ r. ⌜ LineTells (takeIn config (segmentsOf (now (map .entry))) n counts columns (now (held .entry)) s (length (now (out .entry))) (length (now (warnings .entry)))) counts r (now (out .entry)) (now (out .exit)) (now (warnings .entry)) (now (warnings .exit)) ⌝ }
+{
+    session_lines::take_line_by(
+        config,
+        map,
+        groups,
+        n,
+        counts,
+        columns,
+        held,
+        s,
+        out,
+        warnings,
+    )
+}
+
 // All lines of a text: the held unfinished one begins at `start`. They end with a fault, or with what is unfinished.
 pub fn run_lines(
     head: Head,
     map: &[u64],
+    groups: &[u64],
     start: usize,
     text: &[u8],
     out: &mut [u8],
     warnings: &mut [u64],
 ) -> Lined
-    requires { ⌜ Starts head (now map) (now text) (length (now out)) (length (now warnings)) × (start ≡ lineStart head (now text)) ⌝ }
+    requires { ⌜ Starts head (now map) (now text) (length (now out)) (length (now warnings)) × (start ≡ lineStart head (now text)) × (now groups ≡ groupsOf (now map)) ⌝ }
     ensures { λ r. ⌜ Ends head (now (map .entry)) (now (text .entry)) (textRun head (now (text .entry))) r (now (out .entry)) (now (out .exit)) (now (warnings .entry)) (now (warnings .exit)) ⌝ }
 {
     let mut counts = head.counts;
@@ -143,9 +179,10 @@ pub fn run_lines(
             let number = rest_number(text.len() - p.place);
             return led_to(number, p.lines, counts, columns, b, p.place, o, w);
         }
-        let told = session_lines::take_line(
+        let told = take_grouped(
             config,
             map,
+            groups,
             p.lines,
             counts,
             columns,

@@ -6,8 +6,11 @@ use session_state::Head;
 use spec_session::session_text::Lined;
 use spec_session::session_text::TextFed;
 ghost use mathlib.Core.Path.{_≡_};
+ghost use mathlib.Core.Bool.{true, false};
 ghost use Prim.Native.Nat.{_≤_};
 ghost use lib.ListN.{length};
+ghost use Rattle.spec_map.specs.segment.Segment.{mapBad};
+ghost use Rattle.spec_map.specs.segment.Groups.{groupsOf};
 ghost use Rattle.spec_session.specs.session_text.Answer.{textBad, TextAnswered};
 ghost use Rattle.spec_session.specs.session_text.Lined.{headRefusal, unchangedText, endedText, goingText};
 
@@ -34,8 +37,20 @@ fn text_bad(bad: bool, head: Head, text: usize, out: usize, places: usize) -> bo
     places < text / 3 + 4
 }
 
+// 15, of a map whose numbers may be known to be small.
+fn map_wrong(map: &[u64], small: bool) -> bool
+    requires { ⌜ (small ≡ true → mapBad (now map) ≡ false) ⌝ }
+    ensures { λ r. ⌜ r ≡ mapBad (now (map .entry)) ⌝ }
+{
+    if small {
+        return false;
+    }
+    segment::map_bad(map)
+}
+
 // The number by which the call is refused, or 0.
-fn refusal(head: Head, map: &[u64], held: &[u8], bad: bool) -> u32
+fn refusal(head: Head, map: &[u64], small: bool, held: &[u8], bad: bool) -> u32
+    requires { ⌜ (small ≡ true → mapBad (now map) ≡ false) ⌝ }
     ensures { λ r. ⌜ r ≡ headRefusal head (now (held .entry)) (now (map .entry)) bad ⌝ }
 {
     if session_state::foreign_head(head, held) {
@@ -44,7 +59,7 @@ fn refusal(head: Head, map: &[u64], held: &[u8], bad: bool) -> u32
     if head.ended {
         return 18;
     }
-    if segment::map_bad(map) {
+    if map_wrong(map, small) {
         return 15;
     }
     if bad {
@@ -122,6 +137,36 @@ fn going_on(config: Config, outcome: u32, taken: u32, n: usize, end: Lined) -> T
     }
 }
 
+// A feed of the bytes behind the held ones, through a map with the bounds of its groups.
+fn take_bounded(
+    head: Head,
+    map: &[u64],
+    groups: &[u64],
+    small: bool,
+    text: &[u8],
+    bad: bool,
+    out: &mut [u8],
+    warnings: &mut [u64],
+) -> TextFed
+    requires { ⌜ (small ≡ true → mapBad (now map) ≡ false) × (mapBad (now map) ≡ false → now groups ≡ groupsOf (now map)) ⌝ }
+    ensures { λ r. ⌜ TextAnswered head (now (map .entry)) (now (text .entry)) bad r (now (out .entry)) (now (out .exit)) (now (warnings .entry)) (now (warnings .exit)) ⌝ }
+{
+    let short = text_bad(bad, head, text.len(), out.len(), warnings.len());
+    let held = base::front(text, head.held_len);
+    let refused = refusal(head, map, small, held, short);
+    if refused != 0 {
+        return unchanged(refused, head);
+    }
+    let start = session_state::block_end(held);
+    let end = run_lines(head, map, groups, start, text, out, warnings);
+    let taken = head.taken + ((text.len() - head.held_len) as u32);
+    let config = head.config;
+    if end.number != 0 {
+        return over(config, taken, text.len(), end);
+    }
+    going_on(config, head.outcome, taken, text.len(), end)
+}
+
 // A feed of the bytes behind the first `held_len` ones, which are held. `bad`: the caller refuses the call by 16.
 pub fn take_text(
     head: Head,
@@ -133,18 +178,16 @@ pub fn take_text(
 ) -> TextFed
     ensures { λ r. ⌜ TextAnswered head (now (map .entry)) (now (text .entry)) bad r (now (out .entry)) (now (out .exit)) (now (warnings .entry)) (now (warnings .exit)) ⌝ }
 {
-    let short = text_bad(bad, head, text.len(), out.len(), warnings.len());
-    let held = base::front(text, head.held_len);
-    let refused = refusal(head, map, held, short);
-    if refused != 0 {
-        return unchanged(refused, head);
-    }
-    let start = session_state::block_end(held);
-    let end = run_lines(head, map, start, text, out, warnings);
-    let taken = head.taken + ((text.len() - head.held_len) as u32);
-    let config = head.config;
-    if end.number != 0 {
-        return over(config, taken, text.len(), end);
-    }
-    going_on(config, head.outcome, taken, text.len(), end)
+    let mut groups = [0u64; 128];
+    let seen = segment::survey(map, &mut groups);
+    take_bounded(
+        head,
+        map,
+        base::words_front(&groups, seen.count),
+        seen.small,
+        text,
+        bad,
+        out,
+        warnings,
+    )
 }

@@ -2,3 +2,4 @@ pub mod StartLaws
 pub mod LineLaws
 pub mod TextLaws
 pub mod Rows
+pub mod BoundLaws

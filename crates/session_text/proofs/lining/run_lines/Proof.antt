@@ -10,7 +10,7 @@ use Rattle.session_text.proofs.lining.run_lines.Statement.{statement}
 use Rattle.session_text.proofs.lining.run_lines.Tie as tie
 use Rattle.session_text.proofs.lining.run_lines.Reads as reads
 use Rattle.session_text.proofs.lining.run_lines.Lts as lts
-use Rattle.session_lines.proofs.take_line.Reads as take-line-reads
+use Rattle.session_text.proofs.lining.take_grouped.Reads as take-grouped-reads
 use Rattle.session_text.proofs.lining.block_begin.Reads as block-begin-reads
 use Rattle.session_text.proofs.lining.led_to.Reads as led-to-reads
 use Rattle.session_text.proofs.lining.line_end.Reads as line-end-reads
@@ -18,16 +18,16 @@ use Rattle.session_text.proofs.lining.pass_joins.Reads as pass-joins-re
 use Rattle.session_text.proofs.lining.rest_number.Reads as rest-number-reads
 
 abbrev Inv-loop : tie.InvT-loop
-Inv-loop head map start text out₀ warnings₀ counts₀ columns₀ n₀ b₀ i₀ o₀ w₀ out warnings counts columns n b i o w =
+Inv-loop head map groups start text out₀ warnings₀ counts₀ columns₀ n₀ b₀ i₀ o₀ w₀ out warnings counts columns n b i o w =
     Lining head map text (linedOf 0 n counts columns b i o w) out₀ out warnings₀ warnings
 
 abbrev μ-loop : tie.MeasureT-loop
-μ-loop head map start text out₀ warnings₀ counts₀ columns₀ n₀ b₀ i₀ o₀ w₀ out warnings counts columns n b i o w =
+μ-loop head map groups start text out₀ warnings₀ counts₀ columns₀ n₀ b₀ i₀ o₀ w₀ out warnings counts columns n b i o w =
     length text - i
 
 loop-holds : tie.Need-loop-holds Inv-loop μ-loop
 loop-holds c =
-    lines-start _ _ _ _ _ (c .before .before .before .before .before .before .pre .0) _ (c .before .before .before .before .before .before .pre .1)
+    lines-start _ _ _ _ _ (c .before .before .before .before .before .before .before .pre .0) _ (c .before .before .before .before .before .before .before .pre .1)
 
 pass-joins-requires : tie.Need-pass-joins-requires Inv-loop μ-loop
 pass-joins-requires c κs =
@@ -63,62 +63,62 @@ returns c =
     let I = c .before .before .before .before .before .pass-joins .ensures .1 _ _ _ _ _ _ _ _ _ _ refl (c .before .before .before .before .before .before .before .before .loop .inv) in
     ends-rest _ _ _ _ _ _ _ _ I _ (c .before .before .before .before .line-end .ensures) (c .before .before .before .if1 .taken) _ (c .before .rest-number .ensures) _ (c .led-to .ensures)
 
-sub-take-line : tie.Need-sub-take-line Inv-loop μ-loop
-sub-take-line c =
+sub-take-grouped : tie.Need-sub-take-grouped Inv-loop μ-loop
+sub-take-grouped c =
     let I = c .before .before .pass-joins .ensures .1 _ _ _ _ _ _ _ _ _ _ refl (c .before .before .before .before .before .loop .inv) in
     let C = c .before .line-end .ensures .closed (c .if1 .left) in
     omega (arith, I .order, C .lo)
 
-part-take-line-start : tie.Need-part-take-line-start Inv-loop μ-loop
-part-take-line-start c =
+part-take-grouped-start : tie.Need-part-take-grouped-start Inv-loop μ-loop
+part-take-grouped-start c =
     let I = c .before .before .pass-joins .ensures .1 _ _ _ _ _ _ _ _ _ _ refl (c .before .before .before .before .before .loop .inv) in
     let C = c .before .line-end .ensures .closed (c .if1 .left) in
     omega (arith, I .order, C .lo)
 
-part-take-line-end : tie.Need-part-take-line-end Inv-loop μ-loop
-part-take-line-end c =
+part-take-grouped-end : tie.Need-part-take-grouped-end Inv-loop μ-loop
+part-take-grouped-end c =
     let I = c .before .before .pass-joins .ensures .1 _ _ _ _ _ _ _ _ _ _ refl (c .before .before .before .before .before .loop .inv) in
     let C = c .before .line-end .ensures .closed (c .if1 .left) in
     omega (arith, I .order, C .lo, C .hi)
 
-sub-take-line-2 : tie.Need-sub-take-line-2 Inv-loop μ-loop
-sub-take-line-2 c =
+sub-take-grouped-2 : tie.Need-sub-take-grouped-2 Inv-loop μ-loop
+sub-take-grouped-2 c =
     let I = c .before .before .before .before .pass-joins .ensures .1 _ _ _ _ _ _ _ _ _ _ refl (c .before .before .before .before .before .before .before .loop .inv) in
     omega (arith, I .order)
 
-sub-take-line-3 : tie.Need-sub-take-line-3 Inv-loop μ-loop
-sub-take-line-3 c =
+sub-take-grouped-3 : tie.Need-sub-take-grouped-3 Inv-loop μ-loop
+sub-take-grouped-3 c =
     let I = c .before .before .before .before .pass-joins .ensures .1 _ _ _ _ _ _ _ _ _ _ refl (c .before .before .before .before .before .before .before .loop .inv) in
     omega (arith, lined-room _ _ _ _ _ _ _ _ I .0)
 
-part-take-line-start-2 : tie.Need-part-take-line-start-2 Inv-loop μ-loop
-part-take-line-start-2 c =
+part-take-grouped-start-2 : tie.Need-part-take-grouped-start-2 Inv-loop μ-loop
+part-take-grouped-start-2 c =
     let I = c .before .before .before .before .pass-joins .ensures .1 _ _ _ _ _ _ _ _ _ _ refl (c .before .before .before .before .before .before .before .loop .inv) in
     omega (arith, lined-room _ _ _ _ _ _ _ _ I .0)
 
-part-take-line-end-2 : tie.Need-part-take-line-end-2 Inv-loop μ-loop
-part-take-line-end-2 c = search needs
+part-take-grouped-end-2 : tie.Need-part-take-grouped-end-2 Inv-loop μ-loop
+part-take-grouped-end-2 c = search needs
 
-mul-take-line : tie.Need-mul-take-line Inv-loop μ-loop
-mul-take-line c =
+mul-take-grouped : tie.Need-mul-take-grouped Inv-loop μ-loop
+mul-take-grouped c =
     let I = c .before .before .before .before .before .pass-joins .ensures .1 _ _ _ _ _ _ _ _ _ _ refl (c .before .before .before .before .before .before .before .before .loop .inv) in
     omega (arith, lined-few _ _ _ _ _ _ _ _ I .1, I .order, I .within, text-few _ _ _ _ _ (I .starts))
 
-sub-take-line-4 : tie.Need-sub-take-line-4 Inv-loop μ-loop
-sub-take-line-4 c =
+sub-take-grouped-4 : tie.Need-sub-take-grouped-4 Inv-loop μ-loop
+sub-take-grouped-4 c =
     let I = c .before .before .before .before .before .pass-joins .ensures .1 _ _ _ _ _ _ _ _ _ _ refl (c .before .before .before .before .before .before .before .before .loop .inv) in
     omega (arith, lined-room _ _ _ _ _ _ _ _ I .1)
 
-part-take-line-start-3 : tie.Need-part-take-line-start-3 Inv-loop μ-loop
-part-take-line-start-3 c =
+part-take-grouped-start-3 : tie.Need-part-take-grouped-start-3 Inv-loop μ-loop
+part-take-grouped-start-3 c =
     let I = c .before .before .before .before .before .pass-joins .ensures .1 _ _ _ _ _ _ _ _ _ _ refl (c .before .before .before .before .before .before .before .before .loop .inv) in
     omega (arith, lined-room _ _ _ _ _ _ _ _ I .1)
 
-part-take-line-end-3 : tie.Need-part-take-line-end-3 Inv-loop μ-loop
-part-take-line-end-3 c = search needs
+part-take-grouped-end-3 : tie.Need-part-take-grouped-end-3 Inv-loop μ-loop
+part-take-grouped-end-3 c = search needs
 
-take-line-requires : tie.Need-take-line-requires Inv-loop μ-loop
-take-line-requires c κs = search needs
+take-grouped-requires : tie.Need-take-grouped-requires Inv-loop μ-loop
+take-grouped-requires c κs = search needs
 
 led-to-requires-2 : tie.Need-led-to-requires-2 Inv-loop μ-loop
 led-to-requires-2 c κs = search needs
@@ -127,7 +127,7 @@ same-length-3 : tie.Need-same-length-3 Inv-loop μ-loop
 same-length-3 c =
     let I = c .before .before .before .before .before .before .before .before .before .before .before .before .before .before .pass-joins .ensures .1 _ _ _ _ _ _ _ _ _ _ refl (c .before .before .before .before .before .before .before .before .before .before .before .before .before .before .before .before .before .loop .inv) in
     let C = c .before .before .before .before .before .before .before .before .before .before .before .before .before .line-end .ensures .closed (c .before .before .before .before .before .before .before .before .before .before .before .before .if1 .left) in
-    let T = c .before .before .before .before .before .before .before .take-line in
+    let T = c .before .before .before .before .before .before .before .take-grouped in
     let S = line-stays _ _ _ _ _ _ _ _ I _ C (T .result) _ _ (T .ensures) (c .before .if2 .taken) in
     lined-long _ _ _ _ _ _ _ _ S .0
 
@@ -135,7 +135,7 @@ same-length-4 : tie.Need-same-length-4 Inv-loop μ-loop
 same-length-4 c =
     let I = c .before .before .before .before .before .before .before .before .before .before .before .before .before .before .pass-joins .ensures .1 _ _ _ _ _ _ _ _ _ _ refl (c .before .before .before .before .before .before .before .before .before .before .before .before .before .before .before .before .before .loop .inv) in
     let C = c .before .before .before .before .before .before .before .before .before .before .before .before .before .line-end .ensures .closed (c .before .before .before .before .before .before .before .before .before .before .before .before .if1 .left) in
-    let T = c .before .before .before .before .before .before .before .take-line in
+    let T = c .before .before .before .before .before .before .before .take-grouped in
     let S = line-stays _ _ _ _ _ _ _ _ I _ C (T .result) _ _ (T .ensures) (c .before .if2 .taken) in
     lined-long _ _ _ _ _ _ _ _ S .1
 
@@ -143,14 +143,14 @@ returns-2 : tie.Need-returns-2 Inv-loop μ-loop
 returns-2 c =
     let I = c .before .before .before .before .before .before .before .before .before .before .before .before .before .before .pass-joins .ensures .1 _ _ _ _ _ _ _ _ _ _ refl (c .before .before .before .before .before .before .before .before .before .before .before .before .before .before .before .before .before .loop .inv) in
     let C = c .before .before .before .before .before .before .before .before .before .before .before .before .before .line-end .ensures .closed (c .before .before .before .before .before .before .before .before .before .before .before .before .if1 .left) in
-    let T = c .before .before .before .before .before .before .before .take-line in
+    let T = c .before .before .before .before .before .before .before .take-grouped in
     ends-fault _ _ _ _ _ _ _ _ I _ C (T .result) _ _ (T .ensures) (c .before .if2 .taken) _ (c .led-to2 .ensures)
 
 add-block-begin : tie.Need-add-block-begin Inv-loop μ-loop
 add-block-begin c =
     let I = c .before .before .before .before .before .before .before .before .before .before .before .before .before .before .pass-joins .ensures .1 _ _ _ _ _ _ _ _ _ _ refl (c .before .before .before .before .before .before .before .before .before .before .before .before .before .before .before .before .before .loop .inv) in
     let C = c .before .before .before .before .before .before .before .before .before .before .before .before .before .line-end .ensures .closed (c .before .before .before .before .before .before .before .before .before .before .before .before .if1 .left) in
-    let T = c .before .before .before .before .before .before .before .take-line in
+    let T = c .before .before .before .before .before .before .before .take-grouped in
     omega (arith, skip-sum _ _ _ _ _ _ _ _ I _ C (T .result) _ _ (T .ensures), C .hi, text-few _ _ _ _ _ (I .starts))
 
 block-begin-requires : tie.Need-block-begin-requires Inv-loop μ-loop
@@ -160,7 +160,7 @@ add-o : tie.Need-add-o Inv-loop μ-loop
 add-o c =
     let I = c .before .before .before .before .before .before .before .before .before .before .before .before .before .before .before .before .before .before .pass-joins .ensures .1 _ _ _ _ _ _ _ _ _ _ refl (c .before .before .before .before .before .before .before .before .before .before .before .before .before .before .before .before .before .before .before .before .before .loop .inv) in
     let C = c .before .before .before .before .before .before .before .before .before .before .before .before .before .before .before .before .before .line-end .ensures .closed (c .before .before .before .before .before .before .before .before .before .before .before .before .before .before .before .before .if1 .left) in
-    let T = c .before .before .before .before .before .before .before .before .before .before .before .take-line in
+    let T = c .before .before .before .before .before .before .before .before .before .before .before .take-grouped in
     let N = line-passes _ _ _ _ _ _ _ _ I _ C (T .result) _ _ (T .ensures) (c .before .before .before .before .before .if2 .left) _ (c .before .before .before .block-begin .ensures) in
     omega (arith, lined-few _ _ _ _ _ _ _ _ N .0, N .order, C .hi, text-few _ _ _ _ _ (I .starts))
 
@@ -168,7 +168,7 @@ add-w : tie.Need-add-w Inv-loop μ-loop
 add-w c =
     let I = c .before .before .before .before .before .before .before .before .before .before .before .before .before .before .before .before .before .before .before .pass-joins .ensures .1 _ _ _ _ _ _ _ _ _ _ refl (c .before .before .before .before .before .before .before .before .before .before .before .before .before .before .before .before .before .before .before .before .before .before .loop .inv) in
     let C = c .before .before .before .before .before .before .before .before .before .before .before .before .before .before .before .before .before .before .line-end .ensures .closed (c .before .before .before .before .before .before .before .before .before .before .before .before .before .before .before .before .before .if1 .left) in
-    let T = c .before .before .before .before .before .before .before .before .before .before .before .before .take-line in
+    let T = c .before .before .before .before .before .before .before .before .before .before .before .before .take-grouped in
     let N = line-passes _ _ _ _ _ _ _ _ I _ C (T .result) _ _ (T .ensures) (c .before .before .before .before .before .before .if2 .left) _ (c .before .before .before .before .block-begin .ensures) in
     omega (arith, lined-few _ _ _ _ _ _ _ _ N .1, N .order, C .hi, text-few _ _ _ _ _ (I .starts))
 
@@ -186,7 +186,7 @@ loop-again : tie.Need-loop-again Inv-loop μ-loop
 loop-again c =
     let I = c .before .before .before .before .before .before .before .before .before .before .before .before .before .before .before .before .before .before .before .before .pass-joins .ensures .1 _ _ _ _ _ _ _ _ _ _ refl (c .before .before .before .before .before .before .before .before .before .before .before .before .before .before .before .before .before .before .before .before .before .before .before .loop .inv) in
     let C = c .before .before .before .before .before .before .before .before .before .before .before .before .before .before .before .before .before .before .before .line-end .ensures .closed (c .before .before .before .before .before .before .before .before .before .before .before .before .before .before .before .before .before .before .if1 .left) in
-    let T = c .before .before .before .before .before .before .before .before .before .before .before .before .before .take-line in
+    let T = c .before .before .before .before .before .before .before .before .before .before .before .before .before .take-grouped in
     let N = line-passes _ _ _ _ _ _ _ _ I _ C (T .result) _ _ (T .ensures) (c .before .before .before .before .before .before .before .if2 .left) _ (c .before .before .before .before .before .block-begin .ensures) in
     N
 
@@ -223,18 +223,18 @@ run-lines-spec =
     same-length
     same-length-2
     returns
-    sub-take-line
-    part-take-line-start
-    part-take-line-end
-    sub-take-line-2
-    sub-take-line-3
-    part-take-line-start-2
-    part-take-line-end-2
-    mul-take-line
-    sub-take-line-4
-    part-take-line-start-3
-    part-take-line-end-3
-    take-line-requires
+    sub-take-grouped
+    part-take-grouped-start
+    part-take-grouped-end
+    sub-take-grouped-2
+    sub-take-grouped-3
+    part-take-grouped-start-2
+    part-take-grouped-end-2
+    mul-take-grouped
+    sub-take-grouped-4
+    part-take-grouped-start-3
+    part-take-grouped-end-3
+    take-grouped-requires
     led-to-requires-2
     same-length-3
     same-length-4

@@ -4,7 +4,7 @@ use Rattle.session_text.proofs.taking.refusal.Statement.{statement}
 use Rattle.session_text.proofs.taking.refusal.Tie as tie
 use Rattle.session_text.proofs.taking.refusal.Reads as reads
 use Rattle.session_text.proofs.taking.refusal.Lts as lts
-use Rattle.segment.proofs.map_bad.Reads as map-bad-reads
+use Rattle.session_text.proofs.taking.map_wrong.Reads as map-wrong-reads
 use Rattle.session_state.proofs.foreign_head.Reads as foreign-head-reads
 
 foreign-head-requires : tie.Need-foreign-head-requires
@@ -16,8 +16,8 @@ returns c = search refused-foreign depth 12
 returns-2 : tie.Need-returns-2
 returns-2 c = search refused-ended depth 12
 
-map-bad-requires : tie.Need-map-bad-requires
-map-bad-requires c κs = search needs
+map-wrong-requires : tie.Need-map-wrong-requires
+map-wrong-requires c κs = c .before .before .before .before .before .pre
 
 returns-3 : tie.Need-returns-3
 returns-3 c = search refused-map depth 12
@@ -35,7 +35,7 @@ refusal-spec =
     foreign-head-requires
     returns
     returns-2
-    map-bad-requires
+    map-wrong-requires
     returns-3
     returns-4
     returns-5)
