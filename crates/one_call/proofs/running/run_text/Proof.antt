@@ -1,5 +1,5 @@
 use mathlib.Core.Path.{_≡_, ap, subst, _∙_}
-use mathlib.Core.Bool.{Bool, false}
+use mathlib.Core.Bool.{false}
 use mathlib.Core.List.{List}
 use Prim.Native.Nat.{ℕ, _-_}
 use native.Mathlib.Omega.{arith}
@@ -12,7 +12,7 @@ use Rattle.spec_session.specs.declared.session_text.TextFed.{TextFed}
 use Rattle.spec_session.specs.session_text.Answer.{TextAnswered}
 use Rattle.spec_runs.specs.one_call.Ran.{begunOf}
 use Rattle.spec_runs.proofs.one_call.TextLaws.{few, at-room, at-lengths, at-sums, text-end}
-use Rattle.spec_runs.proofs.one_call.WholeLaws.{whole-fault, whole-small, whole-within, whole-at}
+use Rattle.spec_runs.proofs.one_call.WholeLaws.{whole-fault, whole-small, whole-at}
 use borrow.Author.Needs.{needs}
 use Rattle.one_call.proofs.running.run_text.Statement.{statement}
 use Rattle.one_call.proofs.running.run_text.Tie as tie
