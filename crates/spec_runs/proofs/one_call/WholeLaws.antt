@@ -153,9 +153,6 @@ module _ (b : Session) (m text out places : List ℕ) (R : Ready b m (length tex
           let s = settled-small (fresh kit c) (is-native (fresh kit c) (fresh-native c m opens)) m text (opens .map-good) (0 + length text) in
           omega (arith, s, ap length (told .held))
 
-      pub whole-within : r .begin ≤ length text
-      whole-within = omega (arith, told .begin)
-
       at-by : (q : Run State) → run M (begin M) text ≡ q → ByFault q → Tells (settled q) → r .number ≡ 0 → (s : Session) → view s ≡ viewOf (r .head) (drop (r .begin) text) → length (s .held) ≡ mostHeld
           → At c m text (length text) s (r .written) (r .warned) out out′ places places′
       at-by (stopped k ps) e y d f s v l = absurd (eqb-false k 0 y (sym (d .number) ∙ f))
