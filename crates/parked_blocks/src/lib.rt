@@ -5,6 +5,7 @@ mod zeros;
 
 pub use reading::unseal;
 pub use reading::unseal_first;
+pub use writing::blocks_for;
 pub use writing::seal;
 pub use writing::seal_first;
 pub use writing::words_bytes;

@@ -17,7 +17,7 @@ use Rattle.spec_parking.specs.parked_blocks.First.{blocksFor, firstOf, f
 use Rattle.spec_parking.proofs.parked_blocks.Bytes.{word-past, word-within, word-is, bytes-length, sealed-length, all-length}
 use Rattle.spec_parking.proofs.parked_blocks.Again.{side-by-side, part-4, zero-list, block-sum}
 use Rattle.spec_parking.proofs.parked_blocks.WriteLaws.{zero-sum, take-zeros, drop-zeros, drop-filled, filled-size, row-first, blocks-few}
-use Rattle.spec_parking.proofs.parked_blocks.ReadLaws.{and-assoc, and-false, bodies-length, row-length}
+use Rattle.spec_parking.proofs.parked_blocks.ReadLaws.{and-assoc, and-false, and-true, bodies-length, row-length}
 
 -- ---- zeros
 zero-append : (a b : List ℕ) → allZero (a ++ b) ≡ (allZero a && allZero b)
@@ -30,6 +30,13 @@ unfolding allZero
 zero-drop zero l h = h
 zero-drop (suc n) [] h = h
 zero-drop (suc n) (x ∷ l) h = zero-drop n l (and-right (eqb x 0) (allZero l) h)
+
+-- zeros behind a list
+pub zero-behind : (n : ℕ) (a z : List ℕ) → allZero z ≡ true → allZero (drop n (a ++ z)) ≡ allZero (drop n a)
+unfolding allZero
+zero-behind zero a z h = zero-append a z ∙ ap (λ (t : Bool). allZero a && t) h ∙ and-true (allZero a)
+zero-behind (suc n) [] z h = zero-drop (suc n) z h
+zero-behind (suc n) (x ∷ a) z h = zero-behind n a z h
 
 -- ---- parts of a row
 hold-split : (s : List ℕ) (b n m : ℕ) → allHold s b (n + m) ≡ (allHold s b n && allHold s (b + n) m)
