@@ -1,0 +1,4 @@
+pub mod StartLaws
+pub mod LineLaws
+pub mod TextLaws
+pub mod Rows
