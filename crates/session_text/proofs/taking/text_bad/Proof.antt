@@ -1,4 +1,4 @@
-use Rattle.spec_session.proofs.session_text.TextLaws.{bad-caller, bad-short, bad-taken, bad-output, bad-places}
+use Rattle.spec_session.proofs.session_text.TextLaws.{bad-caller, bad-short, bad-much, bad-taken, bad-output, bad-places}
 use borrow.Author.Needs.{needs}
 use Rattle.session_text.proofs.taking.text_bad.Statement.{statement}
 use Rattle.session_text.proofs.taking.text_bad.Tie as tie
@@ -15,7 +15,7 @@ cast-if3 : tie.Need-cast-if3
 cast-if3 c = search needs
 
 returns-3 : tie.Need-returns-3
-returns-3 c = search bad-taken depth 12
+returns-3 c = search bad-much depth 12
 
 cast-if4 : tie.Need-cast-if4
 cast-if4 c = search needs
