@@ -13,6 +13,7 @@ use Rattle.spec_base.specs.base.Limits.{mostPiece, mostHeld, mostTaken, leastOu
 use Rattle.spec_base.specs.base.Refusal.{_orElse_, faultUnless}
 use Rattle.spec_base.specs.base.Put.{put, putAt, placedAt, placeAfter}
 use Rattle.spec_base.proofs.base.Laws.{or-left, or-right}
+use Rattle.spec_base.proofs.base.RefusalLaws.{else-found}
 use Rattle.spec_base.proofs.base.PutLaws.{put-nil, length-put, at-yes, after-yes}
 use Rattle.spec_sheet.specs.checked_blocks.Block.{wordAt}
 use Rattle.spec_map.specs.segment.Segment.{mapBad}
@@ -34,7 +35,7 @@ use Rattle.spec_session.specs.session.Answer.{feedCall, answerOf, sessionGate, 
 use Rattle.spec_session.proofs.session.CallLaws.{gate-passed, answer-by, settled-small}
 use Rattle.spec_session.specs.declared.session_text.TextFed.{TextFed}
 use Rattle.spec_session.specs.session_text.Answer.{textNew, textSession, textBad, textGate, textAnswer, headBy, keptBy, textHead, textKept, TextTells, TextAnswered}
-use Rattle.spec_parking.specs.parked_blocks.Sealed.{roomLength, bodyLength, roomOf, isRow}
+use Rattle.spec_parking.specs.parked_blocks.Sealed.{sealedLength, roomLength, bodyLength, roomOf, isRow}
 use Rattle.spec_parking.specs.parked_blocks.First.{blocksFor, firstRoom, unsealedFirst}
 use Rattle.spec_parking.proofs.parked_blocks.ReadLaws.{row-length, room-length}
 use Rattle.spec_parking.proofs.parked_blocks.WriteLaws.{blocks-few}
@@ -48,6 +49,7 @@ use Rattle.spec_parking.specs.declared.session_bytes.Told.{Told}
 use Rattle.spec_parking.specs.declared.session_bytes.TextIn.{TextIn}
 use Rattle.spec_parking.specs.session_bytes.Answer.{refuses, callNumber, keptNext, Called}
 use Rattle.spec_parking.specs.session_bytes.Text.{textNumber, textOf, TakesText, keptText}
+use Rattle.spec_parking.proofs.session_bytes.NumberLaws.{take-refuses}
 use Rattle.spec_parking.proofs.session_bytes.CallLaws.{refused-is, call-made}
 
 -- ---- the number of the text
@@ -306,11 +308,12 @@ module _ (b piece map : List ℕ) (o p : ℕ) (z : textNumber b ≡ 0) where
       let d : leastPlaces ≤ p = ltb-false p leastPlaces (or-left (ltb p leastPlaces) _ e2) in
       let t : wordAt b 6 + length piece ≤ mostTaken = ltb-false mostTaken (wordAt b 6 + length piece) (or-right (ltb p leastPlaces) _ e2) in
       let n : length T ≡ wordAt b 16 + length piece = text-long ∙ ap (λ (l : List ℕ). wordAt b 16 + length l) (take-all mostPiece piece a) in
-      rw
-      (le-ltb (length T) (wordAt b 16) (omega (arith, n)),
-      le-ltb mostTaken (wordAt b 6 + (length T - wordAt b 16)) (omega (arith, n, t)),
-      le-ltb o (3 * length T) (omega (arith, n, a, c, few)),
-      le-ltb p (length T / 3 + 4) (omega (arith, n, a, d, few)))
+      rw (
+        le-ltb (length T) (wordAt b 16) (omega (arith, n)),
+        le-ltb mostTaken (wordAt b 6 + (length T - wordAt b 16)) (omega (arith, n, t)),
+        le-ltb o (3 * length T) (omega (arith, n, a, c, few)),
+        le-ltb p (length T / 3 + 4) (omega (arith, n, a, d, few)),
+      )
 
   text-bad : (t : Bool) → L ≡ t → textBad t h (length T) o p ≡ L
   unfolding textBad
@@ -331,3 +334,183 @@ module _ (b piece map : List ℕ) (o p : ℕ) (z : textNumber b ≡ 0) where
       go admit e =
           let bad : L ≡ false = admitted s map piece o p e .2 in
           ap (λ (l : List ℕ). respond kit admit (view s) (feedCall map l o p)) (take-all mostPiece piece (ltb-false mostPiece (length piece) (or-left (ltb mostPiece (length piece)) _ bad)))
+
+  -- ---- a foreign session
+  module _ (e : foreignOf s ≡ true) where
+    taken-17 : takeNumber b ≡ 17
+    unfolding takeNumber faultUnless _orElse_
+    taken-17 = rw (sound, e)
+
+    gate-17 : sessionGate s x ≡ refuse 17
+    unfolding sessionGate
+    gate-17 = ap (λ (t : Bool). gate t (s .ended) (mapBad map) L) e
+
+    answer-17 : answerOf s x ≡ record { number = 17; session = view s; emits = [] }
+    answer-17 = answer-by s x ∙ ap (λ (g : Gate). respond kit g (view s) x) gate-17
+
+    call-17 : callNumber b x ≡ 17
+    unfolding callNumber _orElse_
+    call-17 = ap (λ (k : ℕ). k orElse answerOf s x .number) taken-17
+
+  -- ---- one that is not
+  module _ (e : foreignOf s ≡ false) where
+    taken-0 : takeNumber b ≡ 0
+    unfolding takeNumber faultUnless _orElse_
+    taken-0 = rw (sound, e)
+
+    up : TakenUp
+    up = record { number = 0; session = s }
+
+    takes-up : TakesUp b up
+    unfolding up
+    takes-up = record { number = sym taken-0; session = refl }
+
+    -- the session that an admitted call leads to, stored over the old one
+    next-stored : sessionGate s x ≡ admit → eqb (length piece) 0 ≡ false → restored (headOf (answerOf s x .session)) (answerOf s x .session .held) (wordAt b 16) b ≡ put (parkedOf 2 (nextOf s x)) b
+    unfolding nextOf
+    next-stored g y =
+        let a = answer-by s x ∙ ap (λ (j : Gate). respond kit j (view s) x) g in
+        let q = run (machineOf (s .config .kind)) (resume kit (view s)) piece in
+        let t = settle kit (view s) (s .taken + length piece) map q .session in
+        ap (λ (j : model.Answer Columns). restored (headOf (j .session)) (j .session .held) (wordAt b 16) b) a
+        ∙ restored-stored b t (wordAt b 16) sound refl
+        (settled-small (view s) (native-view s e) map piece (admitted s map piece o p g .1) (s .taken + length piece))
+        (settled-none (view s) (s .taken + length piece) map q)
+        ∙ ap (λ (j : Session). put (parkedOf 2 j) b)
+        (sym (ap₂ (λ (i : Gate) (j : model.Answer Columns). nextBy i s x (j .session)) g a ∙ next-fed s map piece o p t y))
+
+-- ---- the call
+row-lent : (b : List ℕ) → isParked b ≡ true → keepNumber (length b) ≡ 0
+unfolding faultUnless
+row-lent b e = ap (λ (t : Bool). faultUnless t 16) (le-leb sealedLength (length b) (omega (arith, row-length b (isRow b) refl (parked-row b e))))
+
+-- a number that does not refuse the call is that of an admitted one
+open-gate : (s : Session) (m piece : List ℕ) (o p k : ℕ) → refuses k ≡ false → k ≡ answerOf s (feedCall m piece o p) .number → sessionGate s (feedCall m piece o p) ≡ admit
+unfolding sessionGate
+open-gate s m piece o p k f n = go (gate-cases (foreignOf s) (s .ended) (mapBad m) (lengthsBad (s .taken) (length piece) o p))
+  where
+    go : (refuses (gateNumber (sessionGate s (feedCall m piece o p))) ≡ true) ⊎ (sessionGate s (feedCall m piece o p) ≡ admit) → sessionGate s (feedCall m piece o p) ≡ admit
+    go (inr g) = g
+    go (inl g) =
+        let q : k ≡ gateNumber (sessionGate s (feedCall m piece o p)) = n ∙ ap (λ (a : model.Answer Columns). a .number) (answer-by s (feedCall m piece o p)) ∙ number-gate (sessionGate s (feedCall m piece o p)) (view s) m piece o p g in
+        absurd (true≢false (sym (ap refuses q ∙ g) ∙ f))
+
+module _ (b piece map out out′ places places′ : List ℕ) (z : textNumber b ≡ 0) (r : TextFed)
+    (ta : TextAnswered (headIn b) map (textOf b piece) (lengthsBad (sessionIn b .taken) (length piece) (length out) (length places)) r out out′ places places′) where
+  abbrev S : Session
+  S = sessionIn b
+
+  abbrev X : model.Call
+  X = feedCall map piece (length out) (length places)
+
+  abbrev A : model.Answer Columns
+  A = answerOf S X
+
+  abbrev G : Gate
+  G = sessionGate S X
+
+  tells : TextTells A (headBy G (headIn b) (A .session)) (keptBy G (textOf b piece) (A .session .held)) (textOf b piece) r out out′ places places′
+  unfolding textHead textKept T
+  tells =
+      let one =
+      subst (λ (g : Gate).
+      TextTells (textAnswer (headIn b) map (textOf b piece) (lengthsBad (S .taken) (length piece) (length out) (length places)) (length out) (length places))
+      (headBy g (headIn b) (textAnswer (headIn b) map (textOf b piece) (lengthsBad (S .taken) (length piece) (length out) (length places)) (length out) (length places) .session))
+      (keptBy g (textOf b piece) (textAnswer (headIn b) map (textOf b piece) (lengthsBad (S .taken) (length piece) (length out) (length places)) (length out) (length places) .session .held)) (textOf b piece) r out out′ places places′)
+      (gate-is b piece map (length out) (length places) z) ta in
+      subst (λ (a : model.Answer Columns). TextTells a (headBy G (headIn b) (a .session)) (keptBy G (textOf b piece) (a .session .held)) (textOf b piece) r out out′ places places′) (answer-is b piece map (length out) (length places) z) one
+
+  told : Told
+  told = record { number = r .number; written = r .written; warned = r .warned }
+
+  -- refused by 17
+  call-foreign : (b′ : List ℕ) → foreignOf S ≡ true → b′ ≡ keptText (r .number) (eqb (length piece) 0) (r .head) (drop (r .begin) (textOf b piece)) (wordAt b 16) b → Called X told b b′ out out′ places places′
+  unfolding told outputOf warningsOf placesOf refuses keptText
+  call-foreign b′ e k =
+      let a : A ≡ record { number = 17; session = view S; emits = [] } = answer-17 b piece map (length out) (length places) z e in
+      let n : r .number ≡ 17 = tells .number ∙ ap (λ (j : model.Answer Columns). j .number) a in
+      let c : callNumber b X ≡ 17 = call-17 b piece map (length out) (length places) z e in
+      let none : A .emits ≡ [] = ap (λ (j : model.Answer Columns). j .emits) a in
+      let t : out′ ≡ out = tells .text ∙ ap (λ (l : List Emit). put (outputOf l) out) none ∙ put-nil out in
+      let w : places′ ≡ places = tells .warnings ∙ ap (λ (l : List Emit). put (placesOf (warningsOf l)) places) none ∙ put-nil places in
+      let same : b′ ≡ b = k ∙ ap (λ (j : ℕ). cond (refuses j || eqb (length piece) 0) b (restored (r .head) (drop (r .begin) (textOf b piece)) (wordAt b 16) b)) n in
+      let d : Called X told b b out out places places =
+      refused-is b X told out places (n ∙ sym c) (tells .written ∙ ap (λ (l : List Emit). length (outputOf l)) none) (tells .warned ∙ ap (λ (l : List Emit). length (placesOf (warningsOf l))) none) (ap refuses c) in
+      subst (λ (l : List ℕ). Called X told b l out out′ places places′) (sym same)
+      (subst (λ (l : List ℕ). Called X told b b out l places places′) (sym t) (subst (λ (l : List ℕ). Called X told b b out out places l) (sym w) d))
+
+  module _ (e : foreignOf S ≡ false) where
+    fed : Fed
+    fed = record { number = r .number; written = r .written; warned = r .warned; session = nextOf S X }
+
+    answered : Answered S X fed out out′ places places′
+    unfolding fed
+    answered = record { number = tells .number; written = tells .written; warned = tells .warned; session = refl; text = tells .text; warnings = tells .warnings }
+
+    -- what is stored is the next session
+    kept-next : keptText (r .number) (eqb (length piece) 0) (r .head) (drop (r .begin) (textOf b piece)) (wordAt b 16) b ≡ keptNext (r .number) (eqb (length piece) 0) (nextOf S X) b
+    unfolding keptText keptNext
+    kept-next = go (refuses (r .number)) (eqb (length piece) 0) refl refl
+      where
+        lent : keepNumber (length b) ≡ 0
+        lent = row-lent b (sound b piece map (length out) (length places) z)
+
+        go : (u v : Bool) → refuses (r .number) ≡ u → eqb (length piece) 0 ≡ v
+            → cond (u || v) b (restored (r .head) (drop (r .begin) (textOf b piece)) (wordAt b 16) b) ≡ put (cond (u || v) [] (whenDone (keepNumber (length b)) (parkedOf 2 (nextOf S X)))) b
+        go true v p q = sym (put-nil b)
+        go false true p q = sym (put-nil b)
+        go false false p q =
+            let g : G ≡ admit = open-gate S map piece (length out) (length places) (r .number) p (tells .number) in
+            let h : r .head ≡ headOf (A .session) = tells .head ∙ ap (λ (j : Gate). headBy j (headIn b) (A .session)) g in
+            let k : drop (r .begin) (textOf b piece) ≡ A .session .held = tells .held ∙ ap (λ (j : Gate). keptBy j (textOf b piece) (A .session .held)) g in
+            ap₂ (λ (i : Head) (l : List ℕ). restored i l (wordAt b 16) b) h k
+            ∙ next-stored b piece map (length out) (length places) z e g q
+            ∙ ap (λ (n : ℕ). put (whenDone n (parkedOf 2 (nextOf S X))) b) (sym lent)
+
+    call-calm : (b′ : List ℕ) → b′ ≡ keptText (r .number) (eqb (length piece) 0) (r .head) (drop (r .begin) (textOf b piece)) (wordAt b 16) b → Called X told b b′ out out′ places places′
+    unfolding told fed up
+    call-calm b′ k =
+        call-made b X (up b piece map (length out) (length places) z e) (takes-up b piece map (length out) (length places) z e) refl fed out out′ places places′ answered b′ (k ∙ kept-next)
+
+pub call-fed : (b piece map out out′ places places′ b′ text held : List ℕ) (h : Head) (bad : Bool) (r : TextFed) → textNumber b ≡ 0 → h ≡ headIn b → text ≡ textOf b piece
+    → bad ≡ lengthsBad (h .taken) (length piece) (length out) (length places) → TextAnswered h map text bad r out out′ places places′
+    → held ≡ drop (r .begin) text → b′ ≡ keptText (r .number) (eqb (length piece) 0) (r .head) held (h .«held_len») b
+    → Called (feedCall map piece (length out) (length places)) (record { number = r .number; written = r .written; warned = r .warned }) b b′ out out′ places places′
+unfolding told headIn sessionIn
+call-fed b piece map out out′ places places′ b′ text held h bad r z eh et eb ta ed ek =
+    let bad-is : bad ≡ lengthsBad (sessionIn b .taken) (length piece) (length out) (length places) = eb ∙ ap (λ (j : Head). lengthsBad (j .taken) (length piece) (length out) (length places)) eh in
+    let t1 = subst (λ (j : Head). TextAnswered j map text bad r out out′ places places′) eh ta in
+    let t2 = subst (λ (l : List ℕ). TextAnswered (headIn b) map l bad r out out′ places places′) et t1 in
+    let t3 = subst (λ (t : Bool). TextAnswered (headIn b) map (textOf b piece) t r out out′ places places′) bad-is t2 in
+    let kept : b′ ≡ keptText (r .number) (eqb (length piece) 0) (r .head) (drop (r .begin) (textOf b piece)) (wordAt b 16) b =
+    ek ∙ (λ i. keptText (r .number) (eqb (length piece) 0) (r .head) ((ed ∙ ap (drop (r .begin)) et) i) (ap (λ (j : Head). j .«held_len») eh i) b) in
+    go (foreignOf (sessionIn b)) refl t3 kept
+  where
+    go : (t : Bool) → foreignOf (sessionIn b) ≡ t
+        → TextAnswered (headIn b) map (textOf b piece) (lengthsBad (sessionIn b .taken) (length piece) (length out) (length places)) r out out′ places places′
+        → b′ ≡ keptText (r .number) (eqb (length piece) 0) (r .head) (drop (r .begin) (textOf b piece)) (wordAt b 16) b
+        → Called (feedCall map piece (length out) (length places)) (record { number = r .number; written = r .written; warned = r .warned }) b b′ out out′ places places′
+    go true e t k = call-foreign b piece map out out′ places places′ z r t b′ e k
+    go false e t k = call-calm b piece map out out′ places places′ z r t e b′ k
+
+-- ---- before the call
+module _ (b piece room : List ℕ) (up : TextIn) (u : TakesText b piece up room) where
+  pub text-refused : (m out places : List ℕ) (r : Told) → (up .number ≡ 0 → ⊥) → r ≡ record { number = up .number; written = 0; warned = 0 }
+      → Called (feedCall m piece (length out) (length places)) r b b out out places places
+  unfolding callNumber
+  text-refused m out places r h e =
+      let x = feedCall m piece (length out) (length places) in
+      let t : textNumber b ≡ takeNumber b = text-take b (λ q. h (u .number ∙ q)) in
+      let y : takeNumber b ≡ 0 → ⊥ = λ q. h (u .number ∙ t ∙ q) in
+      let f : takeNumber b orElse answerOf (sessionIn b) x .number ≡ takeNumber b = else-found (takeNumber b) (answerOf (sessionIn b) x .number) y in
+      refused-is b x r out places (ap (λ (j : Told). j .number) e ∙ u .number ∙ t ∙ sym f) (ap (λ (j : Told). j .written) e) (ap (λ (j : Told). j .warned) e) (ap refuses f ∙ take-refuses b y)
+
+  module _ (z : up .number ≡ 0) where
+    pub text-none : textNumber b ≡ 0
+    text-none = sym (u .number) ∙ z
+
+    pub text-head : up .head ≡ headIn b
+    text-head = u .head
+
+    pub text-is : (text : List ℕ) → text ≡ take (up .length) room → text ≡ textOf b piece
+    text-is text e = e ∙ u .text ∙ ap (λ (k : ℕ). cond (eqb k 0) (textOf b piece) []) z
