@@ -3,3 +3,4 @@ pub mod Again
 pub mod WriteLaws
 pub mod ReadLaws
 pub mod FirstLaws
+pub mod Rows
