@@ -1,4 +1,4 @@
--- A feed of new bytes behind held ones by rows: 16 on both sides of each limit, the refusals in their order, and what is held of a text afterwards.
+-- A feed of new bytes behind held ones by rows: its numbers apart from what is held, 16 on both sides of each limit, the refusals in their order, and what is held of a text afterwards.
 use mathlib.Core.Path.{_≡_, refl}
 use mathlib.Core.Bool.{Bool, true, false}
 use mathlib.Core.List.{List, [], _∷_, _++_}
@@ -19,6 +19,7 @@ use Rattle.spec_session.specs.session_counts.Session.{isOutcome, outcome
 use Rattle.spec_session.specs.kinds.Takes.{noColumns, takes, blockTakes}
 use Rattle.spec_session.specs.kinds.Kit.{heldBad, columnsBad}
 use Rattle.spec_session.specs.declared.session_state.Head.{Head}
+use Rattle.spec_session.specs.session_state.Head.{viewOf, headOf}
 use Rattle.spec_session.specs.session_text.Answer.{textBad, textGate, textAnswer, textHead, textKept}
 
 -- an SRT session that holds n bytes, after so many lines and bytes
@@ -34,6 +35,12 @@ at T e t l n =
       columns = noColumns;
       «held_len» = n;
     }
+
+-- ---- numbers and held bytes apart
+-- how many bytes are held is told by the bytes, not by the claim; then bytes taken and lines ended
+pub head-rows : (let r = headOf (viewOf (at 1000 false 5 1 7) (97 ∷ 10 ∷ 98 ∷ [])) in r .«held_len» ∷ r .taken ∷ r .lines ∷ r .config .timescale ∷ [])
+    ≡ 3 ∷ 5 ∷ 1 ∷ 1000 ∷ []
+head-rows = refl
 
 -- ---- 16: 10 bytes of text, 4 of them held, 30 of output and 7 places
 abbrev live : ℕ → Head
