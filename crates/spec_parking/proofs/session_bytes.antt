@@ -1,3 +1,5 @@
 -- Laws of the calls over bytes.
 pub mod NumberLaws
 pub mod CallLaws
+pub mod FeedLaws
+pub mod Rows

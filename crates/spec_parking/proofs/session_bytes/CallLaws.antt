@@ -69,7 +69,7 @@ none-put t v l e = sym (ap (λ (u : Bool). put (cond u [] v) l) e ∙ put-nil l)
 
 module _ (b : List ℕ) (x : Call) where
   -- refused, nothing is written and the bytes stay
-  refused-is : (r : Told) (out places : List ℕ) → r .number ≡ callNumber b x → r .written ≡ 0 → r .warned ≡ 0 → refuses (callNumber b x) ≡ true → Called x r b b out out places places
+  pub refused-is : (r : Told) (out places : List ℕ) → r .number ≡ callNumber b x → r .written ≡ 0 → r .warned ≡ 0 → refuses (callNumber b x) ≡ true → Called x r b b out out places places
   unfolding bytesAfter textOut placesIn
   refused-is r out places n w v t =
       record {

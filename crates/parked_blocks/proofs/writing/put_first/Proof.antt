@@ -1,7 +1,7 @@
-use Rattle.spec_parking.proofs.parked_blocks.WriteLaws.{all-made}
+use Rattle.spec_parking.proofs.parked_blocks.WriteLaws.{first-made}
 use borrow.Author.Needs.{needs}
-use Rattle.parked_blocks.proofs.writing.put_all.Statement.{statement}
-use Rattle.parked_blocks.proofs.writing.put_all.Tie as tie
+use Rattle.parked_blocks.proofs.writing.put_first.Statement.{statement}
+use Rattle.parked_blocks.proofs.writing.put_first.Tie as tie
 
 put-block-requires : tie.Need-put-block-requires
 put-block-requires c κs = search needs
@@ -22,10 +22,10 @@ same-length : tie.Need-same-length
 same-length c = search needs
 
 returns : tie.Need-returns
-returns c = search all-made
+returns c = search first-made
 
-pub put-all-spec : {M : Type 1} → statement M
-put-all-spec =
+pub put-first-spec : {M : Type 1} → statement M
+put-first-spec =
     tie.close
     (tie.spec
     put-block-requires
