@@ -20,3 +20,4 @@ pub mod OnlyEmits
 pub mod TheDemand
 pub mod ThePromise
 pub mod Numbers17
+pub mod CallRows

@@ -1,0 +1,31 @@
+-- A refusal writes neither rows nor output, and the seven told numbers of a text stand in their order: by computation.
+use mathlib.Core.Path.{_≡_, refl}
+use mathlib.Core.List.{List, [], _∷_}
+use Prim.Native.Nat.{ℕ}
+use Rattle.spec_caption.specs.caption_fate.Fates.{passed, dropped, shifted, clipped}
+use Rattle.spec_caption.specs.caption_fate.Emit.{Emit, warning, emit, decided, outputOf, warningsOf, placesOf}
+use Rattle.spec_session.specs.session_counts.Counts.{howMany}
+use Rattle.spec_runs.specs.caption_rows.Cues.{unlessRefused}
+use Rattle.spec_runs.specs.one_call.Text.{toldOf, unlessRefused as textUnless}
+
+pub refused-rows : (unlessRefused 0 (7 ∷ []) ≡ 7 ∷ []) × (unlessRefused 16 (7 ∷ []) ≡ []) × (textUnless 0 (7 ∷ []) ≡ 7 ∷ []) × (textUnless 15 (7 ∷ []) ≡ [])
+refused-rows = (refl, refl, refl, refl)
+
+-- one caption shifted, two clipped, three dropped, four passed; eleven bytes written, two warnings, thirteen bytes taken
+abbrev emits : List Emit
+emits =
+    emit (1 ∷ 2 ∷ 3 ∷ []) [] (decided (shifted 0 0))
+    ∷ emit (1 ∷ 2 ∷ 3 ∷ 4 ∷ []) (warning 4 1 ∷ []) (decided (clipped 0 0))
+    ∷ emit [] [] (decided (clipped 0 0))
+    ∷ emit [] [] (decided dropped)
+    ∷ emit [] [] (decided dropped)
+    ∷ emit [] [] (decided dropped)
+    ∷ emit (1 ∷ 2 ∷ 3 ∷ 4 ∷ []) (warning 1 9 ∷ []) (decided passed)
+    ∷ emit [] [] (decided passed)
+    ∷ emit [] [] (decided passed)
+    ∷ emit [] [] (decided passed)
+    ∷ []
+
+pub told-row : toldOf emits 13 ≡ 11 ∷ 4 ∷ 1 ∷ 2 ∷ 3 ∷ 4 ∷ 13 ∷ []
+unfolding toldOf outputOf warningsOf placesOf howMany
+told-row = refl
