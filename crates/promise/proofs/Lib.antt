@@ -21,3 +21,4 @@ pub mod TheDemand
 pub mod ThePromise
 pub mod Numbers17
 pub mod CallRows
+pub mod LineRows

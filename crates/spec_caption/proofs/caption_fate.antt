@@ -11,3 +11,4 @@ pub mod LostRows
 pub mod TellLaws
 pub mod CountRows
 pub mod MarkRows
+pub mod EmitRows

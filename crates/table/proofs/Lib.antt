@@ -11,3 +11,4 @@ pub mod HeadRows
 pub mod WarnRows
 pub mod LentRows
 pub mod WhiteRows
+pub mod RoomRows

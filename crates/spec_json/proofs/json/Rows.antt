@@ -1,10 +1,11 @@
--- Hexadecimal digits and the width of a number, from both sides: by computation.
+-- Hexadecimal digits, the width of a number and the digits of a known field, from both sides: by computation.
 use mathlib.Core.Path.{_≡_, refl}
 use mathlib.Core.List.{List, [], _∷_, map}
 use Rattle.spec_base.specs.base.Ascii.{ascii}
-use Rattle.spec_text.specs.text.Number.{digit}
+use Rattle.spec_text.specs.text.Number.{digit, digits, valueFrom}
 use Rattle.spec_json.specs.json.Str.{hexDigit}
-use Rattle.spec_json.specs.json.Num.{digitRun, intWidth, fracWidth, isExp, expWidth, numberWidth}
+use Rattle.spec_json.specs.json.Num.{digitRun, intWidth, fracWidth, isExp, expWidth, numberWidth, isPlain}
+use Rattle.spec_json.specs.json.Plain.{plainOf, plainNumber, plainValues}
 
 -- `/ 0 9 : @ A F G`, a grave accent, `a f g`; 16 is none
 pub hex-rows :
@@ -20,3 +21,19 @@ pub number-rows :
     ≡ 1 ∷ 1 ∷ 3 ∷ 5 ∷ 0 ∷ 2 ∷ 1 ∷ 1 ∷ 4 ∷ 6 ∷ 0 ∷ 0 ∷ []
 unfolding numberWidth intWidth fracWidth isExp expWidth digitRun digit
 number-rows = refl
+
+-- a field of at most 255: its number, and its value where there is one
+pub plain-rows :
+    map (λ s. plainNumber (plainOf 255 s) ∷ plainValues (plainOf 255 s)) (ascii "255" ∷ ascii "256" ∷ ascii "0" ∷ ascii "00" ∷ ascii "07" ∷ ascii "+1" ∷ ascii "-0" ∷ ascii "1.0" ∷ [] ∷ [])
+    ≡ (0 ∷ 255 ∷ [])
+    ∷ (23 ∷ [])
+    ∷ (0 ∷ 0 ∷ [])
+    ∷ (23 ∷ [])
+    ∷ (23 ∷ [])
+    ∷ (23 ∷ [])
+    ∷ (23 ∷ [])
+    ∷ (23 ∷ [])
+    ∷ (23 ∷ [])
+    ∷ []
+unfolding plainOf isPlain digits digit valueFrom
+plain-rows = refl
