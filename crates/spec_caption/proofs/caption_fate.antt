@@ -12,3 +12,4 @@ pub mod TellLaws
 pub mod CountRows
 pub mod MarkRows
 pub mod EmitRows
+pub mod DecideRows

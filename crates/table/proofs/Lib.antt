@@ -9,6 +9,4 @@ pub mod StringRows
 pub mod FateRows
 pub mod HeadRows
 pub mod WarnRows
-pub mod LentRows
-pub mod WhiteRows
 pub mod RoomRows
