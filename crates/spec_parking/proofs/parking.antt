@@ -5,3 +5,4 @@ pub mod StoreLaws
 pub mod ReadLaws
 pub mod TakeLaws
 pub mod Rows
+pub mod AnswerRows

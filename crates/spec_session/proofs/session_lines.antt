@@ -2,3 +2,4 @@ pub mod TellLaws
 pub mod BomLaws
 pub mod LentLaws
 pub mod DoneLaws
+pub mod LentRows
