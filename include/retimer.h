@@ -1,6 +1,11 @@
-/* The retimer's C functions: frame sheet check, trim list check, the map of a sheet and a list, captions retimed through it, in pieces or in one call, the captions of a text, time
- * conversions, questions about a map, and maps as JSON.
- * They keep no state, write nothing but what is lent to them for that, and return on every input. Numbers: docs/NUMBERS.md. */
+/* The retimer's C functions:
+ *   - frame sheet check and trim list check;
+ *   - the map of a sheet and a list;
+ *   - captions retimed through a map, in pieces or in one call;
+ *   - the captions of a text;
+ *   - time conversions, questions about a map, and maps as JSON.
+ * They keep no state. They write only to the buffers that the caller lends for that. They return on every input.
+ * docs/NUMBERS.md lists the numbers that they return. */
 #ifndef RETIMER_H
 #define RETIMER_H
 
@@ -11,8 +16,14 @@
 extern "C" {
 #endif
 
-/* Bytes and numbers are given as a pointer that is not NULL and, behind it, how many there are, which may be 0: `x_length` of those that are read, `x_lent` of those that are lent to
- * be written. What is lent overlaps nothing else that is given. */
+/* Rules for all functions:
+ *   - An array is a pointer that is not NULL and, behind it, its length, which may be 0.
+ *   - The length is `x_length` for an array that is read, `x_lent` for a buffer that may be written.
+ *   - A buffer overlaps nothing else that is passed.
+ *   - A place for one result is a pointer that is not NULL. No two places are the same.
+ *   - Elements of a buffer behind what is written stay as they were.
+ *   - A map is 64-bit numbers, six to a segment: start frame, end frame, source start, frame count, output start,
+ *     duration. Its length counts numbers. */
 
 /* The numbers that a function returns. */
 enum retimer_number {
@@ -47,7 +58,8 @@ enum retimer_number {
     RETIMER_NO_TRIES = 29          /* budget 0, or more than 4096 captions */
 };
 
-/* What each number says, for messages: `static const char *const sentence[] = RETIMER_SENTENCES;` gives sentence[number]. docs/GUIDE.md says what to do. */
+/* What each number says, for messages: `static const char *const sentence[] = RETIMER_SENTENCES;` gives
+ * sentence[number]. docs/GUIDE.md says what to do. */
 #define RETIMER_SENTENCES { \
     "done", \
     "no longer given: a blank trim list keeps the whole play", \
@@ -108,33 +120,41 @@ enum retimer_direction { RETIMER_OUTWARD = 0, RETIMER_INWARD = 1 };
 /* Work bytes that are enough for the check of every sheet. */
 #define RETIMER_MOST_WORK 131072
 
-/* 0 for a sound frame sheet, else 11, 12, 13 or 14; 16 where too few work bytes are lent; 25 where two frames name the same sample; 26 where its
- * durations are more than 2^53 ticks together.
- * The work bytes, of any value, are n / 8, rounded up, for n frames, or more. They must not overlap the sheet.
- * With 0, 25 and 26 those needed end zero; else all stay as they were, and bytes past those needed always do. */
+/* Checks a frame sheet.
+ * Returns 0 for a sound sheet; 11, 12, 13 or 14 for a fault; 16 where `work` is too short; 25 where two frames name
+ * the same sample; 26 where the durations together are more than 2^53 ticks.
+ * work: n / 8 bytes, rounded up, or more, for n frames. Their content does not matter.
+ * With 0, 25 and 26 the bytes needed end zero. With any other number all bytes stay as they were. */
 uint32_t retimer_sheet_check(const uint8_t *sheet, size_t sheet_length, uint8_t *work, size_t work_lent);
 
-/* 0 for a good trim list, or a blank one, which keeps the whole play; else 2 to 7, or 20 for bytes that are not UTF-8. */
+/* Checks a trim list.
+ * Returns 0 for a good list, or a blank one, which keeps the whole play; else 2 to 7, or 20 for bytes that are not
+ * UTF-8. */
 uint32_t retimer_list_check(const uint8_t *list, size_t list_length);
 
 /* Numbers that are enough for every map: 1024 segments, six to each. */
 #define RETIMER_MAP_NUMBERS 6144
 
-/* The map of a sheet and a trim list. It reads the sheet and the list; direction is outward or inward. The work bytes, as for the check, are for the sheet; at least
- * RETIMER_MAP_NUMBERS numbers are lent for the map.
- * 0; 16 where fewer numbers are lent or the direction is neither; then the sheet's numbers (11 to 14, 16, 25, 26); then the list's (2 to 7, 20); then those of its ranges (8 to 10, 26).
- * With 0 the map is written, six numbers to a segment, and `timescale` and `count` tell the sheet's ticks a second and how many segments there are: the map to
- * hand on is the first 6 * count numbers. Numbers behind them stay as they were. With any other number the map and both places stay as they were.
- * Where fewer numbers are lent or the direction is neither, the work bytes stay too; else they are as the check leaves them. */
+/* Makes the map of a sheet and a trim list.
+ * work: as for the check. map: at least RETIMER_MAP_NUMBERS numbers. direction: outward or inward.
+ * Returns, in this order: 16 where `map` is too short or the direction is neither; the sheet's numbers (11 to 14, 16,
+ * 25, 26); the list's (2 to 7, 20); those of its ranges (8 to 10, 26); else 0.
+ * With 0 the map is written, `timescale` is the sheet's ticks a second, and `count` is the number of segments. The map
+ * to pass on is the first 6 * count numbers.
+ * With any other number `map` and both places stay as they were.
+ * The work bytes stay where `map` is too short or the direction is neither. Else they are as the check leaves them. */
 uint32_t retimer_map(const uint8_t *sheet, size_t sheet_length, const uint8_t *list, size_t list_length, uint32_t direction, uint8_t *work, size_t work_lent,
                      uint64_t *map, size_t map_lent, uint32_t *timescale, uint64_t *count);
 
-/* Captions retimed. A session is kept by the caller, between two calls, as RETIMER_SESSION_BYTES bytes, which may be stored and taken up another day; they have no alignment.
- * A map is 64-bit numbers, six to a segment (below). A piece has at most RETIMER_MOST_PIECE bytes, cut anywhere; for every call at least RETIMER_LEAST_OUTPUT bytes of
- * output and RETIMER_LEAST_PLACES places for warnings are lent. */
+/* Captions retimed in pieces.
+ *   - The caller keeps a session, between two calls, as RETIMER_SESSION_BYTES bytes. They may be stored and taken up
+ *     another day. They have no alignment.
+ *   - A piece has at most RETIMER_MOST_PIECE bytes, cut anywhere.
+ *   - Each call needs at least RETIMER_LEAST_OUTPUT bytes of output and RETIMER_LEAST_PLACES places for warnings. */
 #define RETIMER_SESSION_BYTES 9216
-/* The words of a session's block 0, 32 bits each, least byte first: word k stands at byte 4 * k. Word 0 and word 127 of each of the 18 blocks are its number and its sum, as in a frame sheet (docs/SHEET.md); the
- * held bytes stand in blocks 1 to 17. A caller may read them, and change none: a sum that is wrong is 27. */
+/* The words of a session's block 0, 32 bits each, least byte first. Word k stands at byte 4 * k.
+ * Words 0 and 127 of each of the 18 blocks are its number and its sum, as in a frame sheet (docs/SHEET.md).
+ * The held bytes stand in blocks 1 to 17. A caller may read the words, but must change none: a wrong sum is 27. */
 enum retimer_session_word {
     RETIMER_WORD_MARK = 1,        /* 2; 1 where an older program stored the session */
     RETIMER_WORD_KIND = 2,
@@ -157,28 +177,43 @@ enum retimer_session_word {
 #define RETIMER_LEAST_OUTPUT 32768
 #define RETIMER_LEAST_PLACES 4096
 
-/* Opens a session of a kind, with the ticks a second, through the map. 0; 15 for the timescale or the map; 16 for the kind, then where fewer than RETIMER_SESSION_BYTES bytes are
- * lent. With 0 the session is the first RETIMER_SESSION_BYTES bytes, and those behind stay; else all stay as they were. */
+/* Opens a session of a kind, with the ticks a second, through the map.
+ * Returns 15 for the timescale or the map; 16 for the kind, then for fewer than RETIMER_SESSION_BYTES bytes; else 0.
+ * With 0 the session is the first RETIMER_SESSION_BYTES bytes. With any other number all bytes stay as they were. */
 uint32_t retimer_open(uint32_t kind, uint32_t timescale, const uint64_t *map, size_t map_length, uint8_t *session, size_t session_lent);
 
-/* Takes a piece of the text. Refused, nothing is written and all that is lent stays as it was, the two told lengths too: 27 where the session is not
- * the RETIMER_SESSION_BYTES bytes that a call left, 17 where they name a session that no call leads to, 18 where it has ended, 15 for the map, 16 for a length, or
- * where more than 2^30 bytes would be taken together.
- * Else 0, and the retimed text that is complete stands at the start of `out`, the warnings, two numbers to each (which, and the line), at the start of `warnings`;
- * `written` and `warned` tell how many bytes and how many numbers; bytes and numbers behind them stay. The session is the one to hand to the next call;
- * an empty piece leaves its bytes as they were. 19 to 22 and 24 end the session: what stands before the fault is written and told likewise. */
+/* Takes a piece of the text.
+ * Refusals, in this order:
+ *   27 the session is not RETIMER_SESSION_BYTES bytes that a call left;
+ *   17 the bytes name a session that no call leads to;
+ *   18 the session has ended;
+ *   15 the map;
+ *   16 a length, or more than 2^30 bytes taken together.
+ * Refused, nothing is written: all buffers and both places stay as they were.
+ * Else it returns 0, or 19 to 22 or 24 for a fault of the text, which ends the session.
+ *   - The retimed text that is complete stands at the start of `out`, of a faulty text what stands before the fault.
+ *   - The warnings stand at the start of `warnings`, two numbers to each: which, and the line.
+ *   - `written` and `warned` are how many bytes and how many numbers.
+ *   - The session is the one to pass to the next call. An empty piece leaves its bytes as they were. */
 uint32_t retimer_feed(uint8_t *session, size_t session_lent, const uint64_t *map, size_t map_length, const uint8_t *piece, size_t piece_length, uint8_t *out,
                       size_t out_lent, uint64_t *warnings, size_t warnings_lent, uint64_t *written, uint64_t *warned);
 
-/* The end of the text: what is held is its last line. The same numbers and the same places as for a piece; with 0 too the session has ended (18 from then on). */
+/* Ends the text: what is held is its last line.
+ * It returns the same numbers and writes the same places as a feed. With 0 too the session has ended (18 from then
+ * on). */
 uint32_t retimer_finish(uint8_t *session, size_t session_lent, const uint64_t *map, size_t map_length, uint8_t *out, size_t out_lent, uint64_t *warnings,
                         size_t warnings_lent, uint64_t *written, uint64_t *warned);
 
-/* A whole text in one call: opened, fed and finished inside. For a text of `text_length` bytes at least RETIMER_OUTPUT_FOR(text_length) bytes of output, RETIMER_PLACES_FOR(text_length)
- * places for warnings and RETIMER_TOLD_NUMBERS told numbers are lent.
- * Refused, nothing is written: 15 for the timescale or the map, 16 for the kind, a text of more than 2^30 bytes, or too little lent.
- * Else 0, or 19 to 22 or 24 for the text: the retimed text, of a faulty one what stands before the fault, is at the start of `out`, the warnings, two numbers to each, at the start
- * of `warnings`, and the told numbers are those below; bytes and numbers behind them stay. They are what feeds of the text, cut anywhere, and a finish write, warn of and count. */
+/* Retimes a whole text in one call: it opens, feeds and finishes inside.
+ * out: at least RETIMER_OUTPUT_FOR(text_length) bytes. warnings: at least RETIMER_PLACES_FOR(text_length) numbers.
+ * told: at least RETIMER_TOLD_NUMBERS numbers.
+ * Refused, nothing is written: 15 for the timescale or the map; 16 for the kind, a text of more than 2^30 bytes, or a
+ * buffer that is too short.
+ * Else it returns 0, or 19 to 22 or 24 for a fault of the text.
+ *   - The retimed text stands at the start of `out`, of a faulty text what stands before the fault.
+ *   - The warnings stand at the start of `warnings`, two numbers to each.
+ *   - `told` has the numbers of enum retimer_told.
+ * These are what feeds of the text, cut anywhere, and a finish write, warn of and count. */
 #define RETIMER_OUTPUT_FOR(length) (3 * (size_t)(length) + 32768)
 #define RETIMER_PLACES_FOR(length) ((size_t)(length) / 3 + 4096)
 #define RETIMER_TOLD_NUMBERS 7
@@ -194,10 +229,16 @@ enum retimer_told {
 uint32_t retimer_text(uint32_t kind, uint32_t timescale, const uint64_t *map, size_t map_length, const uint8_t *text, size_t text_length, uint8_t *out, size_t out_lent,
                       uint64_t *warnings, size_t warnings_lent, uint64_t *told, size_t told_lent);
 
-/* The captions of a whole text, in its order. Refused, nothing is written: 16 for the kind, a text of more than 2^30 bytes, fewer than RETIMER_CUES_TOLD told numbers, or fewer than
- * RETIMER_CUE_NUMBERS numbers lent for each caption. RETIMER_CUES_FOR(text_length) are enough for every text, which is proved, and then the text is walked once; with fewer it is walked twice.
- * Else 0, or 19 to 22 or 24 for the text: RETIMER_CUE_NUMBERS numbers for each caption, of a faulty text for each before the line (ASS) or block of the first fault, stand at the start of `rows`,
- * and two numbers are told; numbers behind them stay. For every map the fates that retimer_why tells of these times, counted, are what retimer_text counts for the text. */
+/* Lists the captions of a whole text, in its order.
+ * rows: RETIMER_CUE_NUMBERS numbers for each caption. RETIMER_CUES_FOR(text_length) are enough for every text, which is
+ * proved, and then the text is walked once. With fewer it is walked twice.
+ * told: at least RETIMER_CUES_TOLD numbers.
+ * Refused, nothing is written: 16 for the kind, a text of more than 2^30 bytes, or a buffer that is too short.
+ * Else it returns 0, or 19 to 22 or 24 for a fault of the text.
+ *   - The numbers of each caption stand at the start of `rows`, of a faulty text those of each caption before the line
+ *     (ASS) or block of the first fault.
+ *   - `told` has the numbers of enum retimer_cues_told.
+ * For every map the fates that retimer_why gives for these times, counted, are what retimer_text counts for the text. */
 #define RETIMER_CUE_NUMBERS 6
 #define RETIMER_CUES_FOR(length) (6 * ((size_t)(length) / 8 + 1))
 #define RETIMER_CUES_TOLD 2
@@ -206,17 +247,20 @@ enum retimer_cue {
     RETIMER_CUE_PASSED = 1, /* 0, or the warning 1 or 2 with which the caption passes; then its times are 0 */
     RETIMER_CUE_START = 2,  /* in units of the kind */
     RETIMER_CUE_END = 3,
-    RETIMER_CUE_AT = 4,     /* the byte of the text at which the words begin: in ASS the last field, else the lines below the times, of one that passes its whole line */
+    RETIMER_CUE_AT = 4,     /* the byte of the text at which the words begin. The words are in ASS the last field,
+                             * else the lines below the times; of a caption that passes, its whole line */
     RETIMER_CUE_SIZE = 5    /* how many bytes they are */
 };
 enum retimer_cues_told {
     RETIMER_CUES_COUNT = 0,     /* captions */
-    RETIMER_CUES_FAULT_LINE = 1 /* the line of the fault, or 0: of a block that is too long its first, of a time that can't be read that of the times */
+    RETIMER_CUES_FAULT_LINE = 1 /* the line of the fault, or 0. For a block that is too long it is the first line,
+                                 * for a time that can't be read the line of the times */
 };
 uint32_t retimer_cues(uint32_t kind, const uint8_t *text, size_t text_length, uint64_t *rows, size_t rows_lent, uint64_t *told, size_t told_lent);
 
-/* Conversions. kind: 0 ASS (hundredths), 1 SRT and 2 WebVTT (thousandths); timescale: ticks a second, 1 to 1000000000.
- * A value of units is at most 2^36, one of ticks at most 2^53. Refused, they return 0; the number says so. */
+/* Conversions between caption units and ticks.
+ * kind: 0 ASS (hundredths), 1 SRT and 2 WebVTT (thousandths). timescale: ticks a second, 1 to 1000000000.
+ * Units are at most 2^36, ticks at most 2^53. A refused conversion returns 0; the functions below give its number. */
 uint64_t retimer_units_to_ticks(uint64_t value, uint32_t timescale, uint32_t kind);
 uint64_t retimer_ticks_to_units_floor(uint64_t value, uint32_t timescale, uint32_t kind);
 uint64_t retimer_ticks_to_units_ceil(uint64_t value, uint32_t timescale, uint32_t kind);
@@ -225,21 +269,23 @@ uint64_t retimer_ticks_to_units_ceil(uint64_t value, uint32_t timescale, uint32_
 uint32_t retimer_units_number(uint64_t value, uint32_t timescale, uint32_t kind);
 uint32_t retimer_ticks_number(uint64_t value, uint32_t timescale, uint32_t kind);
 
-/* A map is 64-bit numbers, six to a segment: start frame, end frame, source start, frame count, output start, duration. Its length is in numbers.
- * A place that is lent for an answer is not NULL, and no two are the same. */
-
-/* What is sure of a caption that starts between two ticks and ends between two ticks, bounds included and any of 64 bits.
- * 0; 15 for a bad map; 16 where a lower bound is above its upper bound. With 0 the judgement, else left as it was, is one of these three. */
+/* Says what is sure of a caption whose start and end are each known between two ticks. The bounds are included, and may
+ * be any 64-bit numbers.
+ * Returns 15 for a bad map; 16 where a lower bound is above its upper bound; else 0.
+ * With 0 the judgement is one of these three. With any other number it stays as it was. */
 #define RETIMER_SURELY_DROPPED 0 /* no choice within the bounds meets a kept segment */
 #define RETIMER_SURELY_KEPT 1    /* every choice does */
 #define RETIMER_UNSURE 2         /* one does, another does not */
 uint32_t retimer_rough(const uint64_t *map, size_t map_length, uint64_t start_low, uint64_t start_high, uint64_t end_low, uint64_t end_high,
                        uint64_t *judgement);
 
-/* What becomes of a caption of two times in units, at most 2^36 each, and why. 0; 15 for a bad timescale or map; 16 for a kind above 2, a time above the limit, or
- * fewer places lent for causes than the map has segments. Else than with 0 nothing is written; the lent places must not overlap one another or the map.
- * With 0: the fate; of a caption that is kept the place of its segment in the list, from 0, and how many ticks are cut off at each end, and no cause is written;
- * of a dropped one these three are 0, and a cause for each segment stands at the start of `causes`, those behind staying as they were. */
+/* Says what becomes of a caption, and why. Its two times are in units, at most 2^36 each.
+ * Returns 15 for a bad timescale or map; 16 for a kind above 2, a time above the limit, or fewer places for causes than
+ * the map has segments; else 0. With a number that is not 0 nothing is written.
+ * With 0 the fate is written.
+ *   - Kept caption: `place` is its segment in the list, from 0. `start_cut` and `end_cut` are the ticks that are cut
+ *     off at each end. No cause is written.
+ *   - Dropped caption: these three are 0. A cause for each segment stands at the start of `causes`. */
 #define RETIMER_DROPPED 0
 #define RETIMER_SHIFTED 1
 #define RETIMER_CLIPPED 2
@@ -249,19 +295,25 @@ uint32_t retimer_rough(const uint64_t *map, size_t map_length, uint64_t start_lo
 uint32_t retimer_why(const uint64_t *map, size_t map_length, uint32_t timescale, uint32_t kind, uint64_t start, uint64_t stop, uint64_t *causes, size_t causes_lent,
                      uint64_t *fate, uint64_t *place, uint64_t *start_cut, uint64_t *end_cut);
 
-/* How many starts survive a cut: captions of so many units at the starts 0 to count - 1, in units of the kind. How many are shifted, clipped and dropped goes
- * to the three places, and they sum to count. length and count are at most 36000000.
- * 0; 15 for the timescale or the map; 28 for a map whose segments of positive duration do not ascend without overlap in source and output; 16 for kind, length
- * or count. With a number that is not 0 nothing is written. The lent places must not overlap one another or the map. */
+/* Counts how many starts survive a cut. There is one caption of `length` units at each start from 0 to count - 1, in
+ * units of the kind. length and count are at most 36000000.
+ * Returns 15 for the timescale or the map; 28 for a map whose segments of positive duration do not ascend without overlap
+ * in source and output; 16 for kind, length or count; else 0. With a number that is not 0 nothing is written.
+ * With 0 the three places are how many are shifted, clipped and dropped. They sum to count. */
 uint32_t retimer_census(const uint64_t *map, size_t map_length, uint32_t timescale, uint32_t kind, uint64_t length, uint64_t count, uint64_t *shifted,
                         uint64_t *clipped, uint64_t *dropped);
 
-/* The delay that loses the fewest captions, of the first `budget` in the order 0, 1, -1, 2, -2 to 6000, -6000 units; of equal ones the first. Captions are start
- * and end in turn, in units of the kind, at most 4096 of them, each time at most 2^36; captions_length counts times. A caption is lost where a time falls below zero, or where it is clipped or dropped.
- * delay: the delay, which may be negative; loss: captions lost under it; tried: the delays tried, 12001 or the budget where that is smaller; off: how far off the loss can be: no delay
- * at all loses fewer than loss - off.
- * 0; 15 for the timescale or the map; 29 for budget 0 or more than 4096 captions; 16 for kind, an odd captions_length or a time. With a number that is not 0 nothing is written.
- * The lent places must not overlap one another, the map or the captions. */
+/* Finds the delay that loses the fewest captions.
+ * It tries the first `budget` delays in the order 0, 1, -1, 2, -2 to 6000, -6000 units. Of equal ones it takes the first.
+ * A caption is lost where a time falls below zero, or where it is clipped or dropped.
+ * captions: start and end in turn, in units of the kind, at most 4096 captions, each time at most 2^36.
+ * captions_length counts times.
+ * Returns 15 for the timescale or the map; 29 for budget 0 or more than 4096 captions; 16 for kind, an odd
+ * captions_length or a time; else 0. With a number that is not 0 nothing is written.
+ *   - delay: the delay, which may be negative;
+ *   - loss: captions lost under it;
+ *   - tried: the delays tried, 12001 or the budget where that is smaller;
+ *   - off: how far off the loss can be. No delay at all loses fewer than loss - off. */
 uint32_t retimer_best_delay(const uint64_t *map, size_t map_length, uint32_t timescale, uint32_t kind, const uint64_t *captions, size_t captions_length,
                             uint32_t budget, int64_t *delay, uint32_t *loss, uint32_t *tried, uint32_t *off);
 
@@ -270,17 +322,19 @@ uint32_t retimer_best_delay(const uint64_t *map, size_t map_length, uint32_t tim
 #define RETIMER_MOST_NUMBERS RETIMER_MAP_NUMBERS /* numbers of the longest map, six to a segment */
 #define RETIMER_MOST_TEXT 255141    /* bytes of the longest text */
 
-/* The text of a map, with its line end: timescale, frame rate (a fraction), input path and frame count go with it.
- * 0; 15 for a bad timescale or map; 16 for a path above 1024 bytes; 20 for one that is not UTF-8; 16 where the text is longer than the bytes lent for it.
- * With 0 the text stands at the start of `text`, bytes behind it staying as they were, and `written` is its length; else nothing is written.
- * `text` must not overlap the map or the path. */
+/* Writes the text of a map, with its line end. Timescale, frame rate (a fraction), input path and frame count go into it.
+ * Returns 15 for a bad timescale or map; 16 for a path above 1024 bytes; 20 for one that is not UTF-8; 16 where the text
+ * is longer than its buffer; else 0.
+ * With 0 the text stands at the start of `text`, and `written` is its length. Else nothing is written. */
 uint32_t retimer_map_write(const uint64_t *map, size_t map_length, uint32_t timescale, uint32_t rate_num, uint32_t rate_den, const uint8_t *path,
                            size_t path_length, uint32_t frames, uint8_t *text, size_t text_lent, uint64_t *written);
 
-/* A map from its text. 0; 23 for a text outside the rules of docs/GUIDE.md, or with a path above 1024 bytes; 15 for a timescale or map outside the limits; 16 where
- * fewer than 6144 places are lent for numbers, or fewer than 1024 for path bytes.
- * With 0 the map's numbers stand at the start of `map` and the path, decoded, at the start of `path`, what is behind them staying as it was, and the six places tell
- * the timescale, the frame rate, the frame count and how many numbers and path bytes were written; else nothing is written. Nothing lent may overlap. */
+/* Reads a map from its text.
+ * Returns 23 for a text outside the rules of docs/GUIDE.md, or with a path above 1024 bytes; 15 for a timescale or map
+ * outside the limits; 16 for fewer than 6144 places for numbers, or fewer than 1024 for path bytes; else 0.
+ * With 0 the map's numbers stand at the start of `map`, and the decoded path at the start of `path`. The six places are
+ * the timescale, the frame rate, the frame count, and how many numbers and path bytes were written.
+ * With any other number nothing is written. */
 uint32_t retimer_map_read(const uint8_t *text, size_t text_length, uint64_t *map, size_t map_lent, uint8_t *path, size_t path_lent, uint32_t *timescale,
                           uint32_t *rate_num, uint32_t *rate_den, uint32_t *frames, uint64_t *numbers, uint64_t *path_length);
 

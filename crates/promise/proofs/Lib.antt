@@ -20,3 +20,5 @@ pub mod OnlyEmits
 pub mod TheDemand
 pub mod ThePromise
 pub mod Numbers17
+pub mod CallRows
+pub mod LineRows

@@ -10,3 +10,4 @@ pub mod TallyLaws
 pub mod SavingLaws
 pub mod Rows
 pub mod Limits
+pub mod AnswerRows

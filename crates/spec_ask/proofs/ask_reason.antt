@@ -4,3 +4,4 @@ pub mod Answers
 pub mod Named
 pub mod Truth
 pub mod Rows
+pub mod CauseRows

@@ -4,3 +4,4 @@ pub mod RefusalNumbers
 pub mod Refusals
 pub mod PartLaws
 pub mod PutLaws
+pub mod LentRows

@@ -12,3 +12,5 @@ pub mod LostRows
 pub mod TellLaws
 pub mod CountRows
 pub mod MarkRows
+pub mod EmitRows
+pub mod DecideRows

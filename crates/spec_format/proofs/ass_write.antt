@@ -2,3 +2,4 @@ pub mod TagLaws
 pub mod WriteLaws
 pub mod FieldBack
 pub mod FitLaws
+pub mod TagRows

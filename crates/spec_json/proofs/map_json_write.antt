@@ -3,3 +3,4 @@ pub mod Back
 pub mod Clean
 pub mod Whole
 pub mod Limits
+pub mod ReadRows

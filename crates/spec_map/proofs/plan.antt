@@ -3,3 +3,4 @@ pub mod PairLaws
 pub mod SnapLaws
 pub mod SnapMeaning
 pub mod KnownLaws
+pub mod SnapRows

@@ -4,3 +4,4 @@ pub mod KeptLaws
 pub mod MapLaws
 pub mod Built
 pub mod Blank
+pub mod NumberRows

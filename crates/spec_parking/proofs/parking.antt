@@ -6,3 +6,4 @@ pub mod ReadLaws
 pub mod TakeLaws
 pub mod Rows
 pub mod HeadLaws
+pub mod AnswerRows

@@ -3,3 +3,4 @@ pub mod NumberLaws
 pub mod CallLaws
 pub mod FeedLaws
 pub mod Rows
+pub mod TextRows

@@ -11,3 +11,4 @@ pub mod ReadLaws
 pub mod AgreeText
 pub mod CallLaws
 pub mod FaultRows
+pub mod RefusedRows

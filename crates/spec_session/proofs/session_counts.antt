@@ -15,3 +15,4 @@ pub mod Empty
 pub mod Room
 pub mod Keeps
 pub mod Wholly
+pub mod CountRows

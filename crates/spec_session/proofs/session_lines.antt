@@ -3,3 +3,4 @@ pub mod BomLaws
 pub mod LentLaws
 pub mod DoneLaws
 pub mod PlainLaws
+pub mod LentRows

@@ -1,3 +1,4 @@
 pub mod FrameLaws
 pub mod TicksLaws
 pub mod Rows
+pub mod RecordRows

@@ -1,8 +1,12 @@
 pub mod TheMap
 pub mod Past
+pub mod TableRows
 pub mod Table
+pub mod BlocksRows
 pub mod Blocks
 pub mod Enums
 pub mod StringRows
 pub mod FateRows
 pub mod HeadRows
+pub mod WarnRows
+pub mod RoomRows

@@ -1,4 +1,4 @@
--- What a line (in SRT a block) tells: its number, how it is counted, and what it writes. The answer's equations are these at every input.
+-- What a line (in SRT and WebVTT a block) tells: its number, how it is counted, and what it writes. The answer's equations are these at every input.
 use mathlib.Core.Path.{_≡_}
 use mathlib.Core.Bool.{Bool, true, false, cond}
 use mathlib.Core.List.{List, [], _∷_}

@@ -1,31 +1,20 @@
--- The text of a feed and the bytes afterwards: by computation.
+-- Which numbers refuse a call over bytes, what a refusal leaves of a told length, and which call is an empty piece: by computation.
 use mathlib.Core.Path.{_≡_, refl}
-use mathlib.Core.Bool.{true, false, cond}
-use mathlib.Core.List.{List, [], _∷_}
-use lib.ListN.{length, replicate, take}
-use Rattle.spec_base.specs.base.Refusal.{_orElse_, faultUnless}
-use Rattle.spec_sheet.specs.checked_blocks.Block.{wordAt, blockHolds}
-use Rattle.spec_session.specs.session_counts.Session.{isOutcome}
-use Rattle.spec_parking.specs.parked_blocks.Sealed.{bodies, allHold, allZero, isRow}
-use Rattle.spec_parking.specs.parking.Parked.{unusedZero, isParked}
-use Rattle.spec_parking.specs.parking.Head.{headIn}
-use Rattle.spec_parking.specs.session_bytes.Answer.{refuses}
-use Rattle.spec_parking.specs.session_bytes.Text.{textNumber, textOf, keptText}
+use mathlib.Core.Bool.{Bool, true, false}
+use mathlib.Core.List.{List, [], _∷_, map}
+use Rattle.spec_session.specs.session.Answer.{feedCall, finishCall}
+use Rattle.spec_parking.specs.session_bytes.Answer.{refuses, emptyPiece, toldIn}
 
-unsound : textNumber [] ≡ 27
-unfolding textNumber isParked isRow unusedZero isOutcome faultUnless _orElse_ allHold blockHolds bodies allZero wordAt
-unsound = refl
+pub refuses-rows : map refuses (0 ∷ 14 ∷ 15 ∷ 16 ∷ 17 ∷ 18 ∷ 19 ∷ 20 ∷ 21 ∷ 22 ∷ 24 ∷ 26 ∷ 27 ∷ 28 ∷ [])
+    ≡ false ∷ false ∷ true ∷ true ∷ true ∷ true ∷ false ∷ false ∷ false ∷ false ∷ false ∷ false ∷ true ∷ false ∷ []
+unfolding refuses
+refuses-rows = refl
 
--- nothing held: the piece, as much of it as a call may have
-text : textOf [] (7 ∷ 8 ∷ []) ≡ 7 ∷ 8 ∷ []
-unfolding textOf bodies wordAt
-text = refl
+-- with 0, with 22, refused
+pub told-rows : toldIn 0 5 9 ∷ toldIn 22 5 9 ∷ toldIn 16 5 9 ∷ toldIn 27 5 9 ∷ [] ≡ 5 ∷ 5 ∷ 9 ∷ 9 ∷ []
+unfolding toldIn refuses
+told-rows = refl
 
-cut : length (textOf [] (replicate 1025 7)) ≡ 1024
-unfolding textOf bodies wordAt
-cut = refl
-
--- refused, or with nothing fed, the bytes stay
-stays : keptText 16 false (headIn []) [] 0 (7 ∷ []) ≡ keptText 0 true (headIn []) [] 0 (7 ∷ [])
-unfolding keptText refuses
-stays = refl
+-- no byte, one byte, a finish
+pub empty-rows : emptyPiece (feedCall [] [] 0 0) ∷ emptyPiece (feedCall [] (10 ∷ []) 0 0) ∷ emptyPiece (finishCall [] 0 0) ∷ [] ≡ true ∷ false ∷ false ∷ []
+empty-rows = refl

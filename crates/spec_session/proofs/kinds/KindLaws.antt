@@ -61,7 +61,7 @@ pub held-block : (j : ℕ) (h : List ℕ)
 unfolding heldBad
 held-block j h = rw (ne-eqb (suc j) 0 (λ e. omega arith))
 
--- ---- what holds of a state between two lines: ASS has no block, SRT's is of finished lines
+-- ---- what holds of a state between two lines: ASS has no block, that of SRT and WebVTT is of finished lines
 abbrev pub BlockFit : (kind : ℕ) → List (List ℕ) → Type 0
 BlockFit zero ls = ls ≡ []
 BlockFit (suc k) ls = Finished ls

@@ -1,4 +1,4 @@
--- Room: what a line or a block of either kind writes has at most three bytes for each byte that was held or came in, and at most one warning for seven.
+-- Room: what a line or a block of any kind writes has at most three bytes for each byte that was held or came in, and at most one warning for seven.
 use mathlib.Core.Path.{_≡_, refl, sym, ap, subst, _∙_}
 use mathlib.Core.Bool.{Bool, true, false, cond, true≢false}
 use mathlib.Core.List.{List, [], _∷_, _++_}
@@ -79,7 +79,7 @@ module _ (c : Config) (set : Set c) (g : List ℕ) (good : mapBad g ≡ false) w
             (record { out = rw (out-none c assMap) (omega arith); warn = rw (warn-none c assMap) (omega arith) });
       }
 
--- ---- SRT
+-- ---- SRT and WebVTT
 -- the held lines are the lines of the held bytes
 abbrev pub Parsed : State → Type 0
 Parsed s = linesOf (concat (s .block)) ≡ s .block

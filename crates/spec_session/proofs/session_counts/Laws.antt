@@ -31,7 +31,7 @@ module _ {σ : Type 0} (Fit : σ → Type 0) (pending size : σ → ℕ) where
 pub record Lawful {σ κ : Type 0} (K : Kit σ κ) (kind : ℕ) : Type 1 where
   -- what holds of the state between two lines
   pub Fit : σ → Type 0
-  -- captions that no further line needs to end: 1 for an open SRT block
+  -- captions that no further line needs to end: 1 for an open block
   pub pending : σ → ℕ
   -- bytes of finished lines that are held
   pub size : σ → ℕ

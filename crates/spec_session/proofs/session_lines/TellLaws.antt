@@ -285,7 +285,7 @@ module _ (c : Config) (m : List Segment) where
     pub end-fits : (x : Told) (first : ℕ) (o o′ w w′ : List ℕ) → Tells (blockIn c m first b (length o) (length w)) x o o′ w w′ → x .written ≤ 3 * length b
     end-fits x first o o′ w w′ g = omega (arith, g .written, block-in-fits c m first b (length o) (length w) .output)
 
-  -- ---- an SRT line
+  -- ---- a line of SRT or WebVTT
   emits-snoc : (ps : List Part) (l : List ℕ) → emittedIn c m (ps ++ (stays l ∷ [])) ≡ emittedIn c m ps ++ (emit l [] none ∷ [])
   unfolding emittedIn
   emits-snoc [] l = emits-stays l []

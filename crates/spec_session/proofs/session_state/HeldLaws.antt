@@ -107,7 +107,7 @@ end-lf h = go (hasLf h) refl
     go false e = ap (λ (c : Cut ℕ). ltb 0 (length (concat (c .pieces)))) (cut-rest h e)
     go true e = lt-ltb 0 (closedLength h) (some e (concat (closedLines h)) refl)
 
--- ---- SRT: the lines of the bytes before that end are the finished lines
+-- ---- SRT and WebVTT: the lines of the bytes before that end are the finished lines
 pub end-lines : (h : List ℕ) → linesOf (take (closedLength h) h) ≡ closedLines h
 end-lines h =
     ap linesOf (ap (take (closedLength h)) (sym (cut-joined h)) ∙ take-append-seam (concat (closedLines h)) (unfinished h) ∙ sym (append-nil (concat (closedLines h))))

@@ -19,13 +19,13 @@ pub data Says (σ : Type 0) : Type 0 where
   faulty : Fault → Says σ
   says : σ → List Part → Says σ
 
--- σ is what is known between two lines: the section and the columns in ASS, the open block's lines in SRT.
+-- σ is what is known between two lines: the section and the columns in ASS, the open block's lines in SRT and WebVTT.
 -- A line is given with its terminator and without a BOM; n is the number of lines before it.
 pub record Machine (σ : Type 0) : Type 0 where
   pub start : σ
   -- a line that is not too long: 20, 24 or 21, 22 in this order, else what it says
   pub step : σ → (n : ℕ) → List ℕ → Says σ
-  -- a finish after n lines: in SRT it ends the block
+  -- a finish after n lines: in SRT and WebVTT it ends the block
   pub close : σ → (n : ℕ) → Says σ
 
 -- ---- a text on its way

@@ -20,7 +20,7 @@ use Rattle.spec_session.specs.session_counts.Machine.{Machine, Run, goin
 abbrev pub configBad : Config → Bool
 configBad c = kindBad (c .kind) || timescaleBad (c .timescale)
 
--- held: the unfinished line, in SRT behind the open block's lines. κ is what else is known between two lines
+-- held: the unfinished line, in SRT and WebVTT behind the open block's lines. κ is what else is known between two lines
 pub record Session (κ : Type 0) : Type 0 where
   pub config : Config
   pub taken : ℕ

@@ -53,7 +53,7 @@ pub record Ample (t : Counts) (k room places : ℕ) : Type 0 where
   pub room-long : 3 * k ≤ room
   pub places-long : 4 ≤ places
 
--- in ASS no block is open; in SRT the block's bytes are its lines
+-- in ASS no block is open; in SRT and WebVTT the block's bytes are its lines
 abbrev pub Parsed : (ass : Bool) → List (List ℕ) → Type 0
 Parsed true ls = ls ≡ []
 Parsed false ls = linesOf (concat ls) ≡ ls
