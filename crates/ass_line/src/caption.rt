@@ -24,6 +24,7 @@ ghost use Prim.Native.Nat.{_+_, _*_, _≤_};
 ghost use lib.ListN.{length, drop};
 ghost use Rattle.spec_base.specs.base.Put.{put};
 ghost use Rattle.spec_text.specs.text.Line.{textOf, terminatorOf};
+ghost use Rattle.spec_text.specs.whitespace.White.{trimTail};
 ghost use Rattle.spec_caption.specs.caption_stamp.Read.{timeIn};
 ghost use Rattle.spec_caption.specs.caption_fate.Grouped.{segmentsBy};
 ghost use Rattle.spec_caption.specs.caption_fate.Decide.{decideIn};
@@ -31,6 +32,7 @@ ghost use Rattle.spec_caption.specs.caption_fate.Fates.{passed};
 ghost use Rattle.spec_caption.specs.caption_fate.Emit.{none, decided, emit, warning, warnIf, placesOf, keptEmit};
 ghost use Rattle.spec_caption.specs.caption_fate.Told.{answered, cueIn, Tells};
 ghost use Rattle.spec_format.specs.ass_columns.Columns.{fields, fieldAt};
+ghost use Rattle.spec_format.specs.ass_columns.Section.{bracketed};
 ghost use Rattle.spec_format.specs.ass_write.Tags.{tagged};
 ghost use Rattle.spec_format.specs.ass_write.Frame.{lineFrame, frameMost};
 ghost use Rattle.spec_format.specs.ass_line.Line.{lineCue, timesSay, captionSays, wordSays};
@@ -319,6 +321,16 @@ fn event_line(
     LineTold { told, columns }
 }
 
+// Whether a text goes from `[` to `]` when its end is trimmed, which it is only where it begins with `[`.
+fn trims_to_section(s: &[u8]) -> bool
+    ensures { λ r. ⌜ r ≡ bracketed (trimTail (now (s .entry))) ⌝ }
+{
+    if base::byte(s, 0) != b'[' {
+        return false;
+    }
+    is_section(whitespace::trim_tail(s))
+}
+
 // What becomes of a line: `text` is the line with its terminator and without a BOM, and `n` lines came before it.
 pub fn line(
     config: Config,
@@ -341,8 +353,9 @@ pub fn line(
         let told = refused(16);
         return LineTold { told, columns };
     }
-    let t = whitespace::trimmed(text::text_of(text));
-    if is_section(t) {
+    let s = whitespace::trim_head(text::text_of(text));
+    if trims_to_section(s) {
+        let t = whitespace::trim_tail(s);
         let next = in_section(names_events(t), columns);
         let told = stayed(text, out);
         return LineTold {
