@@ -9,10 +9,13 @@ ghost use mathlib.Core.Path.{_≡_};
 ghost use mathlib.Core.Bool.{true, false, cond};
 ghost use Prim.Native.Nat.{_≤_, _+_};
 ghost use lib.Dec.{ltb};
-ghost use lib.ListN.{length};
+ghost use lib.ListN.{length, drop};
 ghost use Rattle.spec_base.specs.base.Limits.{mostTaken, mostLine};
 ghost use Rattle.spec_map.specs.segment.Segment.{segmentsOf, mapBad};
 ghost use Rattle.spec_map.specs.segment.Groups.{groupsOf};
+ghost use Rattle.spec_text.specs.utf8.Utf8.{utf8};
+ghost use Rattle.spec_text.specs.text.Line.{concat};
+ghost use Rattle.spec_session.specs.session_counts.Cut.{closedLines};
 ghost use Rattle.spec_session.specs.session_lines.Answer.{takeIn, LineTells};
 ghost use Rattle.spec_session.specs.session_text.Lined.{LineEnd, Joins, lineStart, Starts, linedOf, Onto, textRun, Ends};
 
@@ -76,14 +79,26 @@ fn led_to(
     }
 }
 
-// Lines passed over: how many lines there are before the next one, and where that begins.
+// Whether the lines of `rest` that LF ends are UTF-8; of ASS it is not asked.
+fn lines_good(kind: u32, rest: &[u8]) -> bool
+    ensures { λ r. ⌜ (r ≡ true → utf8 (concat (closedLines (now (rest .entry)))) ≡ true) ⌝ }
+{
+    if kind == 0 {
+        return false;
+    }
+    utf8::is_utf8(base::front(rest, session_state::block_end(rest)))
+}
+
+// Lines passed over: how many lines there are before the next one, where that begins and ends.
 struct Passed {
     lines: u32,
     place: usize,
+    end: usize,
 }
 
 // Whether a line, before which n stand, only joins the open block, which has `size` bytes with it.
-fn joins_block(kind: u32, n: u32, size: usize, line: &[u8]) -> bool
+fn joins_block(good: bool, kind: u32, n: u32, size: usize, line: &[u8]) -> bool
+    requires { ⌜ (good ≡ true → utf8 (now line) ≡ true) ⌝ }
     ensures { λ r. ⌜ (r ≡ true → Joins kind n size (now (line .entry))) ⌝ }
 {
     if n == 0 {
@@ -95,30 +110,49 @@ fn joins_block(kind: u32, n: u32, size: usize, line: &[u8]) -> bool
     if block_timing::is_blank_in(kind, line) {
         return false;
     }
+    if good {
+        return true;
+    }
     utf8::is_utf8(line)
 }
 
 // Passes over the lines from i on that only join the open block, which begins at b.
-fn pass_joins(kind: u32, lines: u32, b: usize, begin: usize, text: &[u8]) -> Passed
+fn pass_joins(good: bool, kind: u32, lines: u32, b: usize, begin: usize, text: &[u8]) -> Passed
     requires { ⌜ (lines ≤ mostTaken + begin) × (b ≤ begin) × (begin ≤ length (now text)) × (length (now text) ≤ mostTaken) ⌝ }
+    requires { ⌜ (good ≡ true → utf8 (concat (closedLines (drop begin (now text)))) ≡ true) ⌝ }
     ensures { λ r. ⌜ begin ≤ r .place ⌝ }
     ensures { λ r. ⌜ Onto kind b (now (text .entry)) lines begin (r .lines) (r .place) ⌝ }
+    ensures { λ r. ⌜ LineEnd (now (text .entry)) (r .place) (r .end) ⌝ }
+    ensures { λ r. ⌜ (good ≡ true → utf8 (concat (closedLines (drop (r .place) (now (text .entry))))) ≡ true) ⌝ }
 {
     let mut n = lines;
     let mut i = begin;
     while kind != 0 {
         let e = line_end(text, i);
         if e == 0 {
-            return Passed { lines: n, place: i };
+            return Passed {
+                lines: n,
+                place: i,
+                end: e,
+            };
         }
-        if joins_block(kind, n, e - b, &text[i..e]) {
+        if joins_block(good, kind, n, e - b, &text[i..e]) {
             n += 1;
             i = e;
         } else {
-            return Passed { lines: n, place: i };
+            return Passed {
+                lines: n,
+                place: i,
+                end: e,
+            };
         }
     }
-    Passed { lines: n, place: i }
+    let e = line_end(text, i);
+    Passed {
+        lines: n,
+        place: i,
+        end: e,
+    }
 }
 
 // A line with the BOM that may begin it, through a map with the bounds of its groups.
@@ -171,10 +205,12 @@ pub fn run_lines(
     let mut i = start;
     let mut o: usize = 0;
     let mut w: usize = 0;
+    let setting = head.config;
+    let good = lines_good(setting.kind, base::rest(text, i));
     while i < text.len() {
         let config = head.config;
-        let p = pass_joins(config.kind, n, b, i, text);
-        let e = line_end(text, p.place);
+        let p = pass_joins(good, config.kind, n, b, i, text);
+        let e = p.end;
         if e == 0 {
             let number = rest_number(text.len() - p.place);
             return led_to(number, p.lines, counts, columns, b, p.place, o, w);

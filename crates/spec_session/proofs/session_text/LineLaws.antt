@@ -24,7 +24,9 @@ use Rattle.spec_caption.specs.caption_fate.Emit.{outputOf, warningsOf, placesOf
 use Rattle.spec_format.specs.declared.ass_columns.Columns.{Columns}
 use Rattle.spec_session.specs.session_counts.Counts.{countAll}
 use Rattle.spec_session.specs.session_counts.Machine.{Machine, Says, faulty, says, Run, going, stopped, lineEnd, takeLine, run}
+use Rattle.spec_session.specs.session_counts.Cut.{closedLines}
 use Rattle.spec_session.specs.session_counts.Session.{emitted}
+use Rattle.spec_session.proofs.session_counts.GoodLines.{good-line, good-later}
 use Rattle.spec_session.proofs.session_counts.Emits.{emits-none, count-none}
 use Rattle.spec_session.proofs.session_counts.Bytes.{run-stopped}
 use Rattle.spec_session.proofs.session_counts.Resume.{run-append, fault-number}
@@ -453,6 +455,16 @@ joins-not kind n size l e = absurd (true≢false (sym e))
 
 pub joins-yes : (kind n size : ℕ) (l : List ℕ) (p r : Bool) → (n ≡ 0 → ⊥) → size ≤ 4096 → p ≡ blankIn kind l → p ≡ false → r ≡ utf8 l → r ≡ true → Joins kind n size l
 joins-yes kind n size l p r h s e f g q = record { later = h; small = s; filled = sym e ∙ f; good = sym g ∙ q }
+
+pub joins-known : (kind n size : ℕ) (l : List ℕ) (p g : Bool) → (n ≡ 0 → ⊥) → size ≤ 4096 → p ≡ blankIn kind l → p ≡ false → (g ≡ true → utf8 l ≡ true) → g ≡ true → true ≡ true → Joins kind n size l
+joins-known kind n size l p g h s e f u q z = record { later = h; small = s; filled = sym e ∙ f; good = u q }
+
+-- ---- the closed lines from i on are UTF-8 together: the line at i is, and so are the lines behind it
+pub closed-good : (text : List ℕ) (i e : ℕ) (g : Bool) → Closed text i e → (g ≡ true → utf8 (concat (closedLines (drop i text))) ≡ true) → g ≡ true → utf8 (take (e - i) (drop i text)) ≡ true
+closed-good text i e g C f h = good-line text i e (C .lo) (C .ends) (f h)
+
+pub closed-later : (text : List ℕ) (i e : ℕ) (g : Bool) → Closed text i e → (g ≡ true → utf8 (concat (closedLines (drop i text))) ≡ true) → g ≡ true → utf8 (concat (closedLines (drop e text))) ≡ true
+closed-later text i e g C f h = good-later text i e (C .lo) (C .ends) (f h)
 
 pub onto-none : (kind b : ℕ) (text : List ℕ) (n i : ℕ) → Onto kind b text n i n i
 onto-none kind b text n i = λ h m t k o w out₀ out places₀ places q A. A

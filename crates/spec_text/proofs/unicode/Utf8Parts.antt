@@ -7,13 +7,15 @@ use native.Mathlib.Omega.{arith}
 use borrow.Author.Tests.{ltb-true, ltb-false}
 use lib.Dec.{ltb}
 use lib.ListN.{length, getD, take, drop, drop-of-length-le, List·getD-append}
-use lib.Seq.{drop-cons, drop-append-add, take-append-add, getD-append-add, drop-nil}
+use lib.Seq.{drop-cons, drop-append-add, take-append-add, getD-append-add, drop-nil, take-append-seam, drop-append-seam}
 use Rattle.spec_text.specs.utf8.Utf8.{utf8}
 use Rattle.spec_text.proofs.utf8.Laws.{utf8-end}
 use Rattle.spec_text.specs.unicode.Encode.{encode, Scalar, Scalars, none, more, encodeAll}
 use Rattle.spec_text.proofs.unicode.Encoding.{utf8-encoded}
 use Rattle.spec_text.proofs.unicode.Trailing.{enc-1}
 use Rattle.spec_text.proofs.unicode.Decoding.{all-taken, only-those}
+use Rattle.spec_text.specs.text.Line.{endsLine}
+use Rattle.spec_text.proofs.text.LfLaws.{ends-last}
 
 -- ---- a byte below 80 is a character
 low-scalar : (b : ℕ) → b < 0x80 → Scalar b
@@ -122,3 +124,23 @@ pub low-take : (s : List ℕ) → utf8 s ≡ true → (k : ℕ) → getD s k 0 <
 low-take s e k h =
     let r = only-those s e in
     ap (λ (l : List ℕ). utf8 (take (suc k) l)) (r .2) ∙ take-row (r .0) (r .1) k (subst (λ (l : List ℕ). getD l k 0 < 0x80) (r .2) h)
+
+-- ---- a line that LF ends, at the head of a UTF-8 text: it is UTF-8, and so is what follows it
+module _ (l s : List ℕ) (e : endsLine l ≡ true) (h : utf8 (l ++ s) ≡ true) where
+  abbrev k : ℕ
+  k = length l - 1
+
+  all : suc k ≡ length l
+  all = let n = ends-last l e .0 in omega arith
+
+  low : getD (l ++ s) k 0 < 0x80
+  low =
+      let n = ends-last l e in
+      let i : k < length l = omega (arith, n .0) in
+      omega (arith, List·getD-append l s 0 k i, n .1)
+
+  pub line-head : utf8 l ≡ true
+  line-head = ap utf8 (sym (take-append-seam l s)) ∙ ap (λ (n : ℕ). utf8 (take n (l ++ s))) (sym all) ∙ low-take (l ++ s) h k low
+
+  pub line-tail : utf8 s ≡ true
+  line-tail = ap utf8 (sym (drop-append-seam l s)) ∙ ap (λ (n : ℕ). utf8 (drop n (l ++ s))) (sym all) ∙ low-past (l ++ s) h k low
