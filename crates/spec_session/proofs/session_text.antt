@@ -1,4 +1,5 @@
 pub mod StartLaws
 pub mod LineLaws
 pub mod TextLaws
+pub mod FeedLaws
 pub mod Rows
