@@ -5,7 +5,7 @@ ghost use lib.ListN.{length, take, drop, replicate};
 ghost use Rattle.spec_base.specs.base.Put.{put, putAt};
 ghost use Rattle.spec_sheet.specs.checked_blocks.Block.{sumWords};
 ghost use Rattle.spec_parking.specs.parked_blocks.Sealed.{bodyLength, roomLength, sealedLength, wordBytes, wordsBytes, sealed, sealedAll, filled, rowIn};
-ghost use Rattle.spec_parking.specs.parked_blocks.First.{blocksFor, firstOf, firstIn};
+ghost use Rattle.spec_parking.specs.parked_blocks.First.{blocksFor, firstBlocks, firstIn};
 
 // A word's four bytes, from the place `at` on.
 fn put_word(out: &mut [u8], at: usize, w: u32)
@@ -98,7 +98,7 @@ fn put_held(out: &mut [u8], held: &[u8], k: usize)
 // Block 0 and k more.
 fn put_first(out: &mut [u8], head: &[u8], held: &[u8], k: usize)
     requires { ⌜ (sealedLength ≤ length (now out)) × (length (now head) ≤ bodyLength) × (length (now held) ≤ roomLength) × (k ≤ 17) ⌝ }
-    ensures { λ _. ⌜ now (out .exit) ≡ put (firstOf k (now (head .entry)) (now (held .entry))) (now (out .entry)) ⌝ }
+    ensures { λ _. ⌜ now (out .exit) ≡ put (firstBlocks k (now (head .entry)) (now (held .entry))) (now (out .entry)) ⌝ }
 {
     put_block(out, 0, head);
     put_held(&mut out[512..], held, k);

@@ -7,7 +7,7 @@ ghost use Prim.Native.Nat.{_%_, _^_, _≤_, max};
 ghost use lib.ListN.{length};
 ghost use Rattle.spec_base.specs.base.Put.{put};
 ghost use Rattle.spec_parking.specs.parking.Parked.{flag, headWords, parkedOf};
-ghost use Rattle.spec_parking.specs.parking.Head.{numbersOf, bareOf, headBytes, restored};
+ghost use Rattle.spec_parking.specs.parking.Head.{headNumbers, bareOf, headBytes, restored};
 ghost use Rattle.spec_parking.specs.parked_blocks.Sealed.{sealedLength, wordsBytes};
 ghost use Rattle.spec_parking.specs.parking.Answer.{parkNumber, Parks, Stores};
 
@@ -133,7 +133,7 @@ fn number_bytes(head: Head) -> [u8; 64]
 
 // The numbers of a session.
 fn numbers(session: Session) -> Head
-    ensures { λ r. ⌜ r ≡ numbersOf session ⌝ }
+    ensures { λ r. ⌜ r ≡ headNumbers session ⌝ }
 {
     let config = session.config;
     let counts = session.counts;

@@ -9,7 +9,7 @@ ghost use lib.ListN.{length};
 ghost use Rattle.spec_session.specs.session.Answer.{feedCall, finishCall};
 ghost use Rattle.spec_parking.specs.parking.Head.{headIn};
 ghost use Rattle.spec_parking.specs.session_bytes.Answer.{refuses, toldIn, keptNext, Called};
-ghost use Rattle.spec_parking.specs.session_bytes.Text.{textNumber, textOf, TakesText, keptText};
+ghost use Rattle.spec_parking.specs.session_bytes.Text.{feedNumber, feedText, TakesText, keptText};
 
 // Whether the number refuses a call: 15 to 18, or 27.
 fn refuses_call(number: u32) -> bool
@@ -111,7 +111,7 @@ fn feed_text(
     out: &mut [u8],
     warnings: &mut [u64],
 ) -> Told
-    requires { ⌜ (textNumber (now bytes) ≡ 0) × (head ≡ headIn (now bytes)) × (now text ≡ textOf (now bytes) (now piece)) ⌝ }
+    requires { ⌜ (feedNumber (now bytes) ≡ 0) × (head ≡ headIn (now bytes)) × (now text ≡ feedText (now bytes) (now piece)) ⌝ }
     ensures { λ r. ⌜ Called (feedCall (now (map .entry)) (now (piece .entry)) (length (now (out .entry))) (length (now (warnings .entry)))) r (now (bytes .entry)) (now (bytes .exit)) (now (out .entry)) (now (out .exit)) (now (warnings .entry)) (now (warnings .exit)) ⌝ }
 {
     let bad = session::lengths_bad(head.taken, piece.len(), out.len(), warnings.len());

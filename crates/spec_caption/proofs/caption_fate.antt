@@ -1,5 +1,6 @@
 pub mod HitLaws
 pub mod GroupedLaws
+pub mod GroupRows
 pub mod DecideLaws
 pub mod FateLaws
 pub mod OnlyFate

@@ -4,19 +4,19 @@ use mathlib.Core.Path.{_≡_, refl, ap, ap₂, sym, _∙_}
 use mathlib.Core.Bool.{Bool, true, false, _&&_, cond}
 use mathlib.Core.List.{List, [], _∷_, _++_, append-assoc, append-nil}
 use lib.Dec.{eqb, leb}
-use lib.ListN.{length, getD, take, drop, replicate, length-append, length-drop, length-replicate, drop-of-length-le, take-append-drop}
+use lib.ListN.{length, getD, take, drop, replicate, length-append, length-drop, drop-of-length-le, take-append-drop}
 use lib.Seq.{length-take-le, take-all, take-at, drop-at, getD-drop, drop-drop}
 use native.Mathlib.Omega.{arith}
-use borrow.Author.Tests.{eq-eqb, ne-eqb, eqb-true, le-leb, lt-leb, leb-true}
+use borrow.Author.Tests.{eq-eqb, ne-eqb, eqb-true, le-leb, lt-leb}
 use Rattle.spec_base.specs.base.Put.{put}
 use Rattle.spec_base.proofs.base.Laws.{and-left, and-right}
 use Rattle.spec_base.proofs.base.PutLaws.{put-nil}
 use Rattle.spec_sheet.specs.checked_blocks.Block.{wordAt, sumWords, blockHolds}
 use Rattle.spec_parking.specs.parked_blocks.Sealed.{sealedLength, bodyLength, roomLength, wordBytes, sealed, sealedAll, filled, rowOf, allHold, bodies, roomOf, allZero, isRow}
-use Rattle.spec_parking.specs.parked_blocks.First.{blocksFor, firstOf, firstRoom, blankAll, shortRow, unsealedFirst}
+use Rattle.spec_parking.specs.parked_blocks.First.{blocksFor, firstBlocks, firstRoom, blankAll, shortRow, unsealedFirst}
 use Rattle.spec_parking.proofs.parked_blocks.Bytes.{word-past, word-within, word-is, bytes-length, sealed-length, all-length}
 use Rattle.spec_parking.proofs.parked_blocks.Again.{side-by-side, part-4, zero-list, block-sum}
-use Rattle.spec_parking.proofs.parked_blocks.WriteLaws.{zero-sum, take-zeros, drop-zeros, drop-filled, filled-size, row-first, blocks-few}
+use Rattle.spec_parking.proofs.parked_blocks.WriteLaws.{zero-sum, take-zeros, drop-zeros, drop-filled, filled-size, blocks-few}
 use Rattle.spec_parking.proofs.parked_blocks.ReadLaws.{and-assoc, and-false, and-true, bodies-length, row-length}
 
 -- ---- zeros
@@ -347,13 +347,13 @@ module _ (out head held : List ℕ) (k : ℕ) (few : k ≤ 17) (small : length h
   blank = and-right (allHold out 0 (k + 1)) _ tests
 
   F : List ℕ
-  F = firstOf k head held
+  F = firstBlocks k head held
 
   R : List ℕ
   R = sealedAll (k + 1) (17 - k) (replicate (bodyLength * (17 - k)) 0)
 
   first-size : length F ≡ 512 * (k + 1)
-  unfolding F firstOf
+  unfolding F firstBlocks
   first-size =
       omega (
         arith,
@@ -371,7 +371,7 @@ module _ (out head held : List ℕ) (k : ℕ) (few : k ≤ 17) (small : length h
       ∙ blanks-again out (k + 1) (17 - k) (omega arith) (omega (arith, size)) holds none
 
   row-parts : rowOf head held ≡ F ++ R
-  unfolding F R firstOf rowOf
+  unfolding F R firstBlocks rowOf
   row-parts =
       let z : 17 ≡ k + (17 - k) = omega arith in
       let y : 1 + k ≡ k + 1 = omega arith in
@@ -384,7 +384,7 @@ module _ (out head held : List ℕ) (k : ℕ) (few : k ≤ 17) (small : length h
       ap (λ (l : List ℕ). H ++ l) (ap (λ (n : ℕ). sealedAll 1 n L) z ∙ all-split 1 k (17 - k) L ∙ ap₂ (λ (j : ℕ) (l : List ℕ). sealedAll 1 k L ++ sealedAll j (17 - k) l) y zeros)
       ∙ sym (append-assoc H (sealedAll 1 k L) (sealedAll (k + 1) (17 - k) (replicate (bodyLength * (17 - k)) 0)))
 
-  pub first-over : put (firstOf k head held) out ≡ put (rowOf head held) out
+  pub first-over : put (firstBlocks k head held) out ≡ put (rowOf head held) out
   unfolding put F
   first-over =
       let long : length (rowOf head held) ≡ sealedLength = ap length (row-parts ∙ ap (λ (l : List ℕ). F ++ l) (sym rest-is)) ∙ omega (arith, length-append F (drop (512 * (k + 1)) out), length-drop (512 * (k + 1)) out, first-size, size) in

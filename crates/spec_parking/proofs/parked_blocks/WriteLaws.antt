@@ -13,7 +13,7 @@ use Rattle.spec_base.specs.base.Put.{put, putAt, placedAt, placeAfter}
 use Rattle.spec_base.proofs.base.PutLaws.{put-snoc, put-nil, putAt-nil, putAt-zero, length-put, then-put, then-placed, put-back}
 use Rattle.spec_sheet.specs.checked_blocks.Block.{wordAt, sumWords}
 use Rattle.spec_parking.specs.parked_blocks.Sealed.{sealedLength, bodyLength, roomLength, wordBytes, wordsBytes, sealed, sealedAll, filled, rowOf, rowIn}
-use Rattle.spec_parking.specs.parked_blocks.First.{blocksFor, firstOf, firstIn}
+use Rattle.spec_parking.specs.parked_blocks.First.{blocksFor, firstBlocks, firstIn}
 use Rattle.spec_parking.proofs.parked_blocks.Bytes.{sum-within, words-append, bytes-length, words-length, sealed-length, all-length}
 
 -- ---- one more element behind a piece
@@ -262,8 +262,8 @@ held-all held l xs k n h g e = let z : n ≡ k = omega arith in e ∙ ap (λ (i 
 -- ---- block 0 and k more
 pub first-made : (k : ℕ) (head held l xs ys : List ℕ) → length head ≤ bodyLength → xs ≡ put (sealed 0 (filled bodyLength head)) l
     → ys ≡ put (sealedAll 1 k (filled roomLength held)) (take (length xs - 512) (drop 512 xs))
-    → take 512 xs ++ (ys ++ drop (length xs - 512) (drop 512 xs)) ≡ put (firstOf k head held) l
-unfolding firstOf
+    → take 512 xs ++ (ys ++ drop (length xs - 512) (drop 512 xs)) ≡ put (firstBlocks k head held) l
+unfolding firstBlocks
 first-made k head held l xs ys h e f =
     put-back 512 (sealed 0 (filled bodyLength head)) (sealedAll 1 k (filled roomLength held)) l xs ys e (sym (sealed-length 0 (filled bodyLength head) (filled-size bodyLength head h))) f
 
@@ -285,15 +285,15 @@ module _ (out head held : List ℕ) (n : ℕ) where
       unfolding firstIn
       seal-held m = rw (le-leb sealedLength (length out) h, le-leb (length head) bodyLength k, lt-leb (length held) roomLength m) (sym (put-nil out))
 
-      pub seal-all : (xs : List ℕ) (j : ℕ) → length held ≤ roomLength → j ≡ blocksFor n → xs ≡ put (firstOf j head held) out → xs ≡ put First out
+      pub seal-all : (xs : List ℕ) (j : ℕ) → length held ≤ roomLength → j ≡ blocksFor n → xs ≡ put (firstBlocks j head held) out → xs ≡ put First out
       unfolding firstIn
       seal-all xs j m e f =
           rw (le-leb sealedLength (length out) h, le-leb (length head) bodyLength k, le-leb (length held) roomLength m)
-          (f ∙ ap (λ (i : ℕ). put (firstOf i head held) out) e)
+          (f ∙ ap (λ (i : ℕ). put (firstBlocks i head held) out) e)
 
 -- all 18
-pub row-first : (head held : List ℕ) → firstOf 17 head held ≡ rowOf head held
-unfolding firstOf rowOf
+pub row-first : (head held : List ℕ) → firstBlocks 17 head held ≡ rowOf head held
+unfolding firstBlocks rowOf
 row-first head held = refl
 
 pub seal-row : (out xs head held : List ℕ) → xs ≡ put (firstIn (length out) roomLength head held) out → xs ≡ put (rowIn (length out) head held) out

@@ -25,13 +25,12 @@ use Rattle.spec_session.specs.session_state.Head.{headOf}
 use Rattle.spec_session.specs.session_state.View.{heldOf, stored}
 use Rattle.spec_session.proofs.session_state.ViewLaws.{held-padded}
 use Rattle.spec_parking.specs.parked_blocks.Sealed.{sealedLength, bodyLength, roomLength, rowOf, roomOf, allZero, isRow}
-use Rattle.spec_parking.specs.parked_blocks.First.{blocksFor, firstOf, firstIn, firstRoom, shortRow, unsealedFirst}
+use Rattle.spec_parking.specs.parked_blocks.First.{blocksFor, firstBlocks, firstIn, firstRoom, shortRow, unsealedFirst}
 use Rattle.spec_parking.proofs.parked_blocks.ReadLaws.{row-length, room-length}
 use Rattle.spec_parking.proofs.parked_blocks.WriteLaws.{blocks-few}
 use Rattle.spec_parking.proofs.parked_blocks.FirstLaws.{zero-drop, first-over}
-use Rattle.spec_parking.specs.declared.parking.TakenIn.{TakenIn}
-use Rattle.spec_parking.specs.parking.Parked.{headWords, keptBytes, parkedOf, isMark, isFlag, unusedZero, isParked, sessionIn}
-use Rattle.spec_parking.specs.parking.Head.{numbersOf, bareOf, headIn, inNumber, copiedIn, TakesIn, headBytes, restored}
+use Rattle.spec_parking.specs.parking.Parked.{keptBytes, parkedOf, isMark, isFlag, unusedZero, isParked, sessionIn}
+use Rattle.spec_parking.specs.parking.Head.{headNumbers, headIn, inNumber, copiedIn, TakesIn, headBytes, restored}
 use Rattle.spec_parking.proofs.parking.StoreLaws.{head-length, same-words}
 
 -- ---- how far blocks reach
@@ -168,7 +167,7 @@ module _ (b room : List ℕ) where
       in-unsound p h z = by-parked false (sym h ∙ z)
 
 -- ---- the numbers
-pub head-is : (b : List ℕ) → headIn b ≡ numbersOf (sessionIn b)
+pub head-is : (b : List ℕ) → headIn b ≡ headNumbers (sessionIn b)
 unfolding headIn
 head-is b = refl
 
@@ -218,11 +217,11 @@ module _ (b held : List ℕ) (h : Head) (old : ℕ) (e : isParked b ≡ true) (o
   restored-row =
       let lent : sealedLength ≤ length b = omega (arith, row-length b (isRow b) refl (parked-row b e)) in
       let short : length (headBytes h) ≤ bodyLength = omega (arith, head-length h) in
-      (λ i. put (cond (le-leb sealedLength (length b) lent i && (le-leb (length (headBytes h)) bodyLength short i && le-leb (length held) roomLength small i)) (firstOf (blocksFor most) (headBytes h) held) []) b)
+      (λ i. put (cond (le-leb sealedLength (length b) lent i && (le-leb (length (headBytes h)) bodyLength short i && le-leb (length held) roomLength small i)) (firstBlocks (blocksFor most) (headBytes h) held) []) b)
       ∙ first-over b (headBytes h) held (blocksFor most) (blocks-few most (blocksFor most) refl) short (blocks-hold (length held) most (omega arith) small) (parked-short b e most (omega (arith, o)))
 
   -- the session s: these words, and these bytes held
-  pub restored-is : (s : Session) → headBytes h ≡ headBytes (numbersOf s) → keptBytes s ≡ held → restored h held old b ≡ put (parkedOf 2 s) b
+  pub restored-is : (s : Session) → headBytes h ≡ headBytes (headNumbers s) → keptBytes s ≡ held → restored h held old b ≡ put (parkedOf 2 s) b
   unfolding parkedOf
   restored-is s p q = restored-row ∙ ap₂ (λ (x y : List ℕ). put (rowOf x y) b) (p ∙ same-words s) (sym q)
 

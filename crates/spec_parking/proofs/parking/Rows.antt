@@ -1,9 +1,7 @@
 -- Words worked by hand, each with a value of its own, as they are stored and as they are read, what is no mark, no flag and no outcome, and the first and the last unused word of block 0: by computation.
 use mathlib.Core.Path.{_≡_, refl}
-use mathlib.Core.Bool.{Bool, true, false, _||_, _&&_, cond}
-use mathlib.Core.List.{List, [], _∷_, _++_}
-use Prim.Native.Nat.{ℕ}
-use lib.Dec.{eqb, leb}
+use mathlib.Core.Bool.{Bool, true, false}
+use mathlib.Core.List.{[], _∷_, _++_}
 use lib.ListN.{replicate}
 use Rattle.spec_sheet.specs.checked_blocks.Block.{wordAt, blockHolds}
 use Rattle.spec_session.specs.session_counts.Session.{isOutcome}
@@ -12,9 +10,8 @@ use Rattle.spec_parking.specs.parked_blocks.Sealed.{wordBytes, wordsByte
 use Rattle.spec_parking.specs.parked_blocks.First.{firstIn}
 use Rattle.spec_base.specs.base.Put.{put}
 use Rattle.spec_base.specs.base.Refusal.{_orElse_, faultUnless}
-use Rattle.spec_session.specs.declared.session_state.Head.{Head}
 use Rattle.spec_parking.specs.parking.Parked.{headWords, isMark, isFlag, unusedZero, isParked, sessionIn}
-use Rattle.spec_parking.specs.parking.Head.{bareOf, headIn, inNumber, restored}
+use Rattle.spec_parking.specs.parking.Head.{headIn, inNumber, restored}
 
 worked : (ended : Bool) → Session
 worked e =

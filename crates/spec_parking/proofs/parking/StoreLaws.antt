@@ -16,7 +16,7 @@ use Rattle.spec_session.specs.declared.session_state.Session.{Session}
 use Rattle.spec_session.specs.declared.session_state.Head.{Head}
 use Rattle.spec_session.specs.session_state.View.{heldOf, foreignOf}
 use Rattle.spec_parking.specs.parking.Parked.{flag, headWords, keptBytes, parkedOf}
-use Rattle.spec_parking.specs.parking.Head.{numbersOf, bareOf, headBytes}
+use Rattle.spec_parking.specs.parking.Head.{headNumbers, bareOf, headBytes}
 use Rattle.spec_parking.specs.parking.Answer.{parkNumber, Parks, Stores}
 use Rattle.spec_parking.specs.parked_blocks.Sealed.{sealedLength, bodyLength, roomLength, wordBytes, wordsBytes, sealed, sealedAll, filled, rowOf, rowIn}
 use Rattle.spec_parking.proofs.parked_blocks.Bytes.{words-append}
@@ -122,11 +122,11 @@ module _ (h : Head) where
   words-bytes words e = ap wordsBytes e
 
 -- ---- the bytes
-pub same-words : (s : Session) → headBytes (numbersOf s) ≡ wordsBytes (headWords 2 s)
+pub same-words : (s : Session) → headBytes (headNumbers s) ≡ wordsBytes (headWords 2 s)
 unfolding headWords
 same-words s = refl
 
-pub head-bytes : (s : Session) (h : Head) (head : List ℕ) → h ≡ numbersOf s → head ≡ headBytes h → head ≡ wordsBytes (headWords 2 s)
+pub head-bytes : (s : Session) (h : Head) (head : List ℕ) → h ≡ headNumbers s → head ≡ headBytes h → head ≡ wordsBytes (headWords 2 s)
 head-bytes s h head e f = f ∙ ap headBytes e ∙ same-words s
 
 module _ (s : Session) (size : length (s .held) ≡ mostHeld) where
@@ -143,7 +143,7 @@ module _ (s : Session) (size : length (s .held) ≡ mostHeld) where
   unfolding parkedOf rowIn
   stored-is n part head l out r e p w o =
       let small : length part ≤ roomLength = omega (arith, ap length p, length-take n (s .held)) in
-      let short : length head ≤ bodyLength = omega (arith, ap length w, head-length (numbersOf s), ap length (same-words s)) in
+      let short : length head ≤ bodyLength = omega (arith, ap length w, head-length (headNumbers s), ap length (same-words s)) in
       o ∙ (λ i. put (cond (le-leb sealedLength (length l) r i && (le-leb (length head) bodyLength short i && le-leb (length part) roomLength small i)) (rowOf head part) []) l)
       ∙ ap (λ (x : List ℕ). put x l) (row-is n head part e p ∙ ap (λ (x : List ℕ). rowOf x (keptBytes s)) w)
 

@@ -8,7 +8,7 @@ use lib.Dec.{eqb, leb, ltb}
 use lib.ListN.{length, take, drop, length-append, length-take}
 use lib.Seq.{length-take-le, take-all, take-take, take-at, drop-at}
 use native.Mathlib.Omega.{arith}
-use borrow.Author.Tests.{ne-eqb, eq-eqb, le-leb, lt-leb, le-ltb, leb-true, leb-false, ltb-false}
+use borrow.Author.Tests.{ne-eqb, le-leb, lt-leb, le-ltb, leb-true, leb-false, ltb-false}
 use Rattle.spec_base.specs.base.Limits.{mostPiece, mostHeld, mostTaken, leastOutput, leastPlaces}
 use Rattle.spec_base.specs.base.Refusal.{_orElse_, faultUnless}
 use Rattle.spec_base.specs.base.Put.{put, putAt, placedAt, placeAfter}
@@ -26,7 +26,7 @@ use Rattle.spec_session.specs.kinds.Takes.{State, machineOf}
 use Rattle.spec_session.specs.kinds.Kit.{kit}
 use Rattle.spec_session.specs.declared.session_state.Session.{Session}
 use Rattle.spec_session.specs.declared.session_state.Head.{Head}
-use Rattle.spec_session.specs.session_state.Head.{viewOf, headOf}
+use Rattle.spec_session.specs.session_state.Head.{headOf}
 use Rattle.spec_session.specs.session_state.View.{heldOf, view, stored, foreignOf}
 use Rattle.spec_session.proofs.session_state.ViewLaws.{held-plain, native-view}
 use Rattle.spec_session.proofs.session_state.ForeignLaws.{foreign-large}
@@ -34,11 +34,10 @@ use Rattle.spec_session.specs.declared.session.Fed.{Fed}
 use Rattle.spec_session.specs.session.Answer.{feedCall, answerOf, sessionGate, gateNumber, lengthsBad, nextBy, nextOf, Answered}
 use Rattle.spec_session.proofs.session.CallLaws.{gate-passed, answer-by, settled-small}
 use Rattle.spec_session.specs.declared.session_text.TextFed.{TextFed}
-use Rattle.spec_session.specs.session_text.Answer.{textNew, textSession, textBad, textGate, textAnswer, headBy, keptBy, textHead, textKept, TextTells, TextAnswered}
+use Rattle.spec_session.specs.session_text.Answer.{textSession, textBad, textGate, textAnswer, headBy, keptBy, textHead, textKept, TextTells, TextAnswered}
 use Rattle.spec_parking.specs.parked_blocks.Sealed.{sealedLength, roomLength, bodyLength, roomOf, isRow}
 use Rattle.spec_parking.specs.parked_blocks.First.{blocksFor, firstRoom, unsealedFirst}
 use Rattle.spec_parking.proofs.parked_blocks.ReadLaws.{row-length, room-length}
-use Rattle.spec_parking.proofs.parked_blocks.WriteLaws.{blocks-few}
 use Rattle.spec_parking.specs.declared.parking.TakenUp.{TakenUp}
 use Rattle.spec_parking.specs.declared.parking.TakenIn.{TakenIn}
 use Rattle.spec_parking.specs.parking.Parked.{parkedOf, isParked, sessionIn}
@@ -48,7 +47,7 @@ use Rattle.spec_parking.proofs.parking.HeadLaws.{parked-row, held-stand
 use Rattle.spec_parking.specs.declared.session_bytes.Told.{Told}
 use Rattle.spec_parking.specs.declared.session_bytes.TextIn.{TextIn}
 use Rattle.spec_parking.specs.session_bytes.Answer.{refuses, callNumber, keptNext, Called}
-use Rattle.spec_parking.specs.session_bytes.Text.{textNumber, textOf, TakesText, keptText}
+use Rattle.spec_parking.specs.session_bytes.Text.{feedNumber, feedText, TakesText, keptText}
 use Rattle.spec_parking.proofs.session_bytes.NumberLaws.{take-refuses}
 use Rattle.spec_parking.proofs.session_bytes.CallLaws.{refused-is, call-made}
 
@@ -58,19 +57,19 @@ by-test true k f h = absurd (h (f refl))
 by-test false k f h = refl
 
 module _ (b : List ℕ) where
-  pub unsound-27 : isParked b ≡ false → textNumber b ≡ 27
-  unfolding textNumber faultUnless _orElse_
+  pub unsound-27 : isParked b ≡ false → feedNumber b ≡ 27
+  unfolding feedNumber faultUnless _orElse_
   unsound-27 e = rw e
 
-  sound-is : isParked b ≡ true → textNumber b ≡ faultUnless (leb (wordAt b 16) mostHeld) 17
-  unfolding textNumber faultUnless _orElse_
+  sound-is : isParked b ≡ true → feedNumber b ≡ faultUnless (leb (wordAt b 16) mostHeld) 17
+  unfolding feedNumber faultUnless _orElse_
   sound-is e = rw e
 
-  pub large-17 : isParked b ≡ true → mostHeld < wordAt b 16 → textNumber b ≡ 17
+  pub large-17 : isParked b ≡ true → mostHeld < wordAt b 16 → feedNumber b ≡ 17
   unfolding faultUnless
   large-17 e h = sound-is e ∙ ap (λ (t : Bool). faultUnless t 17) (lt-leb (wordAt b 16) mostHeld h)
 
-  pub small-0 : isParked b ≡ true → wordAt b 16 ≤ mostHeld → textNumber b ≡ 0
+  pub small-0 : isParked b ≡ true → wordAt b 16 ≤ mostHeld → feedNumber b ≡ 0
   unfolding faultUnless
   small-0 e h = sound-is e ∙ ap (λ (t : Bool). faultUnless t 17) (le-leb (wordAt b 16) mostHeld h)
 
@@ -81,8 +80,8 @@ module _ (b : List ℕ) where
   zero-says true false e f z = absurd (let y : _≡_ {A = ℕ} 17 0 = z in omega arith)
   zero-says true true e f z = (e, leb-true (wordAt b 16) mostHeld f)
 
-  text-zero : textNumber b ≡ 0 → (isParked b ≡ true) × (wordAt b 16 ≤ mostHeld)
-  unfolding textNumber
+  text-zero : feedNumber b ≡ 0 → (isParked b ≡ true) × (wordAt b 16 ≤ mostHeld)
+  unfolding feedNumber
   text-zero z = zero-says (isParked b) (leb (wordAt b 16) mostHeld) refl refl z
 
   -- a number that is not 0 is take_up's
@@ -99,8 +98,8 @@ module _ (b : List ℕ) where
       past x = leb-false (wordAt b 16) mostHeld x
   number-says true true e f z = absurd (z refl)
 
-  pub text-take : (textNumber b ≡ 0 → ⊥) → textNumber b ≡ takeNumber b
-  unfolding textNumber
+  pub text-take : (feedNumber b ≡ 0 → ⊥) → feedNumber b ≡ takeNumber b
+  unfolding feedNumber
   text-take z = number-says (isParked b) (leb (wordAt b 16) mostHeld) refl refl z
 
 -- ---- the text is made
@@ -137,8 +136,8 @@ module _ (b piece room room₁ : List ℕ) (up : TakenIn) (long : 9216 ≤ lengt
   unfolding headIn sessionIn
   held-in = ap (λ (h : Head). h .«held_len») (u .head)
 
-  none : (k : ℕ) → (k ≡ 0 → ⊥) → take 0 room₁ ≡ cond (eqb k 0) (textOf b piece) []
-  none k h = sym (ap (λ (t : Bool). cond t (textOf b piece) []) (ne-eqb k 0 h))
+  none : (k : ℕ) → (k ≡ 0 → ⊥) → take 0 room₁ ≡ cond (eqb k 0) (feedText b piece) []
+  none k h = sym (ap (λ (t : Bool). cond t (feedText b piece) []) (ne-eqb k 0 h))
 
   pub text-27 : (up .number ≡ 0 → ⊥) → TakesText b piece (record { number = up .number; length = 0; head = up .head }) room₁
   unfolding faultUnless
@@ -176,11 +175,11 @@ module _ (b piece room room₁ : List ℕ) (up : TakenIn) (long : 9216 ≤ lengt
           ∙ held-stands b room room₁ (parked z) (omega arith) (u .bytes) (omega (arith, held-in))
           ∙ room-held b (omega (arith, held-in))
 
-      both : take m room₁ ++ v ≡ textOf b piece
-      unfolding textOf
+      both : take m room₁ ++ v ≡ feedText b piece
+      unfolding feedText
       both = ap₂ (λ (x y : List ℕ). x ++ y) held-there ev
 
-      stands : take n room₂ ≡ textOf b piece
+      stands : take n room₂ ≡ feedText b piece
       unfolding m putAt put
       stands =
           let first : length (take m room₁) ≡ m = length-take-le m room₁ (omega (arith, fits)) in
@@ -240,7 +239,7 @@ admitted s m piece o p e =
     let g = gate-passed (foreignOf s) (s .ended) (mapBad m) (lengthsBad (s .taken) (length piece) o p) (ap gateNumber e) in
     (g .0, g .2, g .3)
 
-module _ (b piece map : List ℕ) (o p : ℕ) (z : textNumber b ≡ 0) where
+module _ (b piece map : List ℕ) (o p : ℕ) (z : feedNumber b ≡ 0) where
   abbrev s : Session
   s = sessionIn b
 
@@ -263,21 +262,21 @@ module _ (b piece map : List ℕ) (o p : ℕ) (z : textNumber b ≡ 0) where
   held-long = length-take-le (wordAt b 16) (roomOf b) (omega (arith, room-long, few))
 
   T : List ℕ
-  T = textOf b piece
+  T = feedText b piece
 
   text-long : length T ≡ wordAt b 16 + length (take mostPiece piece)
-  unfolding T textOf
+  unfolding T feedText
   text-long = length-append (take (wordAt b 16) (roomOf b)) (take mostPiece piece) ∙ ap (λ (n : ℕ). n + length (take mostPiece piece)) held-long
 
   text-held : take (wordAt b 16) T ≡ heldOf (wordAt b 16) (take mostHeld (roomOf b))
-  unfolding T textOf
+  unfolding T feedText
   text-held =
       let size : length (take mostHeld (roomOf b)) ≡ mostHeld = length-take-le mostHeld (roomOf b) (omega (arith, room-long)) in
       take-at (take (wordAt b 16) (roomOf b)) (take mostPiece piece) (wordAt b 16) held-long
       ∙ sym (held-plain (wordAt b 16) (take mostHeld (roomOf b)) (omega (arith, size, few)) ∙ take-take (wordAt b 16) mostHeld (roomOf b) few)
 
   text-new : drop (wordAt b 16) T ≡ take mostPiece piece
-  unfolding T textOf
+  unfolding T feedText
   text-new = drop-at (take (wordAt b 16) (roomOf b)) (take mostPiece piece) (wordAt b 16) held-long
 
   view-is : textSession h T ≡ view s
@@ -395,8 +394,8 @@ open-gate s m piece o p k f n = go (gate-cases (foreignOf s) (s .ended) (mapBad 
         let q : k ≡ gateNumber (sessionGate s (feedCall m piece o p)) = n ∙ ap (λ (a : model.Answer Columns). a .number) (answer-by s (feedCall m piece o p)) ∙ number-gate (sessionGate s (feedCall m piece o p)) (view s) m piece o p g in
         absurd (true≢false (sym (ap refuses q ∙ g) ∙ f))
 
-module _ (b piece map out out′ places places′ : List ℕ) (z : textNumber b ≡ 0) (r : TextFed)
-    (ta : TextAnswered (headIn b) map (textOf b piece) (lengthsBad (sessionIn b .taken) (length piece) (length out) (length places)) r out out′ places places′) where
+module _ (b piece map out out′ places places′ : List ℕ) (z : feedNumber b ≡ 0) (r : TextFed)
+    (ta : TextAnswered (headIn b) map (feedText b piece) (lengthsBad (sessionIn b .taken) (length piece) (length out) (length places)) r out out′ places places′) where
   abbrev S : Session
   S = sessionIn b
 
@@ -409,22 +408,22 @@ module _ (b piece map out out′ places places′ : List ℕ) (z : textNumber b 
   abbrev G : Gate
   G = sessionGate S X
 
-  tells : TextTells A (headBy G (headIn b) (A .session)) (keptBy G (textOf b piece) (A .session .held)) (textOf b piece) r out out′ places places′
+  tells : TextTells A (headBy G (headIn b) (A .session)) (keptBy G (feedText b piece) (A .session .held)) (feedText b piece) r out out′ places places′
   unfolding textHead textKept T
   tells =
       let one =
       subst (λ (g : Gate).
-      TextTells (textAnswer (headIn b) map (textOf b piece) (lengthsBad (S .taken) (length piece) (length out) (length places)) (length out) (length places))
-      (headBy g (headIn b) (textAnswer (headIn b) map (textOf b piece) (lengthsBad (S .taken) (length piece) (length out) (length places)) (length out) (length places) .session))
-      (keptBy g (textOf b piece) (textAnswer (headIn b) map (textOf b piece) (lengthsBad (S .taken) (length piece) (length out) (length places)) (length out) (length places) .session .held)) (textOf b piece) r out out′ places places′)
+      TextTells (textAnswer (headIn b) map (feedText b piece) (lengthsBad (S .taken) (length piece) (length out) (length places)) (length out) (length places))
+      (headBy g (headIn b) (textAnswer (headIn b) map (feedText b piece) (lengthsBad (S .taken) (length piece) (length out) (length places)) (length out) (length places) .session))
+      (keptBy g (feedText b piece) (textAnswer (headIn b) map (feedText b piece) (lengthsBad (S .taken) (length piece) (length out) (length places)) (length out) (length places) .session .held)) (feedText b piece) r out out′ places places′)
       (gate-is b piece map (length out) (length places) z) ta in
-      subst (λ (a : model.Answer Columns). TextTells a (headBy G (headIn b) (a .session)) (keptBy G (textOf b piece) (a .session .held)) (textOf b piece) r out out′ places places′) (answer-is b piece map (length out) (length places) z) one
+      subst (λ (a : model.Answer Columns). TextTells a (headBy G (headIn b) (a .session)) (keptBy G (feedText b piece) (a .session .held)) (feedText b piece) r out out′ places places′) (answer-is b piece map (length out) (length places) z) one
 
   told : Told
   told = record { number = r .number; written = r .written; warned = r .warned }
 
   -- refused by 17
-  call-foreign : (b′ : List ℕ) → foreignOf S ≡ true → b′ ≡ keptText (r .number) (eqb (length piece) 0) (r .head) (drop (r .begin) (textOf b piece)) (wordAt b 16) b → Called X told b b′ out out′ places places′
+  call-foreign : (b′ : List ℕ) → foreignOf S ≡ true → b′ ≡ keptText (r .number) (eqb (length piece) 0) (r .head) (drop (r .begin) (feedText b piece)) (wordAt b 16) b → Called X told b b′ out out′ places places′
   unfolding told outputOf warningsOf placesOf refuses keptText
   call-foreign b′ e k =
       let a : A ≡ record { number = 17; session = view S; emits = [] } = answer-17 b piece map (length out) (length places) z e in
@@ -433,7 +432,7 @@ module _ (b piece map out out′ places places′ : List ℕ) (z : textNumber b 
       let none : A .emits ≡ [] = ap (λ (j : model.Answer Columns). j .emits) a in
       let t : out′ ≡ out = tells .text ∙ ap (λ (l : List Emit). put (outputOf l) out) none ∙ put-nil out in
       let w : places′ ≡ places = tells .warnings ∙ ap (λ (l : List Emit). put (placesOf (warningsOf l)) places) none ∙ put-nil places in
-      let same : b′ ≡ b = k ∙ ap (λ (j : ℕ). cond (refuses j || eqb (length piece) 0) b (restored (r .head) (drop (r .begin) (textOf b piece)) (wordAt b 16) b)) n in
+      let same : b′ ≡ b = k ∙ ap (λ (j : ℕ). cond (refuses j || eqb (length piece) 0) b (restored (r .head) (drop (r .begin) (feedText b piece)) (wordAt b 16) b)) n in
       let d : Called X told b b out out places places =
       refused-is b X told out places (n ∙ sym c) (tells .written ∙ ap (λ (l : List Emit). length (outputOf l)) none) (tells .warned ∙ ap (λ (l : List Emit). length (placesOf (warningsOf l))) none) (ap refuses c) in
       subst (λ (l : List ℕ). Called X told b l out out′ places places′) (sym same)
@@ -448,7 +447,7 @@ module _ (b piece map out out′ places places′ : List ℕ) (z : textNumber b 
     answered = record { number = tells .number; written = tells .written; warned = tells .warned; session = refl; text = tells .text; warnings = tells .warnings }
 
     -- what is stored is the next session
-    kept-next : keptText (r .number) (eqb (length piece) 0) (r .head) (drop (r .begin) (textOf b piece)) (wordAt b 16) b ≡ keptNext (r .number) (eqb (length piece) 0) (nextOf S X) b
+    kept-next : keptText (r .number) (eqb (length piece) 0) (r .head) (drop (r .begin) (feedText b piece)) (wordAt b 16) b ≡ keptNext (r .number) (eqb (length piece) 0) (nextOf S X) b
     unfolding keptText keptNext
     kept-next = go (refuses (r .number)) (eqb (length piece) 0) refl refl
       where
@@ -456,23 +455,23 @@ module _ (b piece map out out′ places places′ : List ℕ) (z : textNumber b 
         lent = row-lent b (sound b piece map (length out) (length places) z)
 
         go : (u v : Bool) → refuses (r .number) ≡ u → eqb (length piece) 0 ≡ v
-            → cond (u || v) b (restored (r .head) (drop (r .begin) (textOf b piece)) (wordAt b 16) b) ≡ put (cond (u || v) [] (whenDone (keepNumber (length b)) (parkedOf 2 (nextOf S X)))) b
+            → cond (u || v) b (restored (r .head) (drop (r .begin) (feedText b piece)) (wordAt b 16) b) ≡ put (cond (u || v) [] (whenDone (keepNumber (length b)) (parkedOf 2 (nextOf S X)))) b
         go true v p q = sym (put-nil b)
         go false true p q = sym (put-nil b)
         go false false p q =
             let g : G ≡ admit = open-gate S map piece (length out) (length places) (r .number) p (tells .number) in
             let h : r .head ≡ headOf (A .session) = tells .head ∙ ap (λ (j : Gate). headBy j (headIn b) (A .session)) g in
-            let k : drop (r .begin) (textOf b piece) ≡ A .session .held = tells .held ∙ ap (λ (j : Gate). keptBy j (textOf b piece) (A .session .held)) g in
+            let k : drop (r .begin) (feedText b piece) ≡ A .session .held = tells .held ∙ ap (λ (j : Gate). keptBy j (feedText b piece) (A .session .held)) g in
             ap₂ (λ (i : Head) (l : List ℕ). restored i l (wordAt b 16) b) h k
             ∙ next-stored b piece map (length out) (length places) z e g q
             ∙ ap (λ (n : ℕ). put (whenDone n (parkedOf 2 (nextOf S X))) b) (sym lent)
 
-    call-calm : (b′ : List ℕ) → b′ ≡ keptText (r .number) (eqb (length piece) 0) (r .head) (drop (r .begin) (textOf b piece)) (wordAt b 16) b → Called X told b b′ out out′ places places′
+    call-calm : (b′ : List ℕ) → b′ ≡ keptText (r .number) (eqb (length piece) 0) (r .head) (drop (r .begin) (feedText b piece)) (wordAt b 16) b → Called X told b b′ out out′ places places′
     unfolding told fed up
     call-calm b′ k =
         call-made b X (up b piece map (length out) (length places) z e) (takes-up b piece map (length out) (length places) z e) refl fed out out′ places places′ answered b′ (k ∙ kept-next)
 
-pub call-fed : (b piece map out out′ places places′ b′ text held : List ℕ) (h : Head) (bad : Bool) (r : TextFed) → textNumber b ≡ 0 → h ≡ headIn b → text ≡ textOf b piece
+pub call-fed : (b piece map out out′ places places′ b′ text held : List ℕ) (h : Head) (bad : Bool) (r : TextFed) → feedNumber b ≡ 0 → h ≡ headIn b → text ≡ feedText b piece
     → bad ≡ lengthsBad (h .taken) (length piece) (length out) (length places) → TextAnswered h map text bad r out out′ places places′
     → held ≡ drop (r .begin) text → b′ ≡ keptText (r .number) (eqb (length piece) 0) (r .head) held (h .«held_len») b
     → Called (feedCall map piece (length out) (length places)) (record { number = r .number; written = r .written; warned = r .warned }) b b′ out out′ places places′
@@ -481,14 +480,14 @@ call-fed b piece map out out′ places places′ b′ text held h bad r z eh et 
     let bad-is : bad ≡ lengthsBad (sessionIn b .taken) (length piece) (length out) (length places) = eb ∙ ap (λ (j : Head). lengthsBad (j .taken) (length piece) (length out) (length places)) eh in
     let t1 = subst (λ (j : Head). TextAnswered j map text bad r out out′ places places′) eh ta in
     let t2 = subst (λ (l : List ℕ). TextAnswered (headIn b) map l bad r out out′ places places′) et t1 in
-    let t3 = subst (λ (t : Bool). TextAnswered (headIn b) map (textOf b piece) t r out out′ places places′) bad-is t2 in
-    let kept : b′ ≡ keptText (r .number) (eqb (length piece) 0) (r .head) (drop (r .begin) (textOf b piece)) (wordAt b 16) b =
+    let t3 = subst (λ (t : Bool). TextAnswered (headIn b) map (feedText b piece) t r out out′ places places′) bad-is t2 in
+    let kept : b′ ≡ keptText (r .number) (eqb (length piece) 0) (r .head) (drop (r .begin) (feedText b piece)) (wordAt b 16) b =
     ek ∙ (λ i. keptText (r .number) (eqb (length piece) 0) (r .head) ((ed ∙ ap (drop (r .begin)) et) i) (ap (λ (j : Head). j .«held_len») eh i) b) in
     go (foreignOf (sessionIn b)) refl t3 kept
   where
     go : (t : Bool) → foreignOf (sessionIn b) ≡ t
-        → TextAnswered (headIn b) map (textOf b piece) (lengthsBad (sessionIn b .taken) (length piece) (length out) (length places)) r out out′ places places′
-        → b′ ≡ keptText (r .number) (eqb (length piece) 0) (r .head) (drop (r .begin) (textOf b piece)) (wordAt b 16) b
+        → TextAnswered (headIn b) map (feedText b piece) (lengthsBad (sessionIn b .taken) (length piece) (length out) (length places)) r out out′ places places′
+        → b′ ≡ keptText (r .number) (eqb (length piece) 0) (r .head) (drop (r .begin) (feedText b piece)) (wordAt b 16) b
         → Called (feedCall map piece (length out) (length places)) (record { number = r .number; written = r .written; warned = r .warned }) b b′ out out′ places places′
     go true e t k = call-foreign b piece map out out′ places places′ z r t b′ e k
     go false e t k = call-calm b piece map out out′ places places′ z r t e b′ k
@@ -500,17 +499,17 @@ module _ (b piece room : List ℕ) (up : TextIn) (u : TakesText b piece up room)
   unfolding callNumber
   text-refused m out places r h e =
       let x = feedCall m piece (length out) (length places) in
-      let t : textNumber b ≡ takeNumber b = text-take b (λ q. h (u .number ∙ q)) in
+      let t : feedNumber b ≡ takeNumber b = text-take b (λ q. h (u .number ∙ q)) in
       let y : takeNumber b ≡ 0 → ⊥ = λ q. h (u .number ∙ t ∙ q) in
       let f : takeNumber b orElse answerOf (sessionIn b) x .number ≡ takeNumber b = else-found (takeNumber b) (answerOf (sessionIn b) x .number) y in
       refused-is b x r out places (ap (λ (j : Told). j .number) e ∙ u .number ∙ t ∙ sym f) (ap (λ (j : Told). j .written) e) (ap (λ (j : Told). j .warned) e) (ap refuses f ∙ take-refuses b y)
 
   module _ (z : up .number ≡ 0) where
-    pub text-none : textNumber b ≡ 0
+    pub text-none : feedNumber b ≡ 0
     text-none = sym (u .number) ∙ z
 
     pub text-head : up .head ≡ headIn b
     text-head = u .head
 
-    pub text-is : (text : List ℕ) → text ≡ take (up .length) room → text ≡ textOf b piece
-    text-is text e = e ∙ u .text ∙ ap (λ (k : ℕ). cond (eqb k 0) (textOf b piece) []) z
+    pub text-is : (text : List ℕ) → text ≡ take (up .length) room → text ≡ feedText b piece
+    text-is text e = e ∙ u .text ∙ ap (λ (k : ℕ). cond (eqb k 0) (feedText b piece) []) z

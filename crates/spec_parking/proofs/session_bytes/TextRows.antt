@@ -1,8 +1,8 @@
 -- The text of a feed and the bytes afterwards: by computation.
 use mathlib.Core.Path.{_≡_, refl}
-use mathlib.Core.Bool.{true, false, cond}
-use mathlib.Core.List.{List, [], _∷_}
-use lib.ListN.{length, replicate, take}
+use mathlib.Core.Bool.{true, false}
+use mathlib.Core.List.{[], _∷_}
+use lib.ListN.{length, replicate}
 use Rattle.spec_base.specs.base.Refusal.{_orElse_, faultUnless}
 use Rattle.spec_sheet.specs.checked_blocks.Block.{wordAt, blockHolds}
 use Rattle.spec_session.specs.session_counts.Session.{isOutcome}
@@ -10,19 +10,19 @@ use Rattle.spec_parking.specs.parked_blocks.Sealed.{bodies, allHold, all
 use Rattle.spec_parking.specs.parking.Parked.{unusedZero, isParked}
 use Rattle.spec_parking.specs.parking.Head.{headIn}
 use Rattle.spec_parking.specs.session_bytes.Answer.{refuses}
-use Rattle.spec_parking.specs.session_bytes.Text.{textNumber, textOf, keptText}
+use Rattle.spec_parking.specs.session_bytes.Text.{feedNumber, feedText, keptText}
 
-unsound : textNumber [] ≡ 27
-unfolding textNumber isParked isRow unusedZero isOutcome faultUnless _orElse_ allHold blockHolds bodies allZero wordAt
+unsound : feedNumber [] ≡ 27
+unfolding feedNumber isParked isRow unusedZero isOutcome faultUnless _orElse_ allHold blockHolds bodies allZero wordAt
 unsound = refl
 
 -- nothing held: the piece, as much of it as a call may have
-text : textOf [] (7 ∷ 8 ∷ []) ≡ 7 ∷ 8 ∷ []
-unfolding textOf bodies wordAt
+text : feedText [] (7 ∷ 8 ∷ []) ≡ 7 ∷ 8 ∷ []
+unfolding feedText bodies wordAt
 text = refl
 
-cut : length (textOf [] (replicate 1025 7)) ≡ 1024
-unfolding textOf bodies wordAt
+cut : length (feedText [] (replicate 1025 7)) ≡ 1024
+unfolding feedText bodies wordAt
 cut = refl
 
 -- refused, or with nothing fed, the bytes stay

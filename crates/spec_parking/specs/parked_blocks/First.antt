@@ -12,13 +12,13 @@ blocksFor n = min 17 ((n + 503) / 504)
 
 -- ---- as they are written
 -- block 0 with these bytes and k blocks with those, zeros behind each
-unfoldable pub firstOf : (k : ℕ) → (head held : List ℕ) → List ℕ
-firstOf k head held = sealed 0 (filled bodyLength head) ++ sealedAll 1 k (filled roomLength held)
+unfoldable pub firstBlocks : (k : ℕ) → (head held : List ℕ) → List ℕ
+firstBlocks k head held = sealed 0 (filled bodyLength head) ++ sealedAll 1 k (filled roomLength held)
 
 -- what is written where so many bytes are lent: the blocks that n bytes take, or nothing where a row or the bytes have no place
 unfoldable pub firstIn : (lent n : ℕ) → (head held : List ℕ) → List ℕ
 firstIn lent n head held =
-    cond (leb sealedLength lent && (leb (length head) bodyLength && leb (length held) roomLength)) (firstOf (blocksFor n) head held) []
+    cond (leb sealedLength lent && (leb (length head) bodyLength && leb (length held) roomLength)) (firstBlocks (blocksFor n) head held) []
 
 -- ---- as they are read
 -- the bytes of the blocks that n bytes take

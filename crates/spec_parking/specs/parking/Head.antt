@@ -16,8 +16,8 @@ use Rattle.spec_parking.specs.declared.parking.TakenIn.{TakenIn}
 use Rattle.spec_parking.specs.parking.Parked.{headWords, isParked, sessionIn}
 
 -- the numbers of a session, and the session of these numbers without a room
-abbrev pub numbersOf : Session → Head
-numbersOf s =
+abbrev pub headNumbers : Session → Head
+headNumbers s =
     record {
       config = s .config;
       ended = s .ended;
@@ -46,7 +46,7 @@ bareOf h =
 -- ---- taken in
 -- the numbers of the session that the blocks name
 unfoldable pub headIn : List ℕ → Head
-headIn b = numbersOf (sessionIn b)
+headIn b = headNumbers (sessionIn b)
 
 -- 16 where fewer than 8,568 bytes of room are lent, then 27. 17 is not asked
 unfoldable pub inNumber : List ℕ → (lent : ℕ) → ℕ

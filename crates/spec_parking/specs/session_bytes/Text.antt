@@ -16,18 +16,18 @@ use Rattle.spec_parking.specs.session_bytes.Answer.{refuses}
 use Rattle.spec_parking.specs.declared.session_bytes.TextIn.{TextIn}
 
 -- 27, then 17 where more bytes are held than a session has room for
-unfoldable pub textNumber : (bytes : List ℕ) → ℕ
-textNumber b = faultUnless (isParked b) 27 orElse faultUnless (leb (wordAt b 16) mostHeld) 17
+unfoldable pub feedNumber : (bytes : List ℕ) → ℕ
+feedNumber b = faultUnless (isParked b) 27 orElse faultUnless (leb (wordAt b 16) mostHeld) 17
 
 -- the held bytes, then the piece: no more of it than a call may have
-unfoldable pub textOf : (bytes piece : List ℕ) → List ℕ
-textOf b piece = take (wordAt b 16) (roomOf b) ++ take mostPiece piece
+unfoldable pub feedText : (bytes piece : List ℕ) → List ℕ
+feedText b piece = take (wordAt b 16) (roomOf b) ++ take mostPiece piece
 
 -- refused, the text is empty
 pub record TakesText (b piece : List ℕ) (r : TextIn) (room′ : List ℕ) : Type 0 where
-  pub number : r .number ≡ textNumber b
+  pub number : r .number ≡ feedNumber b
   pub head : r .head ≡ headIn b
-  pub text : take (r .length) room′ ≡ cond (eqb (r .number) 0) (textOf b piece) []
+  pub text : take (r .length) room′ ≡ cond (eqb (r .number) 0) (feedText b piece) []
 
 -- the bytes where a feed that answered k led to these numbers and held bytes; they stay where nothing was fed
 unfoldable pub keptText : (number : ℕ) → (nothing : Bool) → Head → (held : List ℕ) → (old : ℕ) → (bytes : List ℕ) → List ℕ
