@@ -89,7 +89,6 @@ static struct retimed in_pieces(uint32_t kind, uint32_t timescale, const uint64_
     return r;
 }
 
-#ifdef WITH_TEXT
 static struct retimed at_once(uint32_t kind, uint32_t timescale, const uint64_t *map, size_t numbers, struct bytes text) {
     struct retimed r = places(text.length);
     uint64_t told[RETIMER_TOLD_NUMBERS] = {0};
@@ -103,7 +102,6 @@ static struct retimed at_once(uint32_t kind, uint32_t timescale, const uint64_t 
     memcpy(r.counts, told + RETIMER_TOLD_SHIFTED, sizeof r.counts);
     return r;
 }
-#endif
 
 static void same(const struct retimed *r, const struct retimed *s) {
     if (r->written != s->written || memcmp(r->out, s->out, r->written))
@@ -125,7 +123,7 @@ int main(int count, char **words) {
     uint32_t kind, timescale = 0, number;
     uint64_t segments = 0;
     struct bytes sheet, list, text, expected;
-    struct retimed r;
+    struct retimed r, s;
     if (count != 7 || !atoi(words[6])) {
         fprintf(stderr, "usage: chain KIND SHEET LIST TEXT EXPECTED SIZE\n");
         return 2;
@@ -138,14 +136,8 @@ int main(int count, char **words) {
     r = in_pieces(kind, timescale, map, 6 * segments, text, (size_t)atoi(words[6]));
     if (r.written != expected.length || memcmp(r.out, expected.at, expected.length))
         fail("the text is not as expected, bytes", (unsigned long)r.written);
-#ifdef WITH_TEXT
-    {
-        struct retimed s = at_once(kind, timescale, map, 6 * segments, text);
-        same(&r, &s);
-    }
-#else
-    same(&r, &r);
-#endif
+    s = at_once(kind, timescale, map, 6 * segments, text);
+    same(&r, &s);
     show(&r);
     return 0;
 }

@@ -569,7 +569,7 @@ def through_made(r, kind):
 
 
 # ---- the number of a text by document 01 alone, where the oracle says nothing
-SPACE = ''.join(chr(c) for c in (*range(9, 14), 32, 0x85, 0xa0, 0x1680, *range(0x2000, 0x200b), 0x2028, 0x2029, 0x202f, 0x205f, 0x3000))
+SPACE = lib.WHITE_SPACE
 
 
 def bad_with(text, u, last):

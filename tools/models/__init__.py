@@ -1,1 +1,1 @@
-"""Models: second programs in Python, each written from a request of document 02."""
+"""Models: second programs, each written from a request in Python, in whole numbers. tools/compare/model compares the proved code with them."""

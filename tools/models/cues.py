@@ -1,13 +1,8 @@
-#!/usr/bin/env python3
-"""The captions of a whole text, read from the words of document 01 and of requests 2.2 and 2.5: for each its line, its times and where its words stand, and the first fault with its line. Nothing here
-comes from the proved code. tools/cues holds `retimer_cues` against it. Run by itself, cues.py holds it against the cases at its end, which are worked out by hand; with --store it writes
-bindings/rust/tests/cues.txt."""
-import os
-import random
+"""The captions of a whole text, read from the words of document 01 and of requests 2.2 and 2.5.
+For each its line, its times and where its words stand, and the first fault with its line. Nothing here comes from the proved code.
+The texts at its end are worked out by hand; tools/data/cues stores them with others."""
 import re
-import sys
 
-sys.path.insert(0, os.path.dirname(os.path.dirname(os.path.abspath(__file__))))
 import lib
 
 ASS, SRT, VTT = 0, 1, 2
@@ -281,30 +276,8 @@ def random_text(r, kind):
     return some_text(r, kind) if r.random() < .85 else any_text(r, kind)
 
 
-# ---- stored cases: a line with kind, places lent and the text in hex, then the answer
-def stored():
-    r, made = random.Random(16), [(kind, 0, text) for kind, text, *_ in WORKED]
-    for kind, name in enumerate(lib.KINDS):
-        with open(os.path.join(lib.root, 'examples/play', name.split('.')[1], name), 'rb') as f:
-            made.append((kind, 0, f.read()))
-    for _ in range(50):
-        for kind in (ASS, SRT, VTT):
-            text = random_text(r, kind)[:400]
-            made.append((kind, r.choice([0, 0, 0, 6 * len(read(kind, text)[1]), max(1, 6 * len(read(kind, text)[1]) - 1)]), text))
-    made.append((3, 0, b''))
-    return ''.join(f'{kind} {places} {text.hex()}\n{answer(kind, text, places)}' for kind, places, text in made)
-
-
-def main():
-    lib.words('[--store]', __doc__)
+def by_hand():
+    """Ends the tool where the model answers otherwise than was worked out by hand."""
     for kind, text, *want in WORKED:
         if list(read(kind, text)) != want:
             lib.stop(f'{kind} {text!r}: {read(kind, text)}, and {want} was worked out by hand')
-    print(f'{len(WORKED)} worked texts')
-    if lib.chosen('--store'):
-        with open(os.path.join(lib.root, 'bindings/rust/tests/cues.txt'), 'w') as f:
-            f.write(stored())
-
-
-if __name__ == '__main__':
-    main()

@@ -1,16 +1,15 @@
-"""Request 2.14 by its words, in whole numbers: the delay that loses the fewest captions. Two forms that share the caption rule of document 01 and nothing else: every delay tried for every
-caption, and the losses of a caption by runs of delays between which its fate can't change. tools/delays holds `replay` against them; tools/data/replay stores the cases at its end, which
-are worked out by hand. Written from the request: nothing here comes from the proved code."""
+"""Request 2.14 by its words, in whole numbers: the delay that loses the fewest captions.
+Two forms share the caption rule of document 01 and nothing else: every delay tried for every caption,
+and the losses of a caption by runs of delays between which its fate can't change.
+Written from the request: nothing here comes from the proved code.
+The cases at its end are worked out by hand; tools/data/replay stores them."""
 import struct
 
-from models import places as places_model
+from lib import UNITS, flat
+from models.limits import MOST_TICKS, MOST_TIMESCALE, MOST_UNITS, bad_through
 
-UNITS = (100, 1000, 1000)
 MOST_TRIES = 12_001
 MOST_CAPTIONS = 4096
-MOST_UNITS = 2 ** 36
-MOST_TICKS = 2 ** 53
-MOST_TIMESCALE = 1_000_000_000
 
 
 def delays(tries):
@@ -44,8 +43,8 @@ def by_tries(rows, timescale, units, captions, tries):
 
 
 def by_runs(rows, timescale, units, captions, tries):
-    """The same from the losses of all delays, which are summed up caption by caption: a fate changes only where a moved time passes zero or the least time of a tick at an
-    edge of a segment."""
+    """The same from the losses of all delays, which are summed up caption by caption.
+    A fate changes only where a moved time passes zero, or the least time of a tick at an edge of a segment."""
     reach = tries // 2
     step = [0] * (2 * reach + 2)
     edges = {k for source, _, duration in rows for k in (source, source + 1, source + duration, source + duration + 1)}
@@ -68,10 +67,9 @@ def unsavable(rows, timescale, units, start, stop):
 
 
 def number(rows, timescale, kind, places, budget):
-    """15 for the timescale or the map, 29 for budget 0 or more than 4,096 captions, 16 for the kind, half a caption or a time. Rows is None where the bytes are no map."""
-    if not 1 <= timescale <= MOST_TIMESCALE or rows is None or len(rows) > 1024:
-        return 15
-    if any(q + d > MOST_TICKS or o + d > MOST_TICKS for q, o, d in rows):
+    """15 for the timescale or the map, 29 for budget 0 or more than 4,096 captions, 16 for the kind, half a caption or a time.
+    Rows is None where the bytes are no map."""
+    if bad_through(rows, timescale):
         return 15
     if budget == 0 or len(places) // 2 > MOST_CAPTIONS:
         return 29
@@ -96,7 +94,6 @@ def given(places):
 
 
 # ---- worked out by hand: what the case shows, map, timescale, kind, captions, budget, the answer to op 12
-flat = places_model.flat
 PLAY = flat([(0, 0, 3003), (6006, 3003, 4004)])
 CASES = [
     ('document 01, 9 to 12: two earlier it lies in the first segment', PLAY, 30000, 0, [9, 12], 5, 'delay -2 0 5 0'),

@@ -1,5 +1,6 @@
-"""Request 2.1 in Python, written from document 02: the JSON of a segment map, written and read. Two readers: one reads any RFC 8259 text to a tree and then holds the tree against
-the request; the other takes the tree from Python's own json. A map is a list of six-tuples, bytes are bytes."""
+"""Request 2.1 in Python, written from document 02: the JSON of a segment map, written and read.
+Two readers: one reads any RFC 8259 text to a tree and then compares the tree with the request; the other takes the tree from Python's own json.
+A map is a list of six-tuples, bytes are bytes."""
 import json
 import re
 import struct

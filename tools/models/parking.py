@@ -1,21 +1,15 @@
-#!/usr/bin/env python3
-"""Request 2.10 by brute force, from its words and those of document 01 (and of 2.2 and 2.5 for what a text says): what a text leaves in a session, its 18 blocks, and what
-bytes are taken up as. tools/parkings holds `replay` against it; tools/data/replay stores its answers. Nothing here comes from the proved code. A session is read from
-the whole text so far, never from an earlier session. Run by itself, parking.py holds it against cases at its end, which are worked out by hand; with --store it then puts
-the cases of ops 13 to 15 of the stored sample anew behind the others, whose answers stay."""
+"""Request 2.10 by brute force, from its words and those of document 01 (and of 2.2 and 2.5 for what a text says).
+What a text leaves in a session, its 18 blocks, and what bytes are taken up as.
+A session is read from the whole text so far, never from an earlier session. Nothing here comes from the proved code.
+The cases at its end are worked out by hand; tools/data/replay stores some of its answers."""
 import dataclasses
-import os
 import struct
-import sys
 
-sys.path.insert(0, os.path.dirname(os.path.dirname(os.path.abspath(__file__))))
 import lib
-from models import rows as rows_model
+from lib import UNITS
 from models import vtt as vtt_model
-from models import worked as worked_model
 from models.vtt import BOM, SPACE, bare, lines_of
 
-UNITS = (100, 1000, 1000)
 OUTCOMES = (0, 19, 20, 21, 22, 24)
 SIZE = 9216
 
@@ -303,7 +297,7 @@ TEXTS = [
 ]
 
 
-def by_hand(kind, text, finished, want):
+def worked(kind, text, finished, want):
     if len(want) == 3:
         return Session(kind, T01, 1, want[1], want[0], 0, *want[2])
     taken, lines, counts, events, columns, start, end, held = want
@@ -357,50 +351,32 @@ EDGES += [(with_byte(parked(ALL), 512, 2), 27), (with_byte(parked(ALL), 8704, 18
 
 def with_parkings(case, every, mark):
     """A case of op 5 as op 13."""
-    head, x, _, text = vtt_model.parts(case)
+    head, x, _, text = lib.parts(case)
     t, kind, _, plan = struct.unpack('<4I', head[4:20])
     return lib.case(13, t, kind, every, plan, x, bytes([mark]), text)
 
 
 def stored(sample):
-    """Cases and answers for the stored sample of `replay`: some of its texts with parkings, whose answers stay, some sessions parked and some blocks taken up."""
+    """Cases and answers for the stored sample of `replay`.
+    Some of its texts with parkings, whose answers stay, some sessions parked and some blocks taken up."""
     texts = [(c, w) for c, w in sample if c[0] == 5]
     flat = struct.pack('<12Q', *(x for row in MAP01 for x in row))
     left = [TEXTS[k] for k in (1, 2, 5, 8, 10, 12)]
     return ([(with_parkings(c, 1 + k % 4, 1 + k // 4 % 2), w) for k, (c, w) in enumerate(texts[::6])]
-            + [(lib.case(15, T01, kind, 2 + finished, 0, flat, b'', text), output(parked(by_hand(kind, text, finished, want)))) for kind, text, finished, want in left]
+            + [(lib.case(15, T01, kind, 2 + finished, 0, flat, b'', text), output(parked(worked(kind, text, finished, want)))) for kind, text, finished, want in left]
             + [(lib.case(14, x=b), told(b)) for b, _ in BLOCKS[1:3] + BLOCKS[5:45:4] + BLOCKS[-7:-3] + EDGES])
 
 
-def store():
-    """The stored sample of `replay`, with these cases anew at its end."""
-    paths = [os.path.join(lib.root, 'crates/replay', file) for file in ('stdin', 'stdout')]
-    stream, want = (open(path, 'rb').read() for path in paths)
-    kept, at = [], 0
-    while at < len(stream):
-        size = 32 + sum(struct.unpack_from('<3I', stream, at + 20))
-        kept.append(stream[at:at + size])
-        at += size
-    sample = [(c, w) for c, w in worked_model.without(zip(kept, lib.each_answer(['stdout'], want, len(kept)))) if c[0] not in (13, 14, 15, 16)]
-    sample += stored(sample) + worked_model.PINS + rows_model.stored()
-    for path, content in zip(paths, (b''.join(c for c, _ in sample), b''.join(b'case %d\n' % k + w for k, (_, w) in enumerate(sample)))):
-        with open(path, 'wb') as f:
-            f.write(content)
-
-
-def main():
+def by_hand():
+    """Ends the tool where the model answers otherwise than was worked out by hand."""
     for kind, text, finished, want in TEXTS:
-        got, hand = after(kind, T01, MAP01, text, 0, finished), by_hand(kind, text, finished, want)
-        assert got == hand, (text, got, hand)
-        assert take_up(parked(got, 1)) == take_up(parked(got)) == (0, got) and parked(got)[4] == 2, text
+        got, hand = after(kind, T01, MAP01, text, 0, finished), worked(kind, text, finished, want)
+        both = take_up(parked(got, 1)) == take_up(parked(got)) == (0, got) and parked(got)[4] == 2
+        if got != hand or not both:
+            lib.stop(f'the model of parking: {text}: {got}, not {hand}')
     for k, (b, n) in enumerate(BLOCKS + EDGES):
-        assert take_up(b)[0] == n, (k, n, take_up(b)[0])
+        if take_up(b)[0] != n:
+            lib.stop(f'the model of parking: row {k} of blocks is {take_up(b)[0]}, not {n}')
     b = parked(Session(0, 1, 0, 0, 600, 0, held_length=505, held=b'A' * 505))
-    assert b[516] == b[512 + 507] == b[1024 + 4] == 65 and b[1024 + 5] == 0
-    print('%d texts and %d rows of blocks as by hand' % (len(TEXTS), len(BLOCKS + EDGES)))
-    if sys.argv[1:] == ['--store']:
-        store()
-
-
-if __name__ == '__main__':
-    main()
+    if not b[516] == b[512 + 507] == b[1024 + 4] == 65 or b[1024 + 5] != 0:
+        lib.stop('the model of parking: 505 held bytes do not stand where they should')

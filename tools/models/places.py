@@ -1,18 +1,20 @@
-"""Request 2.12 by its plain words, in whole numbers: which maps ascend, and what is written for a caption (document 01). tools/places holds `replay` against it;
-tools/data/replay stores the maps at its end, which are worked out by hand. Nothing here comes from the proved code."""
+"""Request 2.12 by its plain words, in whole numbers: which maps ascend, and what is written for a caption (document 01).
+The maps at its end are worked out by hand; tools/data/replay stores them. Nothing here comes from the proved code."""
 import struct
 
-UNITS = (100, 1000, 1000)
+from lib import flat
 
 
 def ascends(rows):
-    """Of two segments of positive length, the earlier in the list ends at or before the start of the later, in source and output. Rows: source, output, duration."""
+    """Of two segments of positive length, the earlier in the list ends at or before the start of the later, in source and output.
+    Rows: source, output, duration."""
     long = [r for r in rows if r[2] > 0]
     return all(x[0] + x[2] <= y[0] and x[1] + x[2] <= y[1] for i, x in enumerate(long) for y in long[i + 1:])
 
 
 def written(rows, timescale, units, start, stop):
-    """The times written for a caption, or None where it is dropped: cut to the first segment of positive length that it meets, moved, start down and end up."""
+    """The times written for a caption, or None where it is dropped.
+    It is cut to the first segment of positive length that it meets, and moved, start down and end up."""
     a, b = start * timescale // units, stop * timescale // units
     for source, output, duration in rows:
         if duration > 0 and source < b and a < source + duration:
@@ -20,11 +22,6 @@ def written(rows, timescale, units, start, stop):
             e = output + min(b, source + duration) - source
             return s * units // timescale, -(-e * units // timescale)
     return None
-
-
-def flat(rows):
-    """The bytes of a map: six numbers a segment; the three that no caption looks at are its place."""
-    return b''.join(struct.pack('<6Q', k, k + 1, q, 1, o, d) for k, (q, o, d) in enumerate(rows))
 
 
 # ---- worked out by hand: what the map shows, its bytes, the answer to op 10

@@ -1,19 +1,16 @@
-"""Request 2.11 by its plain words, in whole numbers: a start and an end known between two ticks each. tools/rough holds `replay` against it; tools/data/replay
-stores the cases at its end, which are worked out by hand. Written from the request and document 01 (the hit, the limits of a map); nothing here comes from the proved code."""
+"""Request 2.11 by its plain words, in whole numbers: a start and an end known between two ticks each.
+Written from the request and document 01 (the hit, the limits of a map). Nothing here comes from the proved code.
+The cases at its end are worked out by hand; tools/data/replay stores them."""
 import itertools
 import struct
 
-MOST_TICKS = 2**53
-MOST_SEGMENTS = 1024
+from lib import flat
+from models.limits import bad
 
 
 def kept(rows, a, b):
     """A segment of positive length ends after tick a and starts before tick b. Rows: source, output, duration."""
     return any(d > 0 and a < q + d and b > q for q, o, d in rows)
-
-
-def bad(rows):
-    return len(rows) > MOST_SEGMENTS or any(q + d > MOST_TICKS or o + d > MOST_TICKS for q, o, d in rows)
 
 
 def told(choices):
@@ -27,7 +24,8 @@ def judged(rows, starts, ends):
 
 
 def by_edges(rows, a1, a2, b1, b2):
-    """By trying the bounds and every choice beside an edge, where alone a fate can change: whether a < q + d, between q + d - 1 and q + d; whether b > q, between q and q + 1."""
+    """By trying the bounds and every choice beside an edge, where alone a fate can change:
+    whether a < q + d, between q + d - 1 and q + d; whether b > q, between q and q + 1."""
     starts = {a1, a2} | {x for q, o, d in rows for x in (q + d - 1, q + d) if a1 <= x <= a2}
     ends = {b1, b2} | {x for q, o, d in rows for x in (q, q + 1) if b1 <= x <= b2}
     return judged(rows, starts, ends)
@@ -42,11 +40,6 @@ def answer(rows, a1, a2, b1, b2):
     if (a2 - a1 + 1) * (b2 - b1 + 1) <= 4096:
         return judged(rows, range(a1, a2 + 1), range(b1, b2 + 1))
     return by_edges(rows, a1, a2, b1, b2)
-
-
-def flat(rows):
-    """The bytes of a map: six numbers a segment; the three that no caption looks at are its place."""
-    return b''.join(struct.pack('<6Q', k, k + 1, q, 1, o, d) for k, (q, o, d) in enumerate(rows))
 
 
 def bounds(*four):

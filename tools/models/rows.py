@@ -1,19 +1,15 @@
-#!/usr/bin/env python3
-"""The captions of a whole text as rows of numbers, read by brute force from the words of document 01 and of requests 2.2 and 2.5: for each caption its line, 0 or the warning with which
-it passes, start and end in units, and where its words stand (byte and length). With a fault the captions before its line or block, its number and its line: in 19, 20 and
-ASS's 22 the line itself, in 21 the block's first line, in 22 of SRT and WebVTT the timing line, in 24 line 1. `replay` is held against it (op 16). Nothing here comes from the proved
-code. Run by itself, rows.py holds it against the cases at its end, which are worked out by hand; rows.py SEED COUNT prints nothing and holds that many random texts of each
-kind against what stands beside a row: the bytes at its place, and the least lines that have the fault."""
-import os
+"""The captions of a whole text as rows of numbers, read by brute force from the words of document 01 and of requests 2.2 and 2.5.
+For each caption its line, 0 or the warning with which it passes, start and end in units, and where its words stand (byte and length).
+With a fault the captions before its line or block, its number and its line: in 19, 20 and ASS's 22 the line itself,
+in 21 the block's first line, in 22 of SRT and WebVTT the timing line, in 24 line 1.
+Nothing here comes from the proved code. The cases at its end are worked out by hand; tools/data/replay stores them."""
 import random
-import sys
 
-sys.path.insert(0, os.path.dirname(os.path.dirname(os.path.abspath(__file__))))
 import lib
 
 BOM = b'\xef\xbb\xbf'
 DIGITS = set(b'0123456789')
-SPACE = ''.join(chr(c) for c in (*range(9, 14), 32, 0x85, 0xa0, 0x1680, *range(0x2000, 0x200b), 0x2028, 0x2029, 0x202f, 0x205f, 0x3000))
+SPACE = lib.WHITE_SPACE
 MOST_LINE = MOST_BLOCK = 4096
 
 
@@ -281,7 +277,8 @@ def some_text(r, kind):
 
 
 def holds(kind, text):
-    """The line of a fault is the least n from 1 on such that the first n lines alone have it; with 21 it is the first of the lines before, none of them blank. Rows rise."""
+    """The line of a fault is the least n from 1 on such that the first n lines alone have it.
+    With 21 it is the first of the lines before, none of them blank. Rows rise."""
     fault, line, rows = read(kind, text)
     mark = 3 if text.startswith(BOM) else 0
     lines = lines_of(text, mark)
@@ -306,19 +303,8 @@ def stored():
     return [(lib.case(16, 0, kind, lent, z=text), want) for kind, text, lent, want in cases]
 
 
-def main():
+def by_hand():
+    """Ends the tool where the model answers otherwise than was worked out by hand."""
     for what, kind, text, lent, want in CASES:
         if told(kind, text, lent) != want.encode():
             lib.stop('%s: %r, not %r' % (what, told(kind, text, lent), want))
-    seed, count = lib.words('[SEED] [COUNT]', __doc__) if sys.argv[1:] else (0, 0)
-    r = random.Random(seed)
-    for kind in (0, 1, 2):
-        for _ in range(count):
-            text = some_text(r, kind)
-            if not holds(kind, text):
-                lib.stop('kind %d: %r' % (kind, text))
-    print('%d cases, %d random texts of each kind: 0 differences' % (len(CASES), count))
-
-
-if __name__ == '__main__':
-    main()

@@ -1,14 +1,14 @@
-"""Request 2.13 by its words, in whole numbers: how many starts of a caption of a given length are shifted, clipped and dropped. Two forms that share the
-caption rule of document 01 and nothing else: start by start, and by runs of starts between which nothing can change. tools/starts holds `replay` against them;
-tools/data/replay stores the cases at its end, which are worked out by hand. Written from the request: nothing here comes from the proved code."""
+"""Request 2.13 by its words, in whole numbers: how many starts of a caption of a given length are shifted, clipped and dropped.
+Two forms share the caption rule of document 01 and nothing else: start by start, and by runs of starts between which nothing can change.
+Written from the request: nothing here comes from the proved code.
+The cases at its end are worked out by hand; tools/data/replay stores them."""
 import struct
 
-from models import places as places_model
+from lib import UNITS, flat
+from models import places
+from models.limits import MOST_TICKS, MOST_TIMESCALE, bad_through
 
-UNITS = (100, 1000, 1000)
 MOST = 36_000_000
-MOST_TICKS = 2 ** 53
-MOST_TIMESCALE = 1_000_000_000
 
 
 def fate(rows, timescale, units, start, stop):
@@ -29,8 +29,9 @@ def by_starts(rows, timescale, units, length, count):
 
 
 def by_runs(rows, timescale, units, length, count):
-    """The fate can change only where the tick of a start or of an end passes an edge of a segment. The least time of a tick is its time rounded up; a time to either
-    side is taken too. Between two such starts the first, the middle and the last are tried, and must agree."""
+    """The fate can change only where the tick of a start or of an end passes an edge of a segment.
+    The least time of a tick is its time rounded up; a time to either side is taken too.
+    Between two such starts the first, the middle and the last are tried, and must agree."""
     edges = {k for source, _, duration in rows for k in (source, source + 1, source + duration, source + duration + 1)}
     least = {-(-k * units // timescale) for k in edges}
     cuts = sorted({0, count} | {s for t in least for c in (t, t - length) for s in (c - 1, c, c + 1) if 0 < s < count})
@@ -43,12 +44,11 @@ def by_runs(rows, timescale, units, length, count):
 
 
 def number(rows, timescale, kind, length, count):
-    """15 for the timescale or the map, 28 for a map that request 2.12 does not admit, 16 for the kind, the length or the count. Rows is None where the bytes are no map."""
-    if not 1 <= timescale <= MOST_TIMESCALE or rows is None or len(rows) > 1024:
+    """15 for the timescale or the map, 28 for a map that request 2.12 does not admit, 16 for the kind, the length or the count.
+    Rows is None where the bytes are no map."""
+    if bad_through(rows, timescale):
         return 15
-    if any(q + d > MOST_TICKS or o + d > MOST_TICKS for q, o, d in rows):
-        return 15
-    if not places_model.ascends(rows):
+    if not places.ascends(rows):
         return 28
     return 16 if kind > 2 or length > MOST or count > MOST else 0
 
@@ -70,7 +70,6 @@ def given(length, count):
 
 
 # ---- worked out by hand: what the case shows, map, timescale, kind, length, count, the answer to op 11
-flat = places_model.flat
 PLAY = flat([(0, 0, 3003), (6006, 3003, 4004)])
 TURNED = flat([(20, 0, 5), (0, 5, 5)])
 CASES = [

@@ -1,20 +1,16 @@
-#!/usr/bin/env python3
-"""WebVTT captions (kind 2) read by brute force from the words of requests 2.5 and 2.7 and of document 01. `replay` is held against it, since the Rust has no WebVTT:
-tools/compare-vtt, and the stored cases of kind 2. Nothing here comes from the proved code. Run by itself, it holds it against the cases at its end,
-which are worked out by hand."""
-import os
+"""WebVTT captions (kind 2) read by brute force from the words of requests 2.5 and 2.7 and of document 01, since the Rust has no WebVTT.
+Nothing here comes from the proved code. The cases at its end are worked out by hand.
+Stored cases of kind 2 have its answers."""
 import struct
-import sys
 from fractions import Fraction
 from math import ceil, floor
 
-sys.path.insert(0, os.path.dirname(os.path.dirname(os.path.abspath(__file__))))
 import lib
 
 U = 1000
 BOM = b'\xef\xbb\xbf'
 DIGITS = '0123456789'
-SPACE = ''.join(chr(c) for c in (*range(9, 14), 32, 0x85, 0xa0, 0x1680, *range(0x2000, 0x200b), 0x2028, 0x2029, 0x202f, 0x205f, 0x3000))
+SPACE = lib.WHITE_SPACE
 
 
 # ---- lines
@@ -158,21 +154,15 @@ def answer_of(text, t, rows):
     return b'retimed %d %d %d %d\n' % counts + b''.join(b'warning %d %d\n' % w for w in warnings) + b'output %d\n' % len(out) + out + b'\n'
 
 
-def parts(case):
-    """Head, X, Y and the text of a case."""
-    n, m = struct.unpack('<2I', case[20:28])
-    return case[:32], case[32:32 + n], case[32 + n:32 + n + m], case[32 + n + m:]
-
-
 def map_case(case):
     """The case of op 2 that asks for the map of a case of op 3, a blank list as Trim(0,n-1)."""
-    head, x, y, _ = parts(case)
+    head, x, y, _ = lib.parts(case)
     return lib.asked(lib.case(2, struct.unpack('<I', head[4:8])[0], c=struct.unpack('<I', head[12:16])[0], x=x, y=y))
 
 
 def told(case, made, number):
     """The answer to a case of kind 2. made: the oracle's answer to `map_case`, for op 3; number: what op 5 is refused by, or 0."""
-    head, x, _, text = parts(case)
+    head, x, _, text = lib.parts(case)
     if head[0] == 5:
         return b'refused %d\n' % number if number else answer_of(text, struct.unpack('<I', head[4:8])[0], rows_in(x))
     return through(made, text)
@@ -278,18 +268,10 @@ UNFINISHED = [
 ]
 
 
-def main():
-    lib.words('', __doc__)
-    wrong = 0
+def by_hand():
+    """Ends the tool where the model answers otherwise than was worked out by hand."""
     for finished, rows in ((True, CASES), (False, UNFINISHED)):
         for name, text, *worked in rows:
             got = retime_vtt(text, T01, MAP01, finished)
             if got != tuple(worked):
-                wrong += 1
-                print('differs:', name, got)
-    print('%d cases, %d differ' % (len(CASES) + len(UNFINISHED), wrong))
-    sys.exit(1 if wrong else 0)
-
-
-if __name__ == '__main__':
-    main()
+                lib.stop(f'the model of WebVTT: {name}: {got}')

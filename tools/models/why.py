@@ -1,24 +1,16 @@
-"""Request 2.8 by its plain words, in whole numbers: what becomes of a caption and why; and the page that `why` prints. tools/causes holds `replay` against it; tools/data/why and
-tools/data/replay store cases with its answers. Written from the request and document 01 (the hit, the cut, times as text, the limits of a map); nothing here comes from the proved code."""
+"""Request 2.8 by its plain words, in whole numbers: what becomes of a caption and why; and the page that `why` prints.
+Written from the request and document 01 (the hit, the cut, times as text, the limits of a map). Nothing here comes from the proved code.
+tools/data/why and tools/data/replay store cases with its answers."""
 import re
-import struct
 
 import lib
-
-MOST_TICKS = 2**53
-MOST_TIMESCALE = 10**9
-MOST_UNITS = 2**36
-MOST_SEGMENTS = 1024
-UNITS = (100, 1000, 1000)
-KINDS = ('ass', 'srt', 'vtt')
-
-
-def bad(rows):
-    return len(rows) > MOST_SEGMENTS or any(q + d > MOST_TICKS or o + d > MOST_TICKS for q, o, d in rows)
+from lib import KINDS, UNITS, flat
+from models.limits import MOST_SEGMENTS, MOST_TICKS, MOST_TIMESCALE, MOST_UNITS, bad
 
 
 def causes(q, d, a, b):
-    """Why a segment is not met by the ticks a to b: all that apply of no length (1), ends at or before the start (2), starts at or after the end (3). None: it is met."""
+    """Why a segment is not met by the ticks a to b: all that apply. None: it is met.
+    1: no length; 2: it ends at or before the start; 3: it starts at or after the end."""
     return [k for k, fails in ((1, d == 0), (2, q + d <= a), (3, q >= b)) if fails]
 
 
@@ -105,11 +97,6 @@ def page(times, rows, timescale):
         if line:
             out += (line + '\n' + sentence(line, rows, timescale)).encode('utf-8', 'surrogateescape')
     return out
-
-
-def flat(rows):
-    """The bytes of a map: six numbers a segment; the three that no caption looks at are its place."""
-    return b''.join(struct.pack('<6Q', k, k + 1, q, 1, o, d) for k, (q, o, d) in enumerate(rows))
 
 
 # ---- worked out by hand: what the case shows, the map, T, kind, start, end, places lent, the answer to op 8

@@ -1,11 +1,7 @@
-#!/usr/bin/env python3
-"""Cases of lists, sheets, maps and texts with answers worked out by hand, for the stored sample of `replay`: each is where a rule of document 01 or 02
-changes by one step (one word, one byte, one test earlier). Run alone it puts them anew at the end of the stored sample, which needs no oracle."""
-import os
+"""Cases of lists, sheets, maps and texts with answers worked out by hand, for the stored sample of `replay`.
+Each is where a rule of document 01 or 02 changes by one step: one word, one byte, one test earlier. tools/data/replay stores them."""
 import struct
-import sys
 
-sys.path.insert(0, os.path.dirname(os.path.dirname(os.path.abspath(__file__))))
 import lib
 
 FLAT = struct.pack('<12Q', 0, 3, 0, 3, 0, 3003, 6, 10, 6006, 4, 3003, 4004)
@@ -85,33 +81,3 @@ PINS = [
     retimed(2, cue(b'00:00.250', arrow=b' -->\xe3\x80\x80 '), (SHIFTED, [], cue(b'00:00:00.150', b'00:00:00.109'))), retimed(2, cue(b'00:00.250 --> x'), (SHIFTED, [], cue(b'00:00:00.150 --> x', b'00:00:00.109'))),
     retimed(2, cue(b'00:01.250', b'00:1.210'), 22), retimed(2, cue(b'00:00.250', b'00:00.2100'), 22),
 ]
-
-
-def parts(stream):
-    kept, at = [], 0
-    while at < len(stream):
-        size = 32 + sum(struct.unpack_from('<3I', stream, at + 20))
-        kept.append(stream[at:at + size])
-        at += size
-    return kept
-
-
-def without(sample):
-    """Cases and answers of a sample that are none of these."""
-    ours = {c for c, _ in PINS}
-    return [(c, w) for c, w in sample if c not in ours]
-
-
-def main():
-    paths = [os.path.join(lib.root, 'crates/replay', file) for file in ('stdin', 'stdout')]
-    stream, want = (open(path, 'rb').read() for path in paths)
-    kept = parts(stream)
-    sample = without(zip(kept, lib.each_answer(['stored'], want, len(kept)))) + PINS
-    for path, content in zip(paths, (b''.join(c for c, _ in sample), b''.join(b'case %d\n' % k + w for k, (_, w) in enumerate(sample)))):
-        with open(path, 'wb') as f:
-            f.write(content)
-    print('%d cases by hand, %d together' % (len(PINS), len(sample)))
-
-
-if __name__ == '__main__':
-    main()
