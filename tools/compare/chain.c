@@ -1,4 +1,5 @@
-/* The whole chain from C: the map of a sheet and a list, a session opened through it, a text fed in pieces of a size and finished; and the whole text at once, where the library has that.
+/* The whole chain from C: the map of a sheet and a list, a session opened through it, a text fed in pieces of a size and finished;
+ * and the whole text at once.
  *   chain KIND SHEET LIST TEXT EXPECTED SIZE
  * The retimed text must be EXPECTED's bytes. Prints the counts and the warnings as lines; exit status 1 where something differs. */
 #include "retimer.h"

@@ -1,5 +1,5 @@
 #!/usr/bin/env python3
-"""Writes a stream of cases for the oracle and for `replay`: cases.py SEED COUNT OPS > stream
+"""cases.py SEED COUNT OPS > stream: writes a stream of cases for the oracle and for `replay`.
 OPS is a string of op numbers, as 12345: each case draws one of them. Cases are structured, near every boundary, and damaged."""
 import os
 import random
@@ -21,19 +21,8 @@ WHITE = [' ', '\t', '\u3000', '\u00a0', '\u2003', '\u0085', '\u1680', '\u205f', 
 
 
 # ---- sheets
-def sheet_words(r, n=None):
-    if n is None:
-        n = r.choice([1, 2, 3, 10, 10, 12, 62, 63, 64, 126, 127, r.randint(1, 40), r.randint(1, 200)])
-        if r.random() < LARGE:  # past the places where sums are kept, at every 1,024th sample
-            n = r.choice([1023, 1024, 1025, 2047, 2048, 2049, 3072, r.randint(1000, 5400), r.randint(1000, 5400)])
-    long = r.random() < 0.33
-    blocks = 1 + -(-n // (42 if long else 63))
-    w = [0] * (128 * blocks)
-    w[1] = r.choice([1, 2, 1000, 24000, 30000, 90000, 1000000, r.randint(1, 1000000)])
-    w[5] = int(long)
-    if long and r.random() < 0.5:
-        w[1] = r.choice([1000000000, 999999999, 1000001, r.randint(1, 1000000000)])
-    w[2], w[3], w[4] = n, r.choice([24000, 30000, r.getrandbits(32)]), r.choice([1001, r.getrandbits(32)])
+def decode_order(r, n):
+    """How n frames are stored: the style, and the decode index of each."""
     decode = list(range(n))
     style = 3 if r.random() < 0.05 else r.choice([0, 1, 2, 4, 5, 6, 7])
     if style == 1:  # frames of a group out of order
@@ -49,6 +38,23 @@ def sheet_words(r, n=None):
         size = r.choice([1, 2, 7, 64])
         for i in range(size, n // 2 - size, 2 * size):
             decode[i:i + size], decode[n - i - size:n - i] = decode[n - i - size:n - i], decode[i:i + size]
+    return style, decode
+
+
+def sheet_words(r, n=None):
+    if n is None:
+        n = r.choice([1, 2, 3, 10, 10, 12, 62, 63, 64, 126, 127, r.randint(1, 40), r.randint(1, 200)])
+        if r.random() < LARGE:  # past the places where sums are kept, at every 1,024th sample
+            n = r.choice([1023, 1024, 1025, 2047, 2048, 2049, 3072, r.randint(1000, 5400), r.randint(1000, 5400)])
+    long = r.random() < 0.33
+    blocks = 1 + -(-n // (42 if long else 63))
+    w = [0] * (128 * blocks)
+    w[1] = r.choice([1, 2, 1000, 24000, 30000, 90000, 1000000, r.randint(1, 1000000)])
+    w[5] = int(long)
+    if long and r.random() < 0.5:
+        w[1] = r.choice([1000000000, 999999999, 1000001, r.randint(1, 1000000000)])
+    w[2], w[3], w[4] = n, r.choice([24000, 30000, r.getrandbits(32)]), r.choice([1001, r.getrandbits(32)])
+    style, decode = decode_order(r, n)
     gap = r.choice([1, 2, 3, 3, 5, 8, 15])
     kind = r.randrange(6)
     only = r.choice([n, 0, n - 1, r.randrange(n)])  # kind 5: one sync frame, or none
@@ -89,25 +95,8 @@ def work_lent(r, n):
     return 0 if r.random() < 0.85 else r.choice([max(need - 1, 0), max(need - 1, 0), need, need + 1, 1, 131072, 131073, 0xFFFFFFFF])
 
 
-def sheet(r, damaged=0.5, n=None):
-    w = sheet_words(r, n)
-    if r.random() >= damaged:
-        return as_bytes(w)
-    how = r.randrange(11)
-    count = len(w) // 128
-    if how == 0:
-        return as_bytes(w)[:r.choice([0, 1, 511, 512, len(w) * 4 - 1, r.randrange(len(w) * 4)])]
-    if how == 1:
-        return as_bytes(w) + bytes(r.choice([1, 511, 512, 1024]))
-    if how == 2:  # a bit, with no new check
-        w[r.randrange(len(w))] ^= 1 << r.randrange(32)
-        return as_bytes(w)
-    if how == 3:  # a number, sealed again by hand
-        b = r.randrange(count)
-        seal(w, b)
-        w[128 * b] = r.choice([0, b + 1, r.getrandbits(32)])
-        w[128 * b + 127] = sum(w[128 * b:128 * b + 127]) & 0xFFFFFFFF
-        return as_bytes(w)
+def spoilt_head(r, w, how):
+    """A word of the first block, sealed again."""
     if how == 4:
         w[1] = r.choice([0, 1000000, 1000001, 1000000000, 1000000001, 0xFFFFFFFF])
         seal(w, 0)
@@ -118,6 +107,10 @@ def sheet(r, damaged=0.5, n=None):
     if how == 6:
         w[r.choice([5, 5, 6, 126, r.randint(5, 126)])] = r.choice([0, 1, 2, 1 << 31, r.getrandbits(32)])
         seal(w, 0)
+
+
+def spoilt_record(r, w, how, count):
+    """A word of a record, or of any block."""
     if how == 7 and count > 1:  # a decode index
         at = at_record(w, r.randrange(w[2]))
         w[at] = (w[at] & (1 << 31)) | r.choice([w[2], w[2] - 1, w[2] + 1, 0x7FFFFFFF])
@@ -141,6 +134,29 @@ def sheet(r, damaged=0.5, n=None):
         w[129] = w[2]
         seal(w, 1)
         w[r.choice([1, 5, 127, 128, 255])] = r.getrandbits(32)
+
+
+def sheet(r, damaged=0.5, n=None):
+    w = sheet_words(r, n)
+    if r.random() >= damaged:
+        return as_bytes(w)
+    how = r.randrange(11)
+    count = len(w) // 128
+    if how == 0:
+        return as_bytes(w)[:r.choice([0, 1, 511, 512, len(w) * 4 - 1, r.randrange(len(w) * 4)])]
+    if how == 1:
+        return as_bytes(w) + bytes(r.choice([1, 511, 512, 1024]))
+    if how == 2:  # a bit, with no new check
+        w[r.randrange(len(w))] ^= 1 << r.randrange(32)
+        return as_bytes(w)
+    if how == 3:  # a number, sealed again by hand
+        b = r.randrange(count)
+        seal(w, b)
+        w[128 * b] = r.choice([0, b + 1, r.getrandbits(32)])
+        w[128 * b + 127] = sum(w[128 * b:128 * b + 127]) & 0xFFFFFFFF
+        return as_bytes(w)
+    spoilt_head(r, w, how)
+    spoilt_record(r, w, how, count)
     return as_bytes(w)
 
 
@@ -165,25 +181,8 @@ def blank_list(r):
     return s.encode()
 
 
-def trim_list(r, n=None, damaged=0.4):
-    if r.random() < BLANK:
-        return blank_list(r)
-    k = r.choice([1, 1, 2, 2, 3, 4, 6, r.randint(1, 12)])
-    if n is not None and n > 1000:
-        k = r.choice([k, r.randint(1, 60)])
-    top = n if n is not None else r.choice([20, 1000, 4294967295])
-    # mostly ascending ranges inside the sheet, so that maps are built too
-    cuts = sorted(r.sample(range(top + 2), min(2 * k, top + 2)))
-    tokens = []
-    for i in range(0, len(cuts) - 1, 2):
-        a, b = cuts[i], cuts[i + 1] - (1 if r.random() < 0.8 else 0)
-        if r.random() < 0.1 and i:
-            a = cuts[i - 1] if r.random() < 0.5 else a
-        tokens.append('Trim(%s,%s)' % (number(r, a), number(r, b)))
-    sep = [' ++ ', '++', ' ++\n', '\t++ '][r.randrange(4)]
-    s = (r.choice(WHITE) if r.random() < 0.1 else '') + sep.join(tokens) + ('\n' if r.random() < 0.2 else '')
-    if r.random() >= damaged:
-        return s.encode()
+def damaged_list(r, s, sep, top):
+    """A list with a fault, or one beside it; `top`: the last frame that it may name."""
     how = r.randrange(12)
     if how == 0:
         return r.choice(['', ' ', '\n\u3000', '++', '+']).encode()
@@ -215,6 +214,28 @@ def trim_list(r, n=None, damaged=0.4):
         return ('Trim(%d,%d)' % (a, max(0, a + r.choice([-1, 0, 1])))).encode()
     a, b = r.randint(0, top), r.randint(0, top)
     return ('Trim(%d,%d)++Trim(%d,%d)' % (a, b, b + r.choice([-1, 0, 1]) if b else 0, b + 5)).encode()
+
+
+def trim_list(r, n=None, damaged=0.4):
+    if r.random() < BLANK:
+        return blank_list(r)
+    k = r.choice([1, 1, 2, 2, 3, 4, 6, r.randint(1, 12)])
+    if n is not None and n > 1000:
+        k = r.choice([k, r.randint(1, 60)])
+    top = n if n is not None else r.choice([20, 1000, 4294967295])
+    # mostly ascending ranges inside the sheet, so that maps are built too
+    cuts = sorted(r.sample(range(top + 2), min(2 * k, top + 2)))
+    tokens = []
+    for i in range(0, len(cuts) - 1, 2):
+        a, b = cuts[i], cuts[i + 1] - (1 if r.random() < 0.8 else 0)
+        if r.random() < 0.1 and i:
+            a = cuts[i - 1] if r.random() < 0.5 else a
+        tokens.append('Trim(%s,%s)' % (number(r, a), number(r, b)))
+    sep = [' ++ ', '++', ' ++\n', '\t++ '][r.randrange(4)]
+    s = (r.choice(WHITE) if r.random() < 0.1 else '') + sep.join(tokens) + ('\n' if r.random() < 0.2 else '')
+    if r.random() >= damaged:
+        return s.encode()
+    return damaged_list(r, s, sep, top)
 
 
 # ---- conversions

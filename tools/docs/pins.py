@@ -1,9 +1,8 @@
 #!/usr/bin/env python3
-"""pins.py [--write]: what holds each definition beside the code that equals it. For each file of definitions behind the promise or behind an exported contract it lists the
-files of rows that compute with its definitions (tools/docs/pairs says which files these are), or what else holds it (tools/docs/pins.txt: a theorem in other words, stored cases).
+"""pins.py [--write]: what holds each definition beside the code that equals it.
+For each file of definitions behind the promise or behind an exported contract it lists the files of rows that compute with its definitions
+(tools/docs/pairs says which files these are), or what else holds it (tools/docs/pins.txt: a theorem in other words, stored cases).
 --write puts the table into docs/PROOFS.md between its two marks. Exit status 1 where a file is held by nothing."""
-import importlib.machinery
-import importlib.util
 import os
 import re
 import sys
@@ -16,16 +15,9 @@ import reading
 BEGIN, END = '<!-- what holds each definition: tools/docs/pins.py --write -->', '<!-- end -->'
 
 
-def load(name):
-    loader = importlib.machinery.SourceFileLoader(name, os.path.join(lib.root, 'tools/docs', name))
-    module = importlib.util.module_from_spec(importlib.util.spec_from_loader(name, loader))
-    loader.exec_module(module)
-    return module
-
-
 def rows_of():
     """For each file of definitions the files of rows that name one of its definitions, and those names."""
-    pairs, found = load('pairs'), {}
+    pairs, found = lib.module('docs/pairs'), {}
     os.chdir(lib.root)
     for crate in pairs.crates():
         for module, path in pairs.proofs_of(crate).items():

@@ -1,26 +1,17 @@
 #!/usr/bin/env python3
-"""reading.py [--lines] [--write]: which definitions must be believed for which claim, as the table of docs/TREE.md; --write puts it there, --lines says
-how many lines that are.
-A definition is behind `Promise` where its name is reached from there, through definitions, without going through what open, feed and finish answer
-(spec_session/specs/session/Answer, which the promise takes as met); else behind contracts, where one of an exported function or the promise's other forms reach it; else behind
-contracts of private functions; else it belongs to examples and other theorems. Names are resolved by the `use` lines. A file stands where its first such definition does."""
-import importlib.machinery
-import importlib.util
+"""reading.py [--lines] [--write]: which definitions must be believed for which claim, as the table of docs/TREE.md.
+--write puts it there, --lines says how many lines that are.
+A definition is behind `Promise` where its name is reached from there, through definitions.
+What open, feed and finish answer is not gone through (spec_session/specs/session/Answer): the promise takes it as met.
+Else it is behind contracts, where one of an exported function or the promise's other forms reach it; else behind contracts of private functions;
+else it belongs to examples and other theorems.
+Names are resolved by the `use` lines. A file stands where its first such definition does."""
 import os
 import re
 import sys
 
 sys.path.insert(0, os.path.dirname(os.path.dirname(os.path.abspath(__file__))))
 import lib
-
-
-def note():
-    """The parser of tools/docs/landing-note."""
-    sys.dont_write_bytecode = True
-    loader = importlib.machinery.SourceFileLoader('landing_note', os.path.join(lib.root, 'tools/docs/landing-note'))
-    module = importlib.util.module_from_spec(importlib.util.spec_from_loader('landing_note', loader))
-    loader.exec_module(module)
-    return module
 
 
 TITLES = ('The promise', 'Contracts of exported functions', 'Contracts of private functions', 'Examples, other theorems')
@@ -38,7 +29,7 @@ def parts(name):
 
 class Definitions:
     def __init__(self):
-        self.parser, self.text, self.uses, self.names, self.order = note(), {}, {}, {}, []
+        self.parser, self.text, self.uses, self.names, self.order = lib.module('docs/landing-note'), {}, {}, {}, []
         with open(os.path.join(lib.root, 'crates.txt')) as f:
             self.crates = re.findall(r'^(\w+)(?= *:|\s*$)', f.read(), re.M)
         files = [(c, f, p) for c in self.crates for f, p in self.files(c, 'specs', '.antt')]

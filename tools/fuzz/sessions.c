@@ -1,4 +1,5 @@
-/* Cases of sessions: opened, fed in random pieces, with refused calls between, damaged, forged, called after the end; two cuttings of a text, and the whole text at once. */
+/* Cases of sessions: opened, fed in random pieces, with refused calls between, damaged, forged, called after the end.
+ * Two cuttings of a text, and the whole text at once. */
 #define _GNU_SOURCE
 #include "fuzz.h"
 #include <stdlib.h>
@@ -59,7 +60,8 @@ static void nothing_written(const struct lot *l) {
     place_kept(l->f, 1);
 }
 
-/* The session that a call left: sealed, of the same kind and timescale, with the piece taken, ended by a fault or a finish. An empty piece leaves it as it was. */
+/* The session that a call left: sealed, of the same kind and timescale, with the piece taken, ended by a fault or a finish.
+ * An empty piece leaves it as it was. */
 static void went_on(const struct lot *l, const uint8_t *before, uint32_t number) {
     const uint8_t *s = l->session;
     uint32_t ended = number || l->f == FINISH;

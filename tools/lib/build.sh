@@ -1,4 +1,5 @@
-# What tools/bobbincrag and tools/install share: the static library and the command, built where they are missing or were made from other files than those that are there.
+# What tools/bobbincrag and tools/install share: the static library and the command.
+# They are built where they are missing, or were made from other files than those that are there.
 # `name` is the tool's name, for what is said. Lines go to standard error. It is read by `.`, and gives `root`, `library`, `program` and `built`.
 
 root=$(cd -P "$(dirname "$0")/.." && pwd -P)
@@ -19,7 +20,8 @@ sums() {
     (cd "$root" && find "$@" -type f 2>/dev/null | LC_ALL=C sort | xargs cksum | cksum)
 }
 
-# older MADE FROM..: whether a file is missing, or was made from other bytes than those below FROM. Where none of these is newer, they are not read; where one is, the sums decide.
+# older MADE FROM..: whether a file is missing, or was made from other bytes than those below FROM.
+# Where none of these is newer, they are not read; where one is, the sums decide.
 older() {
     made=$1
     shift

@@ -1,5 +1,7 @@
 """Programs that a tool runs: proved ones, which are built first, the oracle, and C programs over the library."""
 import functools
+import importlib.machinery
+import importlib.util
 import os
 import subprocess
 import sys
@@ -33,6 +35,15 @@ def output(command, **how):
 def tool(name, *words):
     """A tool as a command."""
     return [os.path.join(root, 'tools', name), *map(str, words)]
+
+
+def module(name):
+    """A tool whose file has no ending, as a module."""
+    loader = importlib.machinery.SourceFileLoader(os.path.basename(name).replace('-', '_'), os.path.join(root, 'tools', name))
+    found = importlib.util.module_from_spec(importlib.util.spec_from_loader(loader.name, loader))
+    sys.dont_write_bytecode = True
+    loader.exec_module(found)
+    return found
 
 
 @functools.cache

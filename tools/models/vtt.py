@@ -90,26 +90,37 @@ def block_told(block, first, t, rows):
 
 
 # ---- a whole text
-def retime_vtt(text, t, rows, finished=True):
-    """The plain reader: number, output, warnings, and the counts shifted, clipped, dropped and passed. rows: six numbers a segment.
-    Not finished, a rest behind the last LF is only tested for 19, and an open block is left out."""
-    out, warnings, counts, block = b'', [], [0, 0, 0, 0], []
-    mark = BOM if text.startswith(BOM) else b''
-    lines = lines_of(text[len(mark):])
+class Reader:
+    """What was written and told of a text so far. rows: six numbers a segment."""
 
-    def closed(next_line):
-        nonlocal out, block
-        told = block_told(block, next_line - len(block), t, rows)
+    def __init__(self, t, rows):
+        self.t, self.rows, self.out, self.warnings, self.counts, self.block = t, rows, b'', [], [0, 0, 0, 0], []
+
+    def closed(self, next_line):
+        """The end of a block; False where a time can't be read."""
+        told = block_told(self.block, next_line - len(self.block), self.t, self.rows)
         if told is None:
             return False
-        out, block = out + told[0], []
-        warnings.extend(told[1])
+        self.out, self.block = self.out + told[0], []
+        self.warnings.extend(told[1])
         if told[2] is not None:
-            counts[told[2]] += 1
+            self.counts[told[2]] += 1
         return True
 
-    def number():
-        nonlocal out
+    def line(self, n, line, words):
+        """A line behind the first: its number, or 0."""
+        if words:
+            self.block.append(line)
+            return 21 if len(b''.join(self.block)) > 4096 else 0
+        if not self.closed(n):
+            return 22
+        self.out += line
+        return 0
+
+    def read(self, text, finished):
+        """The number of a text."""
+        mark = BOM if text.startswith(BOM) else b''
+        lines = lines_of(text[len(mark):])
         for n, (line, ended) in enumerate(lines, 1):
             if len(line) + (len(mark) if n == 1 else 0) > 4096:
                 return 19
@@ -119,24 +130,25 @@ def retime_vtt(text, t, rows, finished=True):
                 words = bare(line).decode()
             except UnicodeDecodeError:
                 return 20
+            if n == 1 and words != 'WEBVTT' and words[:7] not in ('WEBVTT ', 'WEBVTT\t'):
+                return 24
             if n == 1:
-                if words != 'WEBVTT' and words[:7] not in ('WEBVTT ', 'WEBVTT\t'):
-                    return 24
-                out += mark + line
-            elif words:
-                block.append(line)
-                if len(b''.join(block)) > 4096:
-                    return 21
-            else:
-                if not closed(n):
-                    return 22
-                out += line
+                self.out += mark + line
+                continue
+            number = self.line(n, line, words)
+            if number:
+                return number
         if finished and not lines:
             return 24
-        return 0 if not finished or closed(len(lines) + 1) else 22
+        return 0 if not finished or self.closed(len(lines) + 1) else 22
 
-    n = number()
-    return n, out, warnings, tuple(counts)
+
+def retime_vtt(text, t, rows, finished=True):
+    """The plain reader: number, output, warnings, and the counts shifted, clipped, dropped and passed.
+    Not finished, a rest behind the last LF is only tested for 19, and an open block is left out."""
+    reader = Reader(t, rows)
+    n = reader.read(text, finished)
+    return n, reader.out, reader.warnings, tuple(reader.counts)
 
 
 # ---- answers in the form of `replay`

@@ -58,10 +58,11 @@ pub fn starts(table: &mut Table) {
     let t = medians(5, &mut [here, &mut || same = black_box(following(black_box(&rows), 2_000))]);
     assert_eq!(told, same);
     table.row("census of 36,000,000 starts, 1,024 segments", t[0] * 1e6, " us", None);
-    table.row("the same, beside a count start by start that goes on from the segment before", t[0] / t[1], "", None);
+    table.row("the same start by start in Rust, each from the segment of the one before", t[1] * 1e3, " ms", None);
 }
 
-// ---- delays: the same algorithm in Rust. The fate of a caption is painted over the window of moved starts, the last segment first, and looked up for every delay.
+// ---- delays: the same algorithm in Rust
+// The fate of a caption is painted over the window of moved starts, the last segment first, and looked up for every delay.
 fn up(tick: u64) -> u64 {
     (tick * UNITS).div_ceil(TIMESCALE)
 }

@@ -1,4 +1,5 @@
-//! Every path of the library beside the Rust, in one run. `tools/speed/run` lays this folder beside the oracle's copy of the Rust and gives it the folder of a play.
+//! Every path of the library beside the Rust, in one run.
+//! `tools/speed/run` lays this folder beside the oracle's copy of the Rust and gives it the folder of a play.
 #![allow(dead_code, unexpected_cfgs, clippy::all)]
 #[path = "../../cli.rs"]
 mod cli;

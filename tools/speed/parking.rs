@@ -1,4 +1,5 @@
-//! What the bytes of a session cost: feeds that keep them, and whole texts, beside feeds of one process that keep nothing. And captions read beside captions retimed.
+//! What the bytes of a session cost: feeds that keep them, and whole texts, beside feeds of one process that keep nothing.
+//! And captions read beside captions retimed.
 use crate::clock::medians;
 use crate::here::{by_feed, by_text, lent, TIMESCALE};
 use crate::maps::map_here;
