@@ -49,9 +49,11 @@ def module(name):
 @functools.cache
 def built(program):
     """The path of a proved program; what is missing is proved and built."""
-    said(f'rt check {program} (proves and builds what is missing)')
+    path = os.path.join(root, 'target/bin', program)
+    if not os.path.exists(path):
+        said(f'rt check {program} (proves and builds what is missing)')
     run(['rt', 'check', program], cwd=root, stdout=subprocess.DEVNULL, stderr=subprocess.DEVNULL)
-    return os.path.join(root, 'target/bin', program)
+    return path
 
 
 def replay():

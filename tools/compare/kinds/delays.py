@@ -6,6 +6,7 @@ import lib
 from compare.kinds import drawn
 from models import delays as model
 
+MORE = None
 LIMITS = (0, model.MOST_UNITS, model.MOST_UNITS - 6000, model.MOST_UNITS + 1)
 
 
@@ -74,7 +75,7 @@ def asked(tally, rows, timescale, kind, places, budget):
     return lib.case(12, timescale, kind, budget, 0, lib.flat(rows), b'', model.given(places)), want.encode() + b'\n'
 
 
-def compare(tally, r, count, large=None):
+def compare(tally, r, count, large=MORE):
     stored = [(lib.case(12, t, kind, budget, 0, x, b'', model.given(places)), want.encode() + b'\n') for _, x, t, kind, places, budget, want in model.CASES]
     tally.hold('by hand', stored)
     tally.hold('small maps', [asked(tally, *one) for one in small()])

@@ -13,6 +13,7 @@ from data import cases
 from models import parking as model
 from models import vtt
 
+MORE = 3
 EDGES = (0, 1, 2, 3, 18, 19, 20, 21, 22, 23, 24, 25, 100, 4095, 4096, 4097, 8191, 8192, 8193, 8567, 8568, 8569,
          10**9, 10**9 + 1, 2**30, 2**30 + 1, 2**31, 2**32 - 1)
 
@@ -122,7 +123,7 @@ def chosen(r, sessions, count):
     return ([s for s in first if s] + sessions)[:count]
 
 
-def compare(tally, r, count, many=3):
+def compare(tally, r, count, many=MORE):
     model.by_hand()
     sessions = texts(tally, r, count)
     tally.hold('blocks by hand', [taken(b) for b, _ in model.BLOCKS + model.EDGES])

@@ -10,6 +10,7 @@ from data import cases
 from models import vtt as model
 
 AT_ONCE = 5000
+MORE = 5
 
 
 def with_text(case, text):
@@ -47,7 +48,7 @@ def some(tally, r, oracle, ops, count):
     tally.hold('a finish after a prefix', [(p, wanted(k, p)) for k, c in enumerate(stream) for p in prefixes(r, c)])
 
 
-def compare(tally, r, count, ops=5):
+def compare(tally, r, count, ops=MORE):
     ops = [int(c) for c in str(ops)]
     if not set(ops) <= {3, 5}:
         lib.stop('MORE has the ops 3 and 5 alone', 2)
