@@ -6,8 +6,8 @@ Then single ticks: COUNT captions are fed as texts of their own (op 5), and whet
 import itertools
 
 import lib
-from compare import tally as told_by
 from compare.kinds import drawn
+from compare.tally import counts
 from models import rough as model
 
 
@@ -44,7 +44,7 @@ def single_ticks(tally, r, count):
     there = tally.asked([text for _, text, _ in made])
     here = tally.asked([asked(rows, (a, a, b, b))[0] for rows, _, (a, b) in made])
     for (rows, text, ticks), retimed, told in zip(made, there, here):
-        fates = told_by.counts(retimed)
+        fates = counts(retimed)
         if sum(fates.values()) != 1:
             tally.differ('texts', text, 'one caption', retimed)
         want = b'rough kept\n' if fates['shifted'] + fates['clipped'] else b'rough dropped\n'

@@ -5,7 +5,7 @@ all of them where it has at most 48 bytes, else four."""
 import struct
 
 import lib
-from compare import tally as told_by
+from compare.tally import count_captions
 from data import cases
 from models import vtt as model
 
@@ -41,7 +41,7 @@ def some(tally, r, oracle, ops, count):
     want = [wanted(k, c) for k, c in enumerate(stream)]
     for told in want:
         if told.startswith(b'retimed'):
-            told_by.count_captions(tally.seen, 'captions: ', told)
+            count_captions(tally.seen, 'captions: ', told)
     tally.hold('in pieces of 1,024 bytes', list(zip([with_plan(c, 0) for c in stream], want)))
     tally.hold('in pieces of varying sizes', list(zip(stream, want)))
     tally.hold('byte by byte', list(zip([with_plan(c, 1024) for c in stream], want)))

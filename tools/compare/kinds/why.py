@@ -6,8 +6,8 @@ Then the fate: COUNT captions, of each kind, are fed as texts of their own (op 5
 import struct
 
 import lib
-from compare import tally as told_by
 from compare.kinds import drawn
+from compare.tally import counts
 from models import why as model
 
 
@@ -54,7 +54,7 @@ def fates(tally, r, count):
     there = tally.asked([drawn.by_text(t, kind, rows, [times]) for rows, t, kind, times in made])
     here = tally.asked([asked(lib.flat(rows), t, kind, *times, len(rows)) for rows, t, kind, times in made])
     for one, retimed, told in zip(made, there, here):
-        found = [fate for fate, n in told_by.counts(retimed).items() for _ in range(n)]
+        found = [fate for fate, n in counts(retimed).items() for _ in range(n)]
         fate = found[0] if len(found) == 1 else 'no caption'
         tally.expect('fates', one, [b'why', fate.encode()], told.split()[:2])
         tally.count('fates: ' + fate)
