@@ -1,10 +1,10 @@
 // A map of one segment as the Rust cutter stores it, written and read again.
-use crate::show::begin;
-use crate::show::end;
-use crate::show::one;
-use crate::show::short;
-use crate::show::six;
-use crate::show::small;
+use c_api_show::begin;
+use c_api_show::end;
+use c_api_show::one;
+use c_api_show::short;
+use c_api_show::six;
+use c_api_show::small;
 use libc::STDOUT_FILENO;
 
 // The four numbers go to `row`.

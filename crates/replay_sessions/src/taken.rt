@@ -1,6 +1,6 @@
 // A session taken up, printed.
-use crate::notes::number_at;
 use libc::STDOUT_FILENO;
+use replay_feeds::number_at;
 use session_state::Session;
 
 fn flag(t: bool) -> u64 {
