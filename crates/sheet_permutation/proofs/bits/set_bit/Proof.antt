@@ -1,9 +1,9 @@
-use Rattle.spec_sheet.proofs.sheet_permutation.BitLaws.{sum-fits, mark-old, mark-new}
+use Rattle.spec_sheet.proofs.sheet_permutation.BitLaws.{sum-fits, bit-old, bit-new}
 use borrow.Author.Needs.{needs}
-use Rattle.sheet_permutation.proofs.marks.mark.Statement.{statement}
-use Rattle.sheet_permutation.proofs.marks.mark.Tie as tie
-use Rattle.sheet_permutation.proofs.marks.mark.Reads as reads
-use Rattle.sheet_permutation.proofs.marks.mark.Lts as lts
+use Rattle.sheet_permutation.proofs.bits.set_bit.Statement.{statement}
+use Rattle.sheet_permutation.proofs.bits.set_bit.Tie as tie
+use Rattle.sheet_permutation.proofs.bits.set_bit.Reads as reads
+use Rattle.sheet_permutation.proofs.bits.set_bit.Lts as lts
 
 cast-d : tie.Need-cast-d
 cast-d c = search needs
@@ -18,7 +18,7 @@ shr-if1 : tie.Need-shr-if1
 shr-if1 c = search needs
 
 returns : tie.Need-returns
-returns c = mark-old _ _ (c .if1 .taken)
+returns c = bit-old _ _ (c .if1 .taken)
 
 shl-bits : tie.Need-shl-bits
 shl-bits c = search needs
@@ -33,10 +33,10 @@ same-length : tie.Need-same-length
 same-length c = search needs
 
 returns-2 : tie.Need-returns-2
-returns-2 c = mark-new _ _ (c .if1 .left)
+returns-2 c = bit-new _ _ (c .if1 .left)
 
-pub mark-spec : {M : Type 1} → statement M
-mark-spec =
+pub set-bit-spec : {M : Type 1} → statement M
+set-bit-spec =
     tie.close
     (tie.spec
     cast-d

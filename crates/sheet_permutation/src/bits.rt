@@ -17,7 +17,7 @@ pub fn clear(bits: &mut [u8])
 }
 
 // Sets the bit of a decode index, and answers whether it was set before.
-pub fn mark(bits: &mut [u8], index: DecodeIdx) -> bool
+pub fn set_bit(bits: &mut [u8], index: DecodeIdx) -> bool
     requires { ⌜ index .0 < 8 * length (now bits) ⌝ }
     ensures { λ r. ⌜ (r ≡ bitOf (now (bits .entry)) (index .0)) × (now (bits .exit) ≡ withBit (now (bits .entry)) (index .0)) ⌝ }
 {

@@ -6,10 +6,10 @@ use Prim.Native.Nat.{_≤_, _-_}
 use mathlib.Core.List.{_++_, append-nil}
 use mathlib.Core.Path.{_≡_, refl, _∙_}
 use borrow.Author.Needs.{needs}
-use Rattle.sheet_permutation.proofs.marks.clear.Statement.{statement}
-use Rattle.sheet_permutation.proofs.marks.clear.Tie as tie
-use Rattle.sheet_permutation.proofs.marks.clear.Reads as reads
-use Rattle.sheet_permutation.proofs.marks.clear.Lts as lts
+use Rattle.sheet_permutation.proofs.bits.clear.Statement.{statement}
+use Rattle.sheet_permutation.proofs.bits.clear.Tie as tie
+use Rattle.sheet_permutation.proofs.bits.clear.Reads as reads
+use Rattle.sheet_permutation.proofs.bits.clear.Lts as lts
 
 abbrev Inv-loop : tie.InvT-loop
 Inv-loop bits₀ i₀ bits i = (i ≤ length bits₀) × (bits ≡ replicate i 0 ++ drop i bits₀) × (length bits ≡ length bits₀)
