@@ -3,6 +3,5 @@ mod asking;
 mod parked;
 mod printing;
 mod retimed;
-mod taken;
 
 pub use asking::answer;

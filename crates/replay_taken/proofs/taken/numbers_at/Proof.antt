@@ -3,8 +3,8 @@ use Prim.Native.Nat.{_≤_, _-_}
 use native.Mathlib.Omega.{arith}
 use lib.ListN.{length}
 use borrow.Author.Needs.{needs}
-use Rattle.replay_sessions.proofs.taken.numbers_at.Statement.{statement}
-use Rattle.replay_sessions.proofs.taken.numbers_at.Tie as tie
+use Rattle.replay_taken.proofs.taken.numbers_at.Statement.{statement}
+use Rattle.replay_taken.proofs.taken.numbers_at.Tie as tie
 
 abbrev Inv-loop : tie.InvT-loop
 Inv-loop line₀ start ns at₀ i₀ t7 line at i = (i ≤ length ns) × (length line ≡ length line₀)
