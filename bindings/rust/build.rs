@@ -1,5 +1,5 @@
-// Links the static library: that of RETIMER_LIB_DIR, a folder with libretimer.a as tools/install writes it, or the one that `rt staticlib` wrote in this checkout. Tells the command its commit and the logic that its proofs were
-// checked by. Lays the Rust of Tachikaze beside the benchmarks where its folder is given in TACHIKAZE_SRC (it is not part of this repository).
+// Links the static library: that of RETIMER_LIB_DIR, a folder with libretimer.a as tools/install writes it, or the one that `rt staticlib` wrote in this checkout.
+// Tells the command its commit and the logic that its proofs were checked by.
 use std::path::{Path, PathBuf};
 use std::process::Command;
 use std::{env, fs};
@@ -9,17 +9,6 @@ fn main() {
     let out = env::var("OUT_DIR").unwrap();
     library(&root, Path::new(&out));
     version(&root);
-    println!("cargo:rerun-if-env-changed=TACHIKAZE_SRC");
-    println!("cargo::rustc-check-cfg=cfg(tachikaze)");
-    if let Ok(src) = env::var("TACHIKAZE_SRC") {
-        for file in ["order.rs", "trim.rs"] {
-            let text = fs::read_to_string(Path::new(&src).join(file)).unwrap();
-            // inner doc comments can't stand in an included file
-            let kept: Vec<&str> = text.lines().filter(|l| !l.starts_with("//!")).collect();
-            fs::write(Path::new(&out).join(file), kept.join("\n")).unwrap();
-        }
-        println!("cargo:rustc-cfg=tachikaze");
-    }
 }
 
 fn library(root: &Path, out: &Path) {

@@ -1,4 +1,5 @@
-/* Guarded memory. Each slot is pages of a file in memory, mapped twice, once for reading alone; a page that can't be touched lies directly before and directly behind both. */
+/* Guarded memory. Each slot is pages of a file in memory, mapped twice, once for reading alone.
+ * A page that can't be touched lies directly before and directly behind both. */
 #define _GNU_SOURCE
 #include "fuzz.h"
 #include <stdio.h>

@@ -1,6 +1,7 @@
 /* Random calls of the C functions for some seconds:  fuzz SECONDS SEED [FIRST [COUNT]]   or   fuzz --self-test
- * Each case is drawn from the seed and its own number, so FIRST begins at one and COUNT 1 runs it alone. Prints how often each function gave each number. Exit status 1 at the first violation, with the
- * case to begin at. --self-test puts faults between the harness and the functions, each of which must be noticed. */
+ * Each case is drawn from the seed and its own number, so FIRST begins at one and COUNT 1 runs it alone.
+ * Prints how often each function gave each number. Exit status 1 at the first violation, with the case to begin at.
+ * --self-test puts faults between the harness and the functions, each of which must be noticed. */
 #define _GNU_SOURCE
 #include "fuzz.h"
 #include <fcntl.h>

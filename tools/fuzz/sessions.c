@@ -1,4 +1,5 @@
-/* Cases of sessions: opened, fed in random pieces, with refused calls between, damaged, forged, called after the end; two cuttings of a text, and the whole text at once. */
+/* Cases of sessions: opened, fed in random pieces, with refused calls between, damaged, forged, called after the end.
+ * Two cuttings of a text, and the whole text at once. */
 #define _GNU_SOURCE
 #include "fuzz.h"
 #include <stdlib.h>
@@ -59,7 +60,8 @@ static void nothing_written(const struct lot *l) {
     place_kept(l->f, 1);
 }
 
-/* The session that a call left: sealed, of the same kind and timescale, with the piece taken, ended by a fault or a finish. An empty piece leaves it as it was. */
+/* The session that a call left: sealed, of the same kind and timescale, with the piece taken, ended by a fault or a finish.
+ * An empty piece leaves it as it was. */
 static void went_on(const struct lot *l, const uint8_t *before, uint32_t number) {
     const uint8_t *s = l->session;
     uint32_t ended = number || l->f == FINISH;
@@ -190,7 +192,6 @@ static void same(const struct run *a, const struct run *b, enum function f) {
     expect(a->number || !memcmp(a->session, b->session, SIZE), f, "another cutting leaves another session");
 }
 
-#ifdef WITH_TEXT
 struct whole {
     size_t out_lent, places, told_lent;
 };
@@ -222,7 +223,6 @@ static struct whole enough(size_t length) {
     struct whole w = {3 * length + RETIMER_LEAST_OUTPUT, length / 3 + RETIMER_LEAST_PLACES, 7};
     return w;
 }
-#endif
 
 void case_session(void) {
     uint32_t timescale = draw_timescale(0), kind = draw_kind(0);
@@ -236,13 +236,10 @@ void case_session(void) {
         return;
     feed_all(&second, map_numbers, numbers, length, (unsigned)below(4), 0);
     same(&first, &second, FEED);
-#ifdef WITH_TEXT
     at_once(kind, timescale, map_numbers, numbers, length, enough(length), 0, &first);
-#endif
 }
 
 /* ---- the whole text: refusals */
-#ifdef WITH_TEXT
 /* More than 2^30 bytes: pages that are there once only, and output that can't be touched. */
 static void too_long(void) {
     static uint8_t *text, *out;
@@ -280,11 +277,6 @@ void case_text(void) {
         at_once(kind, timescale, map_numbers, numbers, length, w, 0, &first);
     }
 }
-#else
-void case_text(void) {
-    case_session();
-}
-#endif
 
 /* ---- sessions from elsewhere */
 static void forge(uint8_t *s) {

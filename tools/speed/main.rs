@@ -1,4 +1,5 @@
-//! Every path of the library beside the Rust, in one run. `tools/speed/run` lays this folder beside the oracle's copy of the Rust and gives it the sheet and the list of a play.
+//! Every path of the library beside the Rust, in one run.
+//! `tools/speed/run` lays this folder beside the oracle's copy of the Rust and gives it the folder of a play.
 #![allow(dead_code, unexpected_cfgs, clippy::all)]
 #[path = "../../cli.rs"]
 mod cli;
@@ -11,14 +12,19 @@ mod mp4io {
     pub mod read;
 }
 mod clock;
+mod counts;
 #[path = "../../dtvi.rs"]
 mod dtvi;
 mod here;
+mod limits;
+mod long_json;
 mod maps;
 #[path = "../../order.rs"]
 mod order;
+mod parking;
 #[path = "../../plan.rs"]
 mod plan;
+mod play;
 #[path = "../../segmap.rs"]
 mod segmap;
 mod subtitle;
@@ -28,18 +34,43 @@ mod texts;
 mod trim;
 mod words;
 
+use play::Play;
 use table::Table;
 
+/// A part of the measurements, and whether it is left out where no part is named: it takes a minute or more.
+struct Part {
+    name: &'static str,
+    long: bool,
+    run: fn(&mut Table, &Play),
+}
+
+const PARTS: [Part; 6] = [
+    Part { name: "texts", long: false, run: |table, _| all(table, &[texts::ordinary, texts::one_byte, texts::small]) },
+    Part { name: "maps", long: false, run: of_maps },
+    Part { name: "json", long: false, run: |table, _| maps::json(table) },
+    Part { name: "play", long: false, run: play::play },
+    Part { name: "parking", long: false, run: parking::parking },
+    Part { name: "limits", long: true, run: |table, _| all(table, &[limits::all, counts::starts, counts::delays, long_json::all]) },
+];
+
+fn all(table: &mut Table, parts: &[fn(&mut Table)]) {
+    parts.iter().for_each(|f| f(table));
+}
+
+fn of_maps(table: &mut Table, play: &Play) {
+    maps::play(table, &play.sheet, &play.list);
+    all(table, &[maps::list, maps::questions]);
+}
+
 fn main() {
-    let files: Vec<Vec<u8>> = std::env::args().skip(1).map(|path| std::fs::read(path).unwrap()).collect();
-    let [sheet, list] = &files[..] else { panic!("speed SHEET LIST") };
+    let words: Vec<String> = std::env::args().skip(1).collect();
+    let [folder, chosen @ ..] = &words[..] else { panic!("speed FOLDER PART ..") };
+    let play = Play::read(std::path::Path::new(folder));
     let mut table = Table::new();
-    texts::ordinary(&mut table);
-    texts::one_byte(&mut table);
-    texts::small(&mut table);
-    maps::play(&mut table, sheet, list);
-    maps::list(&mut table);
-    maps::questions(&mut table);
-    maps::json(&mut table);
+    for part in &PARTS {
+        if chosen.iter().any(|name| name == part.name) || chosen.is_empty() && !part.long {
+            (part.run)(&mut table, &play);
+        }
+    }
     std::process::exit(i32::from(!table.all_met()));
 }

@@ -8,17 +8,17 @@ use crate::{cli, commands, plan, trim, words};
 use std::hint::black_box;
 
 extern "C" {
-    fn retimer_sheet_check(sheet: *const u8, sheet_length: usize, work: *mut u8, work_lent: usize) -> u32;
+    pub fn retimer_sheet_check(sheet: *const u8, sheet_length: usize, work: *mut u8, work_lent: usize) -> u32;
     fn retimer_list_check(list: *const u8, list_length: usize) -> u32;
     fn retimer_map(sheet: *const u8, sheet_length: usize, list: *const u8, list_length: usize, direction: u32, work: *mut u8, work_lent: usize, map: *mut u64, map_lent: usize, timescale: *mut u32, count: *mut u64) -> u32;
-    fn retimer_census(map: *const u64, map_length: usize, timescale: u32, kind: u32, length: u64, count: u64, shifted: *mut u64, clipped: *mut u64, dropped: *mut u64) -> u32;
-    fn retimer_best_delay(map: *const u64, map_length: usize, timescale: u32, kind: u32, captions: *const u64, captions_length: usize, budget: u32, delay: *mut i64, loss: *mut u32, tried: *mut u32, off: *mut u32) -> u32;
-    fn retimer_map_write(map: *const u64, length: usize, timescale: u32, rate_num: u32, rate_den: u32, path: *const u8, path_length: usize, frames: u32, text: *mut u8, places: usize, written: *mut u64) -> u32;
-    fn retimer_map_read(text: *const u8, length: usize, map: *mut u64, map_places: usize, path: *mut u8, path_places: usize, timescale: *mut u32, rate_num: *mut u32, rate_den: *mut u32, frames: *mut u32, numbers: *mut u64, path_length: *mut u64) -> u32;
+    pub fn retimer_census(map: *const u64, map_length: usize, timescale: u32, kind: u32, length: u64, count: u64, shifted: *mut u64, clipped: *mut u64, dropped: *mut u64) -> u32;
+    pub fn retimer_best_delay(map: *const u64, map_length: usize, timescale: u32, kind: u32, captions: *const u64, captions_length: usize, budget: u32, delay: *mut i64, loss: *mut u32, tried: *mut u32, off: *mut u32) -> u32;
+    pub fn retimer_map_write(map: *const u64, length: usize, timescale: u32, rate_num: u32, rate_den: u32, path: *const u8, path_length: usize, frames: u32, text: *mut u8, places: usize, written: *mut u64) -> u32;
+    pub fn retimer_map_read(text: *const u8, length: usize, map: *mut u64, map_places: usize, path: *mut u8, path_places: usize, timescale: *mut u32, rate_num: *mut u32, rate_den: *mut u32, frames: *mut u32, numbers: *mut u64, path_length: *mut u64) -> u32;
 }
 
 /// The Rust's map of a play, from an OrderMap and samples that are ready made and not checked; in its time the list is parsed.
-struct Frames {
+pub struct Frames {
     timescale: u32,
     count: u32,
     order: OrderMap,
@@ -26,7 +26,7 @@ struct Frames {
     syncs: Vec<DisplayIdx>,
 }
 
-fn frames(sheet: &[u8]) -> Frames {
+pub fn frames(sheet: &[u8]) -> Frames {
     let word = |k: usize| u32::from_le_bytes(sheet[4 * k..4 * k + 4].try_into().unwrap());
     let count = word(2);
     let at = |i: u32| 128 * (1 + i as usize / 63) + 1 + 2 * (i as usize % 63);
@@ -39,13 +39,22 @@ fn frames(sheet: &[u8]) -> Frames {
     }
 }
 
-fn map_rust(f: &Frames, list: &str) -> SegmentMap {
+pub fn map_rust(f: &Frames, list: &str) -> SegmentMap {
     let trims = trim::TrimList::parse(list).unwrap();
     let snapped = plan::snap(&trims, &f.syncs, f.count, cli::Snap::Outward).unwrap();
     let keep = plan::keep_list(&snapped, &f.order).unwrap();
     let starts = commands::segment_video_source_starts(&snapped, &f.order, &f.samples).unwrap();
     let durations = commands::segment_video_durations(&snapped, &keep, &f.samples);
     SegmentMap::build(&snapped, &starts, &durations, f.timescale, 30000, 1001, "x".into(), f.count)
+}
+
+/// The map of a play by the proved function, with the checks of its sheet and its list.
+pub fn map_here(sheet: &[u8], list: &[u8]) -> Vec<u64> {
+    let (mut work, mut map, mut timescale, mut count) = (vec![0; 131_072], vec![0; 6144], 0, 0);
+    let number = unsafe { retimer_map(sheet.as_ptr(), sheet.len(), list.as_ptr(), list.len(), 0, work.as_mut_ptr(), work.len(), map.as_mut_ptr(), 6144, &mut timescale, &mut count) };
+    assert_eq!((number, timescale), (0, crate::here::TIMESCALE));
+    map.truncate(6 * count as usize);
+    map
 }
 
 pub fn play(table: &mut Table, sheet: &[u8], list: &[u8]) {

@@ -13,7 +13,7 @@ fn segments(map: &[u64]) -> Vec<Segment> {
 }
 
 /// The Rust's text, with its test for UTF-8.
-fn remap(kind: u32, map: &[Segment], text: &[u8]) -> String {
+pub fn remap(kind: u32, map: &[Segment], text: &[u8]) -> String {
     let text = std::str::from_utf8(text).unwrap();
     let done = if kind == 0 { subtitle::remap_ass(text, map, TIMESCALE) } else { subtitle::remap_srt(text, map, TIMESCALE) };
     done.unwrap().content

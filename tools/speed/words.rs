@@ -31,7 +31,7 @@ fn say(dice: &mut Dice) -> String {
     (0..count).map(|_| word(dice)).collect::<Vec<_>>().join(" ")
 }
 
-fn stamp(kind: u32, t: u64) -> String {
+pub fn stamp(kind: u32, t: u64) -> String {
     let (h, m, s, f) = (t / 3_600_000, t / 60_000 % 60, t / 1000 % 60, t % 1000);
     match kind {
         0 => format!("{h}:{m:02}:{s:02}.{:02}", f / 10),

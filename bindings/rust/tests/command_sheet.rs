@@ -1,4 +1,4 @@
-//! `bobbincrag sheet` and `map --ffmpeg`: films told by stored output of ffprobe. The expected numbers are worked out by hand from docs/SHEET.md, "From a film". tools/film-test does the same with real films.
+//! `bobbincrag sheet` and `map --ffmpeg`: films told by stored output of ffprobe. The expected numbers are worked out by hand from docs/SHEET.md, "From a film". tools/compare/film-test does the same with real films.
 mod common;
 use common::{run, run_with, Folder, Ran};
 use retimer::film::{Fault, Film};

@@ -1,4 +1,4 @@
-//! The captions of a text as `retimer_cues` tells them, beside answers that tools/cues_model.py stored (cues.txt): document 01's worked captions, the example play, random texts.
+//! The captions of a text as `retimer_cues` tells them, beside answers of tools/models/cues.py (cues.txt, by tools/data/cues): document 01's worked captions, the example play, random texts.
 mod common;
 
 use common::{file, play, read};

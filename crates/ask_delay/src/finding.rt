@@ -73,15 +73,15 @@ fn try_all(map: &[u64], timescale: u32, kind: u32, captions: &[u64], tries: u32)
     requires { ⌜ (timescaleBad timescale ≡ false) × (kindBad kind ≡ false) × (mapBad (now map) ≡ false) × (anyLate (now captions) ≡ false) × (length (now captions) ≤ 8192) × (1 ≤ tries) × (tries ≤ 12001) ⌝ }
     ensures { λ r. ⌜ r ≡ chosenOf (configWith kind timescale) (segmentsOf (now (map .entry))) (now (captions .entry)) tries ⌝ }
 {
-    let mut marks = [0u8; 12001];
+    let mut grades = [0u8; 12001];
     let mut losses = [0u32; 12001];
-    crate::counting::count_all(
+    ask_losses::count_all(
         map,
         timescale,
         kind,
         captions,
         tries,
-        &mut marks,
+        &mut grades,
         &mut losses,
     );
     crate::choosing::choose(&losses, tries)
@@ -107,7 +107,7 @@ pub fn best_delay(map: &[u64], timescale: u32, kind: u32, captions: &[u64], budg
     let loss = best.loss;
     Delay {
         number: 0,
-        delay: crate::moving::delay_at(best.place),
+        delay: ask_losses::delay_at(best.place),
         loss,
         tried: best.tried,
         off: loss - floor,

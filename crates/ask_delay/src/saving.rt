@@ -43,7 +43,7 @@ pub fn floor_of(map: &[u64], timescale: u32, kind: u32, captions: &[u64]) -> u32
     let mut n = 0;
     while 2 <= t.len() {
         let long = too_long(map, timescale, kind, base::word(t, 0), base::word(t, 1));
-        n = crate::counting::more(n, long);
+        n = ask_losses::more(n, long);
         let u = base::words_rest(t, 2);
         t = u;
     }

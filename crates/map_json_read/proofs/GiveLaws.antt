@@ -29,9 +29,10 @@ use Rattle.map_json_read.specs.declared.fields.HeadSlots.{HeadSlots}
 use Rattle.map_json_read.specs.declared.reading.Parts.{Parts}
 use Rattle.spec_json.specs.declared.map_json_read.Taken.{Taken}
 use Rattle.map_json_read.specs.Slots.{headsIn}
-use Rattle.map_json_read.specs.Steps.{objectOf, HeadsOf, ListRead, flatIn, Gathered, PartsOf, saidNumber, listBad, askNumber, Asked, Gives}
+use Rattle.map_json_segments.specs.Listed.{ListRead}
+use Rattle.map_json_read.specs.Steps.{objectOf, HeadsOf, flatIn, Gathered, PartsOf, saidNumber, listBad, askNumber, Asked, Gives}
 use Rattle.spec_json.specs.map_json_read.Answer.{noneTaken, readNumber, Reads}
-use Rattle.map_json_read.proofs.NumberLaws.{left, right, said-value}
+use Rattle.map_json_segments.proofs.NumberLaws.{left, right, said-value}
 use Rattle.map_json_read.proofs.PartLaws.{object-says}
 
 none : {A : Type 0} (n k : ℕ) → 0 < k → n ≡ k → n ≡ 0 → A

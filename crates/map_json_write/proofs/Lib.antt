@@ -1,4 +1,2 @@
-pub mod WrittenLaws
-pub mod EscapeLaws
 pub mod LayoutLaws
 pub mod AnswerLaws

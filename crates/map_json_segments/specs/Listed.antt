@@ -1,0 +1,16 @@
+-- What the reader of the list of segments answers.
+use mathlib.Core.Path.{_≡_}
+use mathlib.Core.Bool.{Bool, true}
+use mathlib.Core.List.{List}
+use Prim.Native.Nat.{ℕ, _≤_}
+use lib.ListN.{length}
+use Rattle.spec_base.specs.base.Limits.{mostSegments}
+use Rattle.spec_base.specs.base.Put.{put}
+use Rattle.spec_map.specs.segment.Segment.{flatOf}
+use Rattle.spec_json.specs.map_json_write.Reads.{segmentsFrom}
+
+-- a list read: the numbers of its segments stand in the room where it has at most 1,024
+pub record ListRead (said : Bool) (es : List (List ℕ)) (good : Bool) (count : ℕ) (room room′ : List ℕ) : Type 0 where
+  pub good-is : good ≡ said
+  pub count-is : good ≡ true → count ≡ length es
+  pub numbers : good ≡ true → count ≤ mostSegments → room′ ≡ put (flatOf (segmentsFrom es)) room

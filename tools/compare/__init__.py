@@ -1,0 +1,1 @@
+"""Comparisons with models, with the Rust and with other programs."""

@@ -1,0 +1,1 @@
+"""Stored cases and examples, and what they are made of."""
