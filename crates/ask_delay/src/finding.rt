@@ -1,5 +1,7 @@
 // The answer: refusals in their order, then the delay that loses least.
 use crate::choosing::Chosen;
+use crate::counting::count_all;
+use crate::moving::delay_at;
 use spec_ask::ask_delay::Delay;
 ghost use mathlib.Core.Path.{_≡_};
 ghost use mathlib.Core.Bool.{false};
@@ -75,7 +77,7 @@ fn try_all(map: &[u64], timescale: u32, kind: u32, captions: &[u64], tries: u32)
 {
     let mut grades = [0u8; 12001];
     let mut losses = [0u32; 12001];
-    ask_losses::count_all(
+    count_all(
         map,
         timescale,
         kind,
@@ -107,7 +109,7 @@ pub fn best_delay(map: &[u64], timescale: u32, kind: u32, captions: &[u64], budg
     let loss = best.loss;
     Delay {
         number: 0,
-        delay: ask_losses::delay_at(best.place),
+        delay: delay_at(best.place),
         loss,
         tried: best.tried,
         off: loss - floor,

@@ -4,7 +4,7 @@ use mathlib.Core.Bool.{Bool, true, false, _&&_, cond, not, true≢false}
 use mathlib.Core.List.{List, [], _∷_, _++_, append-assoc}
 use Prim.Native.Nat.{ℕ, suc, _+_, _*_, _^_, _≤_, _<_}
 use native.Mathlib.Omega.{arith}
-use borrow.Author.Tests.{not-true, not-false, lt-ltb, le-ltb}
+use borrow.Author.Tests.{not-true, not-false, lt-ltb, le-ltb, eq-eqb, ne-eqb}
 use lib.Dec.{eqb, ltb}
 use lib.ListN.{length, take, getD, length-append}
 use lib.Seq.{length-take-le}
@@ -20,7 +20,7 @@ use Rattle.spec_json.proofs.json.MemberLaws.{items-none, items-end, items-step,
 use Rattle.spec_json.specs.map_json_write.Reads.{segmentsSaid, segmentsFrom, listSaid}
 use Rattle.map_json_segments.specs.declared.number.Numbers.{Numbers}
 use Rattle.map_json_segments.specs.Fields.{sixNumbers, SegmentIn}
-use Rattle.map_json_segments.specs.Listed.{ListRead}
+use Rattle.map_json_segments.specs.Listed.{ListRead, listSaidIn}
 
 -- ---- elements that are segments
 abbrev pub elementsIn : List ℕ → List (List ℕ)
@@ -146,6 +146,26 @@ list-none v map o g c eo h eg =
 pub list-some : (v map map′ : List ℕ) (o g : Bool) (c : ℕ) → o ≡ eqb (getD v 0 0) 0x5B → not o ≡ false → ListRead (segmentsSaid (elementsOf 9 v)) (elementsOf 9 v) g c map map′ → ListRead (listSaid v) (elementsOf 9 v) g c map map′
 list-some v map map′ o g c eo h l =
     record { good-is = l .good-is ∙ ap (λ (x : Bool). x && segmentsSaid (elementsOf 9 v)) (sym (sym eo ∙ not-false o h)); count-is = l .count-is; numbers = l .numbers }
+
+-- ---- where 6,144 places are lent, and where not
+pub list-short : (v map : List ℕ) (g : Bool) (c : ℕ) → (length map ≡ 6 * mostSegments → ⊥) → g ≡ false → ListRead (listSaidIn (length map) v) (elementsOf 9 v) g c map map
+unfolding listSaidIn
+list-short v map g c h eg =
+    record {
+      good-is = eg ∙ ap (λ (x : Bool). x && listSaid v) (sym (ne-eqb (length map) (6 * mostSegments) h));
+      count-is = λ y. absurd (true≢false (sym y ∙ eg));
+      numbers = λ y. absurd (true≢false (sym y ∙ eg));
+    }
+
+pub list-full : (v map map′ : List ℕ) (g : Bool) (c : ℕ) → length map ≡ 6 * mostSegments → ListRead (listSaid v) (elementsOf 9 v) g c map map′ → ListRead (listSaidIn (length map) v) (elementsOf 9 v) g c map map′
+unfolding listSaidIn
+list-full v map map′ g c h l =
+    record { good-is = l .good-is ∙ ap (λ (x : Bool). x && listSaid v) (sym (eq-eqb (length map) (6 * mostSegments) h)); count-is = l .count-is; numbers = l .numbers }
+
+pub list-back : (v map map′ : List ℕ) (g : Bool) (c : ℕ) → length map ≡ 6 * mostSegments → ListRead (listSaidIn (length map) v) (elementsOf 9 v) g c map map′ → ListRead (listSaid v) (elementsOf 9 v) g c map map′
+unfolding listSaidIn
+list-back v map map′ g c h l =
+    record { good-is = l .good-is ∙ ap (λ (x : Bool). x && listSaid v) (eq-eqb (length map) (6 * mostSegments) h); count-is = l .count-is; numbers = l .numbers }
 
 -- ---- one segment written, where there is room
 pub segment-in : (n : ℕ) (v map map′ : List ℕ) → n < 1024 → map′ ≡ putAt (6 * n) v map → map′ ≡ cond (ltb n 1024) (putAt (6 * n) v map) map

@@ -12,7 +12,7 @@ ghost use Rattle.spec_base.specs.base.Limits.{mostSegments};
 ghost use Rattle.spec_base.specs.base.Put.{putAt};
 ghost use Rattle.spec_json.specs.json.Member.{elementsOf};
 ghost use Rattle.spec_json.specs.map_json_write.Reads.{segmentsSaid, listSaid};
-ghost use Rattle.map_json_segments.specs.Listed.{ListRead};
+ghost use Rattle.map_json_segments.specs.Listed.{ListRead, listSaidIn};
 
 // Writes six numbers from the place `at` on.
 fn six_at(map: &mut [u64], at: usize, x: Numbers)
@@ -71,7 +71,7 @@ fn segments_into(s: &[u8], map: &mut [u64]) -> Listed
 }
 
 // The same of a value that may be no array.
-pub fn list_into(v: &[u8], map: &mut [u64]) -> Listed
+fn list_at(v: &[u8], map: &mut [u64]) -> Listed
     requires { ⌜ length (now map) ≡ 6 * mostSegments ⌝ }
     ensures { λ r. ⌜ ListRead (listSaid (now (v .entry))) (elementsOf 9 (now (v .entry))) (r .good) (r .count) (now (map .entry)) (now (map .exit)) ⌝ }
 {
@@ -79,4 +79,14 @@ pub fn list_into(v: &[u8], map: &mut [u64]) -> Listed
         return answer(false, 0);
     }
     segments_into(v, map)
+}
+
+// The same where 6,144 places are lent; else it is not good, and nothing is written.
+pub fn list_into(v: &[u8], map: &mut [u64]) -> Listed
+    ensures { λ r. ⌜ ListRead (listSaidIn (length (now (map .entry))) (now (v .entry))) (elementsOf 9 (now (v .entry))) (r .good) (r .count) (now (map .entry)) (now (map .exit)) ⌝ }
+{
+    if map.len() != 6 * base::MOST_SEGMENTS {
+        return answer(false, 0);
+    }
+    list_at(v, map)
 }

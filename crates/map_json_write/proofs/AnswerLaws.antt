@@ -16,7 +16,7 @@ use Rattle.spec_caption.specs.caption_time.Convert.{timescaleBad}
 use Rattle.spec_map.specs.segment.Segment.{segmentsOf, anyBad, mapBad}
 use Rattle.spec_json.specs.map_json_write.Names.{mostPath}
 use Rattle.spec_json.specs.map_json_write.Text.{mapText}
-use Rattle.json_write.specs.Written.{Written}
+use Rattle.map_json_write.specs.Written.{Written}
 use Rattle.spec_json.specs.declared.map_json_write.Wrote.{Wrote}
 use Rattle.spec_json.specs.map_json_write.Answer.{askedNumber, writeNumber, whenDone, Writes}
 

@@ -1,2 +1,4 @@
+pub mod WrittenLaws
+pub mod EscapeLaws
 pub mod LayoutLaws
 pub mod AnswerLaws

@@ -1,16 +1,15 @@
 // The text of a map, piece by piece.
-use json_write::bytes_at;
-use json_write::named_at;
-use json_write::quoted_at;
-use json_write::three_at;
+use crate::pieces::bytes_at;
+use crate::pieces::named_at;
+use crate::pieces::three_at;
+use crate::quoting::quoted_at;
 ghost use mathlib.Core.Path.{_≡_};
 ghost use mathlib.Core.List.{[], _∷_, _++_};
 ghost use Prim.Native.Nat.{_+_, _≤_};
 ghost use lib.ListN.{length};
 ghost use Rattle.spec_map.specs.segment.Segment.{segmentsOf};
 ghost use Rattle.spec_json.specs.map_json_write.Text.{line2, line4, segmentText, listText, mapText};
-ghost use Rattle.json_write.specs.Written.{Written};
-ghost use Rattle.map_json_write.specs.Parts.{segmentAt, frontText, backText, ratesText, pathText, tailText, restText};
+ghost use Rattle.map_json_write.specs.Written.{Written, segmentAt, frontText, backText, ratesText, pathText, tailText, restText};
 
 fn front_at(out: &mut [u8], at: usize, a: u64, b: u64, c: u64) -> usize
     requires { ⌜ at ≤ 700000 ⌝ }

@@ -78,7 +78,7 @@ fn take_piece(
 }
 
 // The end of the text, and a parking where one is due.
-pub fn end(
+fn end_at(
     session: Session,
     map: &[u64],
     plan: Plan,
@@ -107,6 +107,31 @@ pub fn end(
         session,
         calls: count,
     }
+}
+
+// The same; nothing where more was written than there is room for.
+pub fn end(
+    session: Session,
+    map: &[u64],
+    plan: Plan,
+    calls: u32,
+    all: &mut [u8],
+    notes: &mut [u8],
+    written: usize,
+    noted: usize,
+) -> Step
+    ensures { λ r. ⌜ r .written ≤ length (now (all .entry)) ⌝ }
+{
+    if all.len() < written {
+        return Step {
+            number: 16,
+            written: 0,
+            noted,
+            session,
+            calls,
+        };
+    }
+    end_at(session, map, plan, calls, all, notes, written, noted)
 }
 
 // Before the first call.

@@ -5,8 +5,8 @@ use Rattle.map_json_write.proofs.layout.back_at.Statement.{statement}
 use Rattle.map_json_write.proofs.layout.back_at.Tie as tie
 use Rattle.map_json_write.proofs.layout.back_at.Reads as reads
 use Rattle.map_json_write.proofs.layout.back_at.Lts as lts
-use Rattle.json_write.proofs.bytes_at.Reads as bytes-at-reads
-use Rattle.json_write.proofs.three_at.Reads as three-at-reads
+use Rattle.map_json_write.proofs.pieces.bytes_at.Reads as bytes-at-reads
+use Rattle.map_json_write.proofs.pieces.three_at.Reads as three-at-reads
 
 slice-aggregate-three-at : tie.Need-slice-aggregate-three-at
 slice-aggregate-three-at c = search needs

@@ -6,7 +6,7 @@ use Rattle.map_json_write.proofs.layout.led_at.Tie as tie
 use Rattle.map_json_write.proofs.layout.led_at.Reads as reads
 use Rattle.map_json_write.proofs.layout.led_at.Lts as lts
 use Rattle.map_json_write.proofs.layout.segment_at.Reads as segment-at-reads
-use Rattle.json_write.proofs.bytes_at.Reads as bytes-at-reads
+use Rattle.map_json_write.proofs.pieces.bytes_at.Reads as bytes-at-reads
 
 bytes-at-requires : tie.Need-bytes-at-requires
 bytes-at-requires c κs = search needs

@@ -6,7 +6,7 @@ use Rattle.map_json_write.proofs.layout.list_at.Tie as tie
 use Rattle.map_json_write.proofs.layout.list_at.Reads as reads
 use Rattle.map_json_write.proofs.layout.list_at.Lts as lts
 use Rattle.map_json_write.proofs.layout.items_at.Reads as items-at-reads
-use Rattle.json_write.proofs.bytes_at.Reads as bytes-at-reads
+use Rattle.map_json_write.proofs.pieces.bytes_at.Reads as bytes-at-reads
 
 slice-aggregate-bytes-at : tie.Need-slice-aggregate-bytes-at
 slice-aggregate-bytes-at c = search needs

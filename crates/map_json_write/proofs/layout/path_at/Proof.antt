@@ -5,9 +5,9 @@ use Rattle.map_json_write.proofs.layout.path_at.Statement.{statement}
 use Rattle.map_json_write.proofs.layout.path_at.Tie as tie
 use Rattle.map_json_write.proofs.layout.path_at.Reads as reads
 use Rattle.map_json_write.proofs.layout.path_at.Lts as lts
-use Rattle.json_write.proofs.bytes_at.Reads as bytes-at-reads
-use Rattle.json_write.proofs.named_at.Reads as named-at-reads
-use Rattle.json_write.proofs.quoted_at.Reads as quoted-at-reads
+use Rattle.map_json_write.proofs.pieces.bytes_at.Reads as bytes-at-reads
+use Rattle.map_json_write.proofs.pieces.named_at.Reads as named-at-reads
+use Rattle.map_json_write.proofs.quoting.quoted_at.Reads as quoted-at-reads
 
 slice-aggregate-bytes-at : tie.Need-slice-aggregate-bytes-at
 slice-aggregate-bytes-at c = search needs
