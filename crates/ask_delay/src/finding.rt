@@ -13,7 +13,7 @@ ghost use Rattle.spec_map.specs.segment.Segment.{segmentsOf, mapBad};
 ghost use Rattle.spec_ask.specs.ask_delay.Loss.{anyLate, triedOf, delayNumber};
 ghost use Rattle.spec_ask.specs.ask_delay.Tally.{configWith};
 ghost use Rattle.ask_delay.specs.Choice.{chosenOf};
-ghost use Rattle.spec_ask.specs.ask_delay.Answer.{delayAnswer};
+ghost use Rattle.spec_ask.specs.ask_delay.BestDelay.{delayAnswer};
 
 const MOST_TRIES: u32 = 12001;
 

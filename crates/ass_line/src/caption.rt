@@ -36,7 +36,7 @@ ghost use Rattle.spec_format.specs.ass_columns.Section.{bracketed};
 ghost use Rattle.spec_format.specs.ass_write.Tags.{tagged};
 ghost use Rattle.spec_format.specs.ass_write.Frame.{lineFrame, frameMost};
 ghost use Rattle.spec_format.specs.ass_line.Line.{lineCue, timesSay, captionSays, wordSays};
-ghost use Rattle.spec_format.specs.ass_line.Answer.{columnsAfter, lineAnswerIn, lineIn, columnsNext, stayedWith};
+ghost use Rattle.spec_format.specs.ass_line.AssThrough.{columnsAfter, lineAnswerIn, lineIn, columnsNext, stayedWith};
 
 // What a line tells, and the columns for the next one.
 pub struct LineTold {

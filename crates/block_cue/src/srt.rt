@@ -29,7 +29,7 @@ ghost use Rattle.spec_caption.specs.caption_fate.Emit.{warnIf, placesOf, render
 ghost use Rattle.spec_caption.specs.caption_fate.Told.{cueIn, Tells};
 ghost use Rattle.spec_format.specs.block_timing.Style.{stampsIn, styleOf};
 ghost use Rattle.spec_format.specs.block_cue.Block.{writtenArrow, blockFrame, blockCue, timingLineSays};
-ghost use Rattle.spec_format.specs.block_cue.Answer.{timesRead, blockAnswerIn, blockIn, numberIn};
+ghost use Rattle.spec_format.specs.block_cue.BlockThrough.{timesRead, blockAnswerIn, blockIn, numberIn};
 
 fn put_arrow(out: &mut [u8], at: usize) -> usize
     ensures { λ r. ⌜ (r ≡ placeAfter at writtenArrow (now (out .entry))) × (now (out .exit) ≡ placedAt at writtenArrow (now (out .entry))) ⌝ }

@@ -2,8 +2,8 @@
 ghost use mathlib.Core.Path.{_≡_};
 ghost use lib.ListN.{length};
 ghost use Rattle.spec_base.specs.base.Put.{put};
-ghost use Rattle.spec_session.specs.session.Answer.{feedCall, finishCall};
-ghost use Rattle.spec_parking.specs.session_bytes.Answer.{openNumber, openBytes, callNumber, bytesAfter, textOut, placesIn, toldIn};
+ghost use Rattle.spec_session.specs.session.SessionCalls.{feedCall, finishCall};
+ghost use Rattle.spec_parking.specs.session_bytes.ByteCalls.{openNumber, openBytes, callNumber, bytesAfter, textOut, placesIn, toldIn};
 ghost use Rattle.spec_runs.specs.one_call.Text.{Retimed};
 ghost use Rattle.spec_runs.specs.caption_rows.Cues.{CuesRead};
 

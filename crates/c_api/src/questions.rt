@@ -8,7 +8,7 @@ ghost use Rattle.spec_base.specs.base.Refusal.{leftIn};
 ghost use Rattle.spec_ask.specs.ask_reason.Reason.{whyOf, causesLeft, fateCode};
 ghost use Rattle.spec_ask.specs.ask_rough.Rough.{roughOf, numberOf, toldOf};
 ghost use Rattle.spec_ask.specs.ask_census.Census.{censusOf};
-ghost use Rattle.spec_ask.specs.ask_delay.Answer.{delayAnswer};
+ghost use Rattle.spec_ask.specs.ask_delay.BestDelay.{delayAnswer};
 
 // 0, 15 or 16. With 0 the four places tell the fate (0 dropped, 1 shifted, 2 clipped), the place of the segment that is met, from 0, and the ticks cut off at each
 // end; of a dropped caption the causes stand at the start of `causes`. Else all stay as they were.

@@ -31,7 +31,7 @@ use Rattle.spec_json.specs.declared.map_json_read.Taken.{Taken}
 use Rattle.map_json_read.specs.Slots.{headsIn}
 use Rattle.map_json_segments.specs.Listed.{ListRead, listSaidIn}
 use Rattle.map_json_read.specs.Steps.{objectOf, HeadsOf, flatIn, Gathered, PartsOf, saidNumber, listBad, askNumber, Asked, Gives}
-use Rattle.spec_json.specs.map_json_read.Answer.{noneTaken, readNumber, Reads}
+use Rattle.spec_json.specs.map_json_read.MapRead.{noneTaken, readNumber, Reads}
 use Rattle.map_json_segments.proofs.ListLaws.{list-back}
 use Rattle.map_json_segments.proofs.NumberLaws.{left, right, said-value}
 use Rattle.map_json_read.proofs.PartLaws.{object-says}

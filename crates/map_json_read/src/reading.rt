@@ -15,7 +15,7 @@ ghost use Rattle.spec_base.specs.base.Put.{placed, placedLength};
 ghost use Rattle.spec_json.specs.json.Space.{spaces};
 ghost use Rattle.spec_json.specs.json.Member.{membersOf};
 ghost use Rattle.spec_json.specs.map_json_write.Names.{mostPath};
-ghost use Rattle.spec_json.specs.map_json_read.Answer.{noneTaken, Reads};
+ghost use Rattle.spec_json.specs.map_json_read.MapRead.{noneTaken, Reads};
 ghost use Rattle.map_json_read.specs.Steps.{objectOf, Gathered, PartsOf, listBad, Asked, Gives};
 
 fn refused(number: u32) -> Taken

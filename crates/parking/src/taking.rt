@@ -19,7 +19,7 @@ ghost use Rattle.spec_session.specs.session_counts.Session.{noSession};
 ghost use Rattle.spec_session.specs.kinds.Kit.{kit};
 ghost use Rattle.spec_session.specs.session_state.View.{stored};
 ghost use Rattle.spec_parking.specs.parked_blocks.Sealed.{isRow, roomOf};
-ghost use Rattle.spec_parking.specs.parking.Answer.{TakesUp};
+ghost use Rattle.spec_parking.specs.parking.Parkings.{TakesUp};
 ghost use Rattle.spec_parking.specs.parking.Head.{inNumber, copiedIn, TakesIn};
 
 // What a refused open returns.

@@ -13,7 +13,7 @@ ghost use Prim.Native.Nat.{_≤_};
 ghost use lib.ListN.{length, replicate, drop};
 ghost use Rattle.spec_base.specs.base.Put.{put};
 ghost use Rattle.spec_session.specs.kinds.Takes.{noColumns};
-ghost use Rattle.spec_session.specs.session.Answer.{Answered, OpenAnswered, feedCall, finishCall, openOf, lengthsBad, refusalOf, beginAt, endedSession, unchangedFed, endedFed, heldFed};
+ghost use Rattle.spec_session.specs.session.SessionCalls.{Answered, OpenAnswered, feedCall, finishCall, openOf, lengthsBad, refusalOf, beginAt, endedSession, unchangedFed, endedFed, heldFed};
 
 // 16, by the lengths.
 pub fn lengths_bad(taken: u32, piece: usize, out: usize, places: usize) -> bool

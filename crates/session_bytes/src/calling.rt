@@ -6,9 +6,9 @@ use spec_parking::session_bytes::Told;
 ghost use mathlib.Core.Path.{_≡_};
 ghost use Prim.Native.Nat.{_≤_};
 ghost use lib.ListN.{length};
-ghost use Rattle.spec_session.specs.session.Answer.{feedCall, finishCall};
+ghost use Rattle.spec_session.specs.session.SessionCalls.{feedCall, finishCall};
 ghost use Rattle.spec_parking.specs.parking.Head.{headIn};
-ghost use Rattle.spec_parking.specs.session_bytes.Answer.{refuses, toldIn, keptNext, Called};
+ghost use Rattle.spec_parking.specs.session_bytes.ByteCalls.{refuses, toldIn, keptNext, Called};
 ghost use Rattle.spec_parking.specs.session_bytes.Text.{feedNumber, feedText, TakesText, keptText};
 
 // Whether the number refuses a call: 15 to 18, or 27.

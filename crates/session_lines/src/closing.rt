@@ -13,7 +13,7 @@ ghost use Rattle.spec_map.specs.segment.Segment.{segmentsOf};
 ghost use Rattle.spec_caption.specs.caption_fate.Grouped.{segmentsBy};
 ghost use Rattle.spec_format.specs.block_timing.Style.{styleOf};
 ghost use Rattle.spec_session.specs.kinds.Takes.{blankState, closes};
-ghost use Rattle.spec_session.specs.session_lines.Answer.{answerIn, endIn, EndTells};
+ghost use Rattle.spec_session.specs.session_lines.LinesThrough.{answerIn, endIn, EndTells};
 ghost use Rattle.spec_session.specs.session_lines.Done.{Ample};
 
 // The end of a block, with the room for it.

@@ -21,7 +21,7 @@ ghost use Rattle.spec_caption.specs.caption_fate.Grouped.{segmentsBy};
 ghost use Rattle.spec_format.specs.block_timing.Style.{styleOf};
 ghost use Rattle.spec_session.specs.session_counts.Machine.{bom, hasBom, takeLine};
 ghost use Rattle.spec_session.specs.kinds.Takes.{lineTakes, blockTakes, headTakes, takes, machineOf};
-ghost use Rattle.spec_session.specs.session_lines.Answer.{takenIn, stateOf, bomSize, takeIn, LineTells};
+ghost use Rattle.spec_session.specs.session_lines.LinesThrough.{takenIn, stateOf, bomSize, takeIn, LineTells};
 ghost use Rattle.spec_session.specs.session_lines.Done.{Ample};
 
 // An ASS line without BOM; n lines came before it.

@@ -16,7 +16,7 @@ ghost use Rattle.spec_map.specs.segment.Groups.{groupsOf};
 ghost use Rattle.spec_text.specs.utf8.Utf8.{utf8};
 ghost use Rattle.spec_text.specs.text.Line.{concat};
 ghost use Rattle.spec_session.specs.session_counts.Cut.{closedLines};
-ghost use Rattle.spec_session.specs.session_lines.Answer.{takeIn, LineTells};
+ghost use Rattle.spec_session.specs.session_lines.LinesThrough.{takeIn, LineTells};
 ghost use Rattle.spec_session.specs.session_text.Lined.{LineEnd, Joins, lineStart, Starts, linedOf, Onto, textRun, Ends};
 
 // Where the line that begins at i ends, behind its LF; 0 where no LF ends it within 4,096 bytes.

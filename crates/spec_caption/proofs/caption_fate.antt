@@ -12,6 +12,6 @@ pub mod WarnLaws
 pub mod LostRows
 pub mod TellLaws
 pub mod CountRows
-pub mod MarkRows
+pub mod BomRows
 pub mod EmitRows
 pub mod DecideRows

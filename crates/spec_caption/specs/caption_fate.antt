@@ -5,7 +5,7 @@ pub mod Lost
 pub mod Decide
 pub mod Fates
 pub mod Says
-pub mod Mark
+pub mod Bom
 pub mod Emit
 pub mod Warns
 pub mod Cases

@@ -17,7 +17,7 @@ use Rattle.spec_session.specs.declared.session_state.Head.{Head}
 use Rattle.spec_session.specs.session_state.View.{heldOf, foreignOf}
 use Rattle.spec_parking.specs.parking.Parked.{flag, headWords, keptBytes, parkedOf}
 use Rattle.spec_parking.specs.parking.Head.{headNumbers, bareOf, headBytes}
-use Rattle.spec_parking.specs.parking.Answer.{parkNumber, Parks, Stores}
+use Rattle.spec_parking.specs.parking.Parkings.{parkNumber, Parks, Stores}
 use Rattle.spec_parking.specs.parked_blocks.Sealed.{sealedLength, bodyLength, roomLength, wordBytes, wordsBytes, sealed, sealedAll, filled, rowOf, rowIn}
 use Rattle.spec_parking.proofs.parked_blocks.Bytes.{words-append}
 

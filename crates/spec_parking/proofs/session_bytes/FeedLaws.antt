@@ -31,7 +31,7 @@ use Rattle.spec_session.specs.session_state.View.{heldOf, view, stored, foreign
 use Rattle.spec_session.proofs.session_state.ViewLaws.{held-plain, native-view}
 use Rattle.spec_session.proofs.session_state.ForeignLaws.{foreign-large}
 use Rattle.spec_session.specs.declared.session.Fed.{Fed}
-use Rattle.spec_session.specs.session.Answer.{feedCall, answerOf, sessionGate, gateNumber, lengthsBad, nextBy, nextOf, Answered}
+use Rattle.spec_session.specs.session.SessionCalls.{feedCall, answerOf, sessionGate, gateNumber, lengthsBad, nextBy, nextOf, Answered}
 use Rattle.spec_session.proofs.session.CallLaws.{gate-passed, answer-by, settled-small}
 use Rattle.spec_session.specs.declared.session_text.TextFed.{TextFed}
 use Rattle.spec_session.specs.session_text.Answer.{textSession, textBad, textGate, textAnswer, headBy, keptBy, textHead, textKept, TextTells, TextAnswered}
@@ -41,12 +41,12 @@ use Rattle.spec_parking.proofs.parked_blocks.ReadLaws.{row-length, room
 use Rattle.spec_parking.specs.declared.parking.TakenUp.{TakenUp}
 use Rattle.spec_parking.specs.declared.parking.TakenIn.{TakenIn}
 use Rattle.spec_parking.specs.parking.Parked.{parkedOf, isParked, sessionIn}
-use Rattle.spec_parking.specs.parking.Answer.{takeNumber, keepNumber, whenDone, TakesUp}
+use Rattle.spec_parking.specs.parking.Parkings.{takeNumber, keepNumber, whenDone, TakesUp}
 use Rattle.spec_parking.specs.parking.Head.{headIn, inNumber, copiedIn, TakesIn, restored}
 use Rattle.spec_parking.proofs.parking.HeadLaws.{parked-row, held-stands, restored-stored}
 use Rattle.spec_parking.specs.declared.session_bytes.Told.{Told}
 use Rattle.spec_parking.specs.declared.session_bytes.TextIn.{TextIn}
-use Rattle.spec_parking.specs.session_bytes.Answer.{refuses, callNumber, keptNext, Called}
+use Rattle.spec_parking.specs.session_bytes.ByteCalls.{refuses, callNumber, keptNext, Called}
 use Rattle.spec_parking.specs.session_bytes.Text.{feedNumber, feedText, TakesText, keptText}
 use Rattle.spec_parking.proofs.session_bytes.NumberLaws.{take-refuses}
 use Rattle.spec_parking.proofs.session_bytes.CallLaws.{refused-is, call-made}

@@ -9,7 +9,7 @@ use Rattle.spec_session.specs.session_counts.Session.{isOutcome}
 use Rattle.spec_parking.specs.parked_blocks.Sealed.{bodies, allHold, allZero, isRow}
 use Rattle.spec_parking.specs.parking.Parked.{unusedZero, isParked}
 use Rattle.spec_parking.specs.parking.Head.{headIn}
-use Rattle.spec_parking.specs.session_bytes.Answer.{refuses}
+use Rattle.spec_parking.specs.session_bytes.ByteCalls.{refuses}
 use Rattle.spec_parking.specs.session_bytes.Text.{feedNumber, feedText, keptText}
 
 unsound : feedNumber [] ≡ 27

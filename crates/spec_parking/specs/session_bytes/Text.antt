@@ -12,7 +12,7 @@ use Rattle.spec_session.specs.declared.session_state.Head.{Head}
 use Rattle.spec_parking.specs.parked_blocks.Sealed.{roomOf}
 use Rattle.spec_parking.specs.parking.Parked.{isParked}
 use Rattle.spec_parking.specs.parking.Head.{headIn, restored}
-use Rattle.spec_parking.specs.session_bytes.Answer.{refuses}
+use Rattle.spec_parking.specs.session_bytes.ByteCalls.{refuses}
 use Rattle.spec_parking.specs.declared.session_bytes.TextIn.{TextIn}
 
 -- 27, then 17 where more bytes are held than a session has room for

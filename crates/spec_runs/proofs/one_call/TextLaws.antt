@@ -24,7 +24,7 @@ use Rattle.spec_session.specs.declared.session_state.Session.{Session}
 use Rattle.spec_session.specs.session_state.View.{view}
 use Rattle.spec_session.specs.session_lines.Done.{Wrote}
 use Rattle.spec_session.specs.declared.session.Fed.{Fed}
-use Rattle.spec_session.specs.session.Answer.{finishCall, answerOf, Answered}
+use Rattle.spec_session.specs.session.SessionCalls.{finishCall, answerOf, Answered}
 use Rattle.spec_session.proofs.session.StandLaws.{lent, back}
 use Rattle.promise.specs.Plain.{plainRead}
 use Rattle.promise.specs.Promise.{configOf}

@@ -36,7 +36,7 @@ use Rattle.spec_session.specs.session_state.View.{heldOf, view}
 use Rattle.spec_session.specs.session_state.Head.{viewOf, headOf}
 use Rattle.spec_session.proofs.session_state.ViewLaws.{held-plain}
 use Rattle.spec_session.specs.session_lines.Done.{Wrote}
-use Rattle.spec_session.specs.session.Answer.{feedCall}
+use Rattle.spec_session.specs.session.SessionCalls.{feedCall}
 use Rattle.spec_session.proofs.session.CallLaws.{settled-small}
 use Rattle.spec_session.specs.declared.session_text.TextFed.{TextFed}
 use Rattle.spec_session.specs.session_text.Answer.{textSession, textBad, textGate, textAnswer, textHead, textKept, headBy, keptBy, TextTells, TextAnswered}

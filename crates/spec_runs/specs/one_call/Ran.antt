@@ -13,7 +13,7 @@ use Rattle.spec_session.specs.session_counts.Counts.{countsOf}
 use Rattle.spec_session.specs.declared.session_state.Session.{Session}
 use Rattle.spec_session.specs.declared.session_state.Head.{Head}
 use Rattle.spec_session.specs.session_state.View.{stored}
-use Rattle.spec_session.specs.session.Answer.{openOf}
+use Rattle.spec_session.specs.session.SessionCalls.{openOf}
 use Rattle.promise.specs.Plain.{plainRead}
 use Rattle.spec_runs.specs.declared.one_call.Ran.{Ran}
 use Rattle.spec_runs.specs.one_call.Text.{outputFor, placesFor, emitsFor}

@@ -18,7 +18,7 @@ use Rattle.spec_session.specs.declared.session_counts.Counts.{Counts}
 use Rattle.spec_session.specs.kinds.Takes.{blankState, closes}
 use Rattle.spec_session.specs.declared.session_lines.Taken.{Taken}
 use Rattle.spec_session.specs.declared.session_lines.Ended.{Ended}
-use Rattle.spec_session.specs.session_lines.Answer.{answerIn, lentBad, endIn, takeIn, EndTells, LineTells}
+use Rattle.spec_session.specs.session_lines.LinesThrough.{answerIn, lentBad, endIn, takeIn, EndTells, LineTells}
 use Rattle.spec_session.proofs.session_lines.LentLaws.{end-lent}
 
 no-bounds : (m g : List ℕ) → g ≡ take 0 m → segmentsBy g m ≡ segmentsOf m

@@ -18,7 +18,7 @@ use Rattle.spec_session.specs.kinds.Kit.{kit}
 use Rattle.spec_session.proofs.kinds.Native.{is-native}
 use Rattle.spec_session.specs.declared.session_state.Head.{Head}
 use Rattle.spec_session.specs.session_state.Head.{viewOf}
-use Rattle.spec_session.specs.session.Answer.{feedCall, gateNumber, lengthsBad}
+use Rattle.spec_session.specs.session.SessionCalls.{feedCall, gateNumber, lengthsBad}
 use Rattle.spec_session.proofs.session.CallLaws.{gate-passed}
 use Rattle.spec_session.specs.declared.session_text.TextFed.{TextFed}
 use Rattle.spec_session.specs.session_text.Answer.{textHeld, textNew, textSession, textBad, textGate, textAnswer, textHead, textKept, headBy, keptBy, TextTells, TextAnswered}

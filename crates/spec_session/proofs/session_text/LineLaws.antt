@@ -41,7 +41,7 @@ use Rattle.spec_session.proofs.kinds.Native.{Native}
 use Rattle.spec_session.proofs.kinds.Fits.{places-two}
 use Rattle.spec_session.specs.declared.session_state.Head.{Head}
 use Rattle.spec_session.specs.declared.session_lines.Taken.{Taken}
-use Rattle.spec_session.specs.session_lines.Answer.{strangeIn, emittedIn, lineRefusal, isOpen, takenIn, stateOf, bomSize, takeIn, LineTells}
+use Rattle.spec_session.specs.session_lines.LinesThrough.{strangeIn, emittedIn, lineRefusal, isOpen, takenIn, stateOf, bomSize, takeIn, LineTells}
 use Rattle.spec_session.specs.session_lines.Done.{Ample, Below, Wrote, Done, Parsed}
 use Rattle.spec_session.proofs.session_lines.LentLaws.{lent-fine, none-above}
 use Rattle.spec_session.proofs.session_lines.DoneLaws.{take-done, take-skip}

@@ -24,7 +24,7 @@ use Rattle.spec_session.specs.kinds.Takes.{State, noColumns, machineOf}
 use Rattle.spec_session.specs.kinds.Kit.{kit}
 use Rattle.spec_session.specs.declared.session_state.Head.{Head}
 use Rattle.spec_session.specs.session_state.Head.{viewOf}
-use Rattle.spec_session.specs.session.Answer.{feedCall, gateNumber}
+use Rattle.spec_session.specs.session.SessionCalls.{feedCall, gateNumber}
 use Rattle.spec_session.proofs.session.RunLaws.{places-none}
 use Rattle.spec_session.proofs.session.CallLaws.{gate-passed}
 use Rattle.spec_session.specs.declared.session_text.TextFed.{TextFed}

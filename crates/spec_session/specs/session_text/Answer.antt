@@ -15,7 +15,7 @@ use Rattle.spec_session.specs.session_counts.Session as model
 use Rattle.spec_session.specs.kinds.Kit.{kit}
 use Rattle.spec_session.specs.declared.session_state.Head.{Head}
 use Rattle.spec_session.specs.session_state.Head.{viewOf, headOf}
-use Rattle.spec_session.specs.session.Answer.{feedCall}
+use Rattle.spec_session.specs.session.SessionCalls.{feedCall}
 use Rattle.spec_session.specs.declared.session_text.TextFed.{TextFed}
 
 -- ---- the text: the held bytes, then the new ones

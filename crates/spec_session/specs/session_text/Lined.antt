@@ -22,7 +22,7 @@ use Rattle.spec_session.specs.kinds.Kit.{kit}
 use Rattle.spec_session.specs.declared.session_state.Head.{Head}
 use Rattle.spec_session.specs.session_state.Head.{viewOf}
 use Rattle.spec_session.specs.session_lines.Done.{Wrote}
-use Rattle.spec_session.specs.session.Answer.{gateNumber}
+use Rattle.spec_session.specs.session.SessionCalls.{gateNumber}
 use Rattle.spec_session.specs.session.Stand.{faultOf, partsIn}
 use Rattle.spec_session.specs.declared.session_text.TextFed.{TextFed}
 use Rattle.spec_session.specs.declared.session_text.Lined.{Lined}

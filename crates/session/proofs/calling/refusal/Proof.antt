@@ -1,4 +1,4 @@
-use Rattle.spec_session.specs.session.Answer.{refusalOf, lengthsBad}
+use Rattle.spec_session.specs.session.SessionCalls.{refusalOf, lengthsBad}
 use Rattle.spec_session.specs.session_state.View.{foreignOf}
 use Rattle.spec_map.specs.segment.Segment.{mapBad}
 use lib.ListN.{length}

@@ -1,6 +1,6 @@
 use native.Mathlib.Omega.{arith}
 use Rattle.spec_caption.specs.caption_fate.Grouped.{segmentsBy}
-use Rattle.spec_session.specs.session_lines.Answer.{stateOf}
+use Rattle.spec_session.specs.session_lines.LinesThrough.{stateOf}
 use lib.ListN.{take, length-take, length-drop}
 use Rattle.spec_session.proofs.session_lines.BomLaws.{behind-room, take-fault, take-plain, take-behind}
 use borrow.Author.Needs.{needs}

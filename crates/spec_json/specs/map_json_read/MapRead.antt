@@ -12,7 +12,7 @@ use Rattle.spec_caption.specs.caption_time.Convert.{timescaleBad}
 use Rattle.spec_map.specs.segment.Segment.{flatOf, mapBad}
 use Rattle.spec_json.specs.map_json_write.Names.{mostPath}
 use Rattle.spec_json.specs.map_json_write.Reads.{isMapText, mapSaid}
-use Rattle.spec_json.specs.map_json_write.Answer.{whenDone}
+use Rattle.spec_json.specs.map_json_write.MapWritten.{whenDone}
 use Rattle.spec_json.specs.declared.map_json_read.Taken.{Taken}
 
 -- ---- the reader: 23, then 15, then 16 for fewer than 1,024 records (six numbers each) or path bytes

@@ -9,12 +9,12 @@ use Rattle.spec_caption.specs.caption_fate.Says.{Part, stays}
 abbrev pub bom : List ℕ
 bom = 239 ∷ 187 ∷ 191 ∷ []
 
-abbrev pub marked : List ℕ → Bool
-marked text = starts bom text
+abbrev pub startsBom : List ℕ → Bool
+startsBom text = starts bom text
 
-abbrev pub behindMark : List ℕ → List ℕ
-behindMark text = cond (marked text) (drop 3 text) text
+abbrev pub behindBom : List ℕ → List ℕ
+behindBom text = cond (startsBom text) (drop 3 text) text
 
-abbrev pub markWritten : Bool → List Part
-markWritten true = stays bom ∷ []
-markWritten false = []
+abbrev pub bomWritten : Bool → List Part
+bomWritten true = stays bom ∷ []
+bomWritten false = []

@@ -1,5 +1,5 @@
 -- A session that a caller keeps as its 18 blocks (spec_parking/specs/parking/Parked): what open, feed and finish answer, and what stands in the lent bytes, output and places
--- afterwards. A call takes the session up, makes the call of spec_session/specs/session/Answer, and parks what that returned, with mark 2. An empty piece changes nothing: the bytes
+-- afterwards. A call takes the session up, makes the call of spec_session/specs/session/SessionCalls, and parks what that returned, with mark 2. An empty piece changes nothing: the bytes
 -- stay, under either mark.
 use mathlib.Core.Path.{_≡_}
 use mathlib.Core.Bool.{Bool, false, _&&_, _||_, cond}
@@ -13,10 +13,10 @@ use Rattle.spec_caption.specs.caption_fate.Emit.{outputOf, warningsOf, placesOf
 use Rattle.spec_session.specs.session_counts.Session.{Call, feed, finish}
 use Rattle.spec_session.specs.declared.session_state.Session.{Session}
 use Rattle.spec_session.specs.session_state.View.{stored}
-use Rattle.spec_session.specs.session.Answer.{feedCall, openOf, answerOf, nextOf}
+use Rattle.spec_session.specs.session.SessionCalls.{feedCall, openOf, answerOf, nextOf}
 use Rattle.spec_parking.specs.parked_blocks.Sealed.{sealedLength}
 use Rattle.spec_parking.specs.parking.Parked.{parkedOf, sessionIn}
-use Rattle.spec_parking.specs.parking.Answer.{takeNumber, keepNumber, whenDone}
+use Rattle.spec_parking.specs.parking.Parkings.{takeNumber, keepNumber, whenDone}
 use Rattle.spec_parking.specs.declared.session_bytes.Told.{Told}
 
 -- ---- open: its own numbers, then 16 where fewer than 9,216 bytes are lent
