@@ -50,8 +50,12 @@ def table():
         if not held and key not in more:
             bare.append('/'.join(key))
         some = sorted(held, key=lambda f: (-len(held[f]), f))
-        shown = ', '.join(some[:3]) + (f' and {len(some) - 3} more' if len(some) > 3 else '')
-        lines.append(f'| {c}/{key[1]} | {shown} | {more.get(key, "")} |')
+        for most in (3, 2, 1):
+            shown = ', '.join(some[:most]) + (f' and {len(some) - most} more' if len(some) > most else '')
+            line = f'| {c}/{key[1]} | {shown} | {more.get(key, "")} |'
+            if len(line) <= 160:
+                break
+        lines.append(line)
     return lines, bare
 
 

@@ -2,7 +2,7 @@
 """reading.py [--lines] [--write]: which definitions must be believed for which claim, as the table of docs/TREE.md.
 --write puts it there, --lines says how many lines that are.
 A definition is behind `Promise` where its name is reached from there, through definitions.
-What open, feed and finish answer is not gone through (spec_session/specs/session/Answer): the promise takes it as met.
+What open, feed and finish answer is not gone through (spec_session/specs/session/SessionCalls): the promise takes it as met.
 Else it is behind contracts, where one of an exported function or the promise's other forms reach it; else behind contracts of private functions;
 else it belongs to examples and other theorems.
 Names are resolved by the `use` lines. A file stands where its first such definition does."""
@@ -15,7 +15,7 @@ import lib
 
 
 TITLES = ('The promise', 'Contracts of exported functions', 'Contracts of private functions', 'Examples, other theorems')
-MET = {('spec_session', 'session.Answer', 'Answered'), ('spec_session', 'session.Answer', 'OpenAnswered')}
+MET = {('spec_session', 'session.SessionCalls', 'Answered'), ('spec_session', 'session.SessionCalls', 'OpenAnswered')}
 
 
 def tokens(text):

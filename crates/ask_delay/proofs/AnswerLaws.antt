@@ -25,7 +25,7 @@ use Rattle.spec_ask.specs.ask_delay.Delay.{delayOf}
 use Rattle.spec_ask.specs.ask_delay.Loss.{mostCaptions, lossOf, floorOf, bestTry, anyLate, triedOf, delayNumber}
 use Rattle.spec_ask.specs.ask_delay.Tally.{configWith}
 use Rattle.ask_delay.specs.Choice.{chosenOf}
-use Rattle.spec_ask.specs.ask_delay.Answer.{refusedDelay, foundDelay, delayAnswer}
+use Rattle.spec_ask.specs.ask_delay.BestDelay.{refusedDelay, foundDelay, delayAnswer}
 use Rattle.spec_ask.proofs.ask_delay.NearLaws.{bits-back}
 use Rattle.spec_ask.proofs.ask_delay.Best.{best-least}
 use Rattle.spec_ask.proofs.ask_delay.Floor.{floor}

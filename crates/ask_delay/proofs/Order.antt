@@ -14,7 +14,7 @@ use Rattle.spec_ask.specs.declared.ask_delay.Delay.{Delay}
 use Rattle.spec_ask.specs.ask_delay.Delay.{delayOf}
 use Rattle.spec_ask.specs.ask_delay.Loss.{lossOf}
 use Rattle.spec_ask.specs.ask_delay.Tally.{configWith}
-use Rattle.spec_ask.specs.ask_delay.Answer.{delayAnswer, Right}
+use Rattle.spec_ask.specs.ask_delay.BestDelay.{delayAnswer, Right}
 use Rattle.spec_ask.specs.ask_delay.Order.{placeOf, EachOnce, LeastDelay, LeastAnswered}
 use Rattle.ask_delay.proofs.TheDelay.{answer-right}
 

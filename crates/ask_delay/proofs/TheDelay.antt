@@ -22,7 +22,7 @@ use Rattle.spec_ask.specs.declared.ask_delay.Delay.{Delay}
 use Rattle.spec_ask.specs.ask_delay.Delay.{delayOf, Near}
 use Rattle.spec_ask.specs.ask_delay.Loss.{lossOf, floorOf, bestTry, Least, triedOf, delayNumber}
 use Rattle.spec_ask.specs.ask_delay.Tally.{configWith}
-use Rattle.spec_ask.specs.ask_delay.Answer.{refusedDelay, foundDelay, delayAnswer, Right}
+use Rattle.spec_ask.specs.ask_delay.BestDelay.{refusedDelay, foundDelay, delayAnswer, Right}
 use Rattle.spec_ask.proofs.ask_delay.NearLaws.{near-try, sfits}
 use Rattle.spec_ask.proofs.ask_delay.Best.{best-least}
 use Rattle.spec_ask.proofs.ask_delay.Floor.{floor}

@@ -20,14 +20,14 @@ pub fn more(n: u32, lost: bool) -> u32
     n
 }
 
-// The marks of one caption looked up: one more for every try that loses it.
-fn count_one(marks: &[u8], start: u64, stop: u64, tries: u32, losses: &mut [u32])
-    requires { ⌜ (length (now marks) ≡ 12001) × (start ≤ 68719476736) × (stop ≤ 68719476736) × (tries ≤ 12001) × (length (now losses) ≡ 12001) × AtMost tries 4096 (now losses) ⌝ }
-    ensures { λ r. ⌜ Counted (now (marks .entry)) start stop tries (now (losses .entry)) (now (losses .exit)) ⌝ }
+// The grades of one caption looked up: one more for every try that loses it.
+fn count_one(grades: &[u8], start: u64, stop: u64, tries: u32, losses: &mut [u32])
+    requires { ⌜ (length (now grades) ≡ 12001) × (start ≤ 68719476736) × (stop ≤ 68719476736) × (tries ≤ 12001) × (length (now losses) ≡ 12001) × AtMost tries 4096 (now losses) ⌝ }
+    ensures { λ r. ⌜ Counted (now (grades .entry)) start stop tries (now (losses .entry)) (now (losses .exit)) ⌝ }
 {
     let mut k = 0;
     while k < tries {
-        let lost = crate::looking::lost_at(marks, start, stop, k);
+        let lost = crate::looking::lost_at(grades, start, stop, k);
         let at = k as usize;
         losses[at] = more(losses[at], lost);
         k += 1;
@@ -41,18 +41,18 @@ pub fn count_all(
     kind: u32,
     captions: &[u64],
     tries: u32,
-    marks: &mut [u8],
+    grades: &mut [u8],
     losses: &mut [u32],
 )
-    requires { ⌜ (timescaleBad timescale ≡ false) × (kindBad kind ≡ false) × (mapBad (now map) ≡ false) × (anyLate (now captions) ≡ false) × (length (now captions) ≤ 8192) × (tries ≤ 12001) × (length (now marks) ≡ 12001) × (length (now losses) ≡ 12001) × Zeros tries (now losses) ⌝ }
+    requires { ⌜ (timescaleBad timescale ≡ false) × (kindBad kind ≡ false) × (mapBad (now map) ≡ false) × (anyLate (now captions) ≡ false) × (length (now captions) ≤ 8192) × (tries ≤ 12001) × (length (now grades) ≡ 12001) × (length (now losses) ≡ 12001) × Zeros tries (now losses) ⌝ }
     ensures { λ r. ⌜ Losses (configWith kind timescale) (segmentsOf (now (map .entry))) (now (captions .entry)) tries (now (losses .exit)) ⌝ }
 {
     let mut t = captions;
     while 2 <= t.len() {
         let start = base::word(t, 0);
         let stop = base::word(t, 1);
-        crate::painting::paint(map, timescale, kind, start, stop, marks);
-        count_one(marks, start, stop, tries, losses);
+        crate::painting::paint(map, timescale, kind, start, stop, grades);
+        count_one(grades, start, stop, tries, losses);
         let u = base::words_rest(t, 2);
         t = u;
     }

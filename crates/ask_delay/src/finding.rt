@@ -1,5 +1,7 @@
 // The answer: refusals in their order, then the delay that loses least.
 use crate::choosing::Chosen;
+use crate::counting::count_all;
+use crate::moving::delay_at;
 use spec_ask::ask_delay::Delay;
 ghost use mathlib.Core.Path.{_≡_};
 ghost use mathlib.Core.Bool.{false};
@@ -11,7 +13,7 @@ ghost use Rattle.spec_map.specs.segment.Segment.{segmentsOf, mapBad};
 ghost use Rattle.spec_ask.specs.ask_delay.Loss.{anyLate, triedOf, delayNumber};
 ghost use Rattle.spec_ask.specs.ask_delay.Tally.{configWith};
 ghost use Rattle.ask_delay.specs.Choice.{chosenOf};
-ghost use Rattle.spec_ask.specs.ask_delay.Answer.{delayAnswer};
+ghost use Rattle.spec_ask.specs.ask_delay.BestDelay.{delayAnswer};
 
 const MOST_TRIES: u32 = 12001;
 
@@ -73,15 +75,15 @@ fn try_all(map: &[u64], timescale: u32, kind: u32, captions: &[u64], tries: u32)
     requires { ⌜ (timescaleBad timescale ≡ false) × (kindBad kind ≡ false) × (mapBad (now map) ≡ false) × (anyLate (now captions) ≡ false) × (length (now captions) ≤ 8192) × (1 ≤ tries) × (tries ≤ 12001) ⌝ }
     ensures { λ r. ⌜ r ≡ chosenOf (configWith kind timescale) (segmentsOf (now (map .entry))) (now (captions .entry)) tries ⌝ }
 {
-    let mut marks = [0u8; 12001];
+    let mut grades = [0u8; 12001];
     let mut losses = [0u32; 12001];
-    crate::counting::count_all(
+    count_all(
         map,
         timescale,
         kind,
         captions,
         tries,
-        &mut marks,
+        &mut grades,
         &mut losses,
     );
     crate::choosing::choose(&losses, tries)
@@ -107,7 +109,7 @@ pub fn best_delay(map: &[u64], timescale: u32, kind: u32, captions: &[u64], budg
     let loss = best.loss;
     Delay {
         number: 0,
-        delay: crate::moving::delay_at(best.place),
+        delay: delay_at(best.place),
         loss,
         tried: best.tried,
         off: loss - floor,

@@ -1,4 +1,4 @@
-// Whether a caption is lost under a try's delay, by its marks.
+// Whether a caption is lost under a try's delay, by its grades.
 use spec_ask::ask_delay::Moved;
 ghost use mathlib.Core.Path.{_≡_};
 ghost use Prim.Native.Nat.{_≤_};
@@ -14,9 +14,9 @@ fn under(t: u64, k: u32) -> Moved
     crate::moving::delayed(t, crate::moving::delay_at(k))
 }
 
-pub fn lost_at(marks: &[u8], start: u64, stop: u64, k: u32) -> bool
-    requires { ⌜ (length (now marks) ≡ 12001) × (start ≤ 68719476736) × (stop ≤ 68719476736) × (k ≤ 12000) ⌝ }
-    ensures { λ r. ⌜ r ≡ lostBy (now (marks .entry)) start stop (delayOf k) ⌝ }
+pub fn lost_at(grades: &[u8], start: u64, stop: u64, k: u32) -> bool
+    requires { ⌜ (length (now grades) ≡ 12001) × (start ≤ 68719476736) × (stop ≤ 68719476736) × (k ≤ 12000) ⌝ }
+    ensures { λ r. ⌜ r ≡ lostBy (now (grades .entry)) start stop (delayOf k) ⌝ }
 {
     match under(start, k) {
         Moved::Below => true,
@@ -24,7 +24,7 @@ pub fn lost_at(marks: &[u8], start: u64, stop: u64, k: u32) -> bool
             Moved::Below => true,
             Moved::At(e) => {
                 let at = (s + 6000 - start) as usize;
-                base::byte(marks, at) != 2
+                base::byte(grades, at) != 2
             }
         },
     }

@@ -1,4 +1,5 @@
 // Captions that no delay can save.
+use crate::counting::more;
 ghost use mathlib.Core.Path.{_≡_};
 ghost use mathlib.Core.Bool.{false};
 ghost use Prim.Native.Nat.{_≤_};
@@ -43,7 +44,7 @@ pub fn floor_of(map: &[u64], timescale: u32, kind: u32, captions: &[u64]) -> u32
     let mut n = 0;
     while 2 <= t.len() {
         let long = too_long(map, timescale, kind, base::word(t, 0), base::word(t, 1));
-        n = crate::counting::more(n, long);
+        n = more(n, long);
         let u = base::words_rest(t, 2);
         t = u;
     }

@@ -24,17 +24,19 @@ ghost use Prim.Native.Nat.{_+_, _*_, _≤_};
 ghost use lib.ListN.{length, drop};
 ghost use Rattle.spec_base.specs.base.Put.{put};
 ghost use Rattle.spec_text.specs.text.Line.{textOf, terminatorOf};
+ghost use Rattle.spec_text.specs.whitespace.White.{trimTail};
 ghost use Rattle.spec_caption.specs.caption_stamp.Read.{timeIn};
-ghost use Rattle.spec_map.specs.segment.Segment.{segmentsOf};
+ghost use Rattle.spec_caption.specs.caption_fate.Grouped.{segmentsBy};
 ghost use Rattle.spec_caption.specs.caption_fate.Decide.{decideIn};
 ghost use Rattle.spec_caption.specs.caption_fate.Fates.{passed};
 ghost use Rattle.spec_caption.specs.caption_fate.Emit.{none, decided, emit, warning, warnIf, placesOf, keptEmit};
 ghost use Rattle.spec_caption.specs.caption_fate.Told.{answered, cueIn, Tells};
 ghost use Rattle.spec_format.specs.ass_columns.Columns.{fields, fieldAt};
+ghost use Rattle.spec_format.specs.ass_columns.Section.{bracketed};
 ghost use Rattle.spec_format.specs.ass_write.Tags.{tagged};
 ghost use Rattle.spec_format.specs.ass_write.Frame.{lineFrame, frameMost};
 ghost use Rattle.spec_format.specs.ass_line.Line.{lineCue, timesSay, captionSays, wordSays};
-ghost use Rattle.spec_format.specs.ass_line.Answer.{columnsAfter, lineAnswerIn, lineIn, columnsNext, stayedWith};
+ghost use Rattle.spec_format.specs.ass_line.AssThrough.{columnsAfter, lineAnswerIn, lineIn, columnsNext, stayedWith};
 
 // What a line tells, and the columns for the next one.
 pub struct LineTold {
@@ -138,6 +140,7 @@ fn keep(
 fn settle(
     config: Config,
     map: &[u64],
+    groups: &[u64],
     columns: Columns,
     old: Times,
     line: u64,
@@ -148,10 +151,10 @@ fn settle(
     warnings: &mut [u64],
 ) -> Told
     requires { ⌜ (frameMost (lineFrame columns (now word) (fields (columns .columns) (now rest)) (now ending)) ≤ length (now out)) × (4 ≤ length (now warnings)) ⌝ }
-    ensures { λ t. ⌜ Tells (cueIn (config .kind) (lineCue columns line (now (word .entry)) (fields (columns .columns) (now (rest .entry))) (now (ending .entry)) (old .start) (old .«start_mark») (old .stop) (old .«stop_mark»)) (decideIn config (segmentsOf (now (map .entry))) (old .start) (old .stop))) t (now (out .entry)) (now (out .exit)) (now (warnings .entry)) (now (warnings .exit)) ⌝ }
+    ensures { λ t. ⌜ Tells (cueIn (config .kind) (lineCue columns line (now (word .entry)) (fields (columns .columns) (now (rest .entry))) (now (ending .entry)) (old .start) (old .«start_mark») (old .stop) (old .«stop_mark»)) (decideIn config (segmentsBy (now (groups .entry)) (now (map .entry))) (old .start) (old .stop))) t (now (out .entry)) (now (out .exit)) (now (warnings .entry)) (now (warnings .exit)) ⌝ }
 {
     let kind = config.kind;
-    match caption_fate::decide(map, config, old.start, old.stop) {
+    match caption_fate::decide(map, groups, config, old.start, old.stop) {
         Decision::Strange => refused(15),
         Decision::Dropped => Told {
             number: 0,
@@ -178,6 +181,7 @@ fn settle(
 fn timed(
     config: Config,
     map: &[u64],
+    groups: &[u64],
     columns: Columns,
     n: u64,
     text: &[u8],
@@ -187,7 +191,7 @@ fn timed(
     warnings: &mut [u64],
 ) -> Told
     requires { ⌜ (3 * length (now text) ≤ length (now out)) × ((4 ≤ length (now warnings)) × ((1 ≤ length (now word)) × (length (now word) + length (now rest) + length (terminatorOf (now text)) ≤ length (now text)))) ⌝ }
-    ensures { λ t. ⌜ Tells (lineAnswerIn config (segmentsOf (now (map .entry))) (timesSay columns n (now (word .entry)) (fields (columns .columns) (now (rest .entry))) (terminatorOf (now (text .entry))) (timeIn 0 (fieldAt (columns .start) (fields (columns .columns) (now (rest .entry))))) (timeIn 0 (fieldAt (columns .«end») (fields (columns .columns) (now (rest .entry))))))) t (now (out .entry)) (now (out .exit)) (now (warnings .entry)) (now (warnings .exit)) ⌝ }
+    ensures { λ t. ⌜ Tells (lineAnswerIn config (segmentsBy (now (groups .entry)) (now (map .entry))) (timesSay columns n (now (word .entry)) (fields (columns .columns) (now (rest .entry))) (terminatorOf (now (text .entry))) (timeIn 0 (fieldAt (columns .start) (fields (columns .columns) (now (rest .entry))))) (timeIn 0 (fieldAt (columns .«end») (fields (columns .columns) (now (rest .entry))))))) t (now (out .entry)) (now (out .exit)) (now (warnings .entry)) (now (warnings .exit)) ⌝ }
 {
     let count = columns.columns;
     let Time::At(start, start_mark) = caption_stamp::read_time(field(rest, count, columns.start), 0)
@@ -205,13 +209,26 @@ fn timed(
         stop_mark,
     };
     let end = text::terminator_of(text);
-    settle(config, map, columns, old, n, word, rest, end, out, warnings)
+    settle(
+        config,
+        map,
+        groups,
+        columns,
+        old,
+        n,
+        word,
+        rest,
+        end,
+        out,
+        warnings,
+    )
 }
 
 // A caption line that begins with `word`.
 fn caption(
     config: Config,
     map: &[u64],
+    groups: &[u64],
     columns: Columns,
     line: u64,
     text: &[u8],
@@ -220,7 +237,7 @@ fn caption(
     warnings: &mut [u64],
 ) -> Told
     requires { ⌜ (3 * length (now text) ≤ length (now out)) × ((4 ≤ length (now warnings)) × ((1 ≤ length (now word)) × (length (now word) ≤ length (textOf (now text))))) ⌝ }
-    ensures { λ t. ⌜ Tells (lineAnswerIn config (segmentsOf (now (map .entry))) (captionSays columns line (now (text .entry)) (now (word .entry)) (drop (length (now (word .entry))) (textOf (now (text .entry)))))) t (now (out .entry)) (now (out .exit)) (now (warnings .entry)) (now (warnings .exit)) ⌝ }
+    ensures { λ t. ⌜ Tells (lineAnswerIn config (segmentsBy (now (groups .entry)) (now (map .entry))) (captionSays columns line (now (text .entry)) (now (word .entry)) (drop (length (now (word .entry))) (textOf (now (text .entry)))))) t (now (out .entry)) (now (out .exit)) (now (warnings .entry)) (now (warnings .exit)) ⌝ }
 {
     if columns.start == 0 {
         return passing(1, line, text, out, warnings);
@@ -230,7 +247,18 @@ fn caption(
     }
     let rest = base::rest(text::text_of(text), word.len());
     if enough(rest, columns.columns) {
-        return timed(config, map, columns, line, text, word, rest, out, warnings);
+        return timed(
+            config,
+            map,
+            groups,
+            columns,
+            line,
+            text,
+            word,
+            rest,
+            out,
+            warnings,
+        );
     }
     passing(2, line, text, out, warnings)
 }
@@ -239,6 +267,7 @@ fn caption(
 fn event_line(
     config: Config,
     map: &[u64],
+    groups: &[u64],
     columns: Columns,
     n: u32,
     text: &[u8],
@@ -246,7 +275,7 @@ fn event_line(
     warnings: &mut [u64],
 ) -> LineTold
     requires { ⌜ (3 * length (now text) ≤ length (now out)) × (4 ≤ length (now warnings)) ⌝ }
-    ensures told { λ r. ⌜ Tells (lineAnswerIn config (segmentsOf (now (map .entry))) (wordSays columns n (now (text .entry)) (textOf (now (text .entry))))) (r .told) (now (out .entry)) (now (out .exit)) (now (warnings .entry)) (now (warnings .exit)) ⌝ }
+    ensures told { λ r. ⌜ Tells (lineAnswerIn config (segmentsBy (now (groups .entry)) (now (map .entry))) (wordSays columns n (now (text .entry)) (textOf (now (text .entry))))) (r .told) (now (out .entry)) (now (out .exit)) (now (warnings .entry)) (now (warnings .exit)) ⌝ }
     ensures columns { λ r. ⌜ r .columns ≡ columnsAfter columns (wordSays columns n (now (text .entry)) (textOf (now (text .entry)))) ⌝ }
 {
     let at = n as u64 + 1;
@@ -261,28 +290,59 @@ fn event_line(
         };
     }
     if pattern::starts_with(t, b"Dialogue:") {
-        let told = caption(config, map, columns, at, text, b"Dialogue:", out, warnings);
+        let told = caption(
+            config,
+            map,
+            groups,
+            columns,
+            at,
+            text,
+            b"Dialogue:",
+            out,
+            warnings,
+        );
         return LineTold { told, columns };
     }
     if pattern::starts_with(t, b"Comment:") {
-        let told = caption(config, map, columns, at, text, b"Comment:", out, warnings);
+        let told = caption(
+            config,
+            map,
+            groups,
+            columns,
+            at,
+            text,
+            b"Comment:",
+            out,
+            warnings,
+        );
         return LineTold { told, columns };
     }
     let told = stayed(text, out);
     LineTold { told, columns }
 }
 
+// Whether a text goes from `[` to `]` when its end is trimmed, which it is only where it begins with `[`.
+fn trims_to_section(s: &[u8]) -> bool
+    ensures { λ r. ⌜ r ≡ bracketed (trimTail (now (s .entry))) ⌝ }
+{
+    if base::byte(s, 0) != b'[' {
+        return false;
+    }
+    is_section(whitespace::trim_tail(s))
+}
+
 // What becomes of a line: `text` is the line with its terminator and without a BOM, and `n` lines came before it.
 pub fn line(
     config: Config,
     map: &[u64],
+    groups: &[u64],
     columns: Columns,
     n: u32,
     text: &[u8],
     out: &mut [u8],
     warnings: &mut [u64],
 ) -> LineTold
-    ensures told { λ r. ⌜ Tells (lineIn config (segmentsOf (now (map .entry))) columns n (now (text .entry)) (length (now (out .entry))) (length (now (warnings .entry)))) (r .told) (now (out .entry)) (now (out .exit)) (now (warnings .entry)) (now (warnings .exit)) ⌝ }
+    ensures told { λ r. ⌜ Tells (lineIn config (segmentsBy (now (groups .entry)) (now (map .entry))) columns n (now (text .entry)) (length (now (out .entry))) (length (now (warnings .entry)))) (r .told) (now (out .entry)) (now (out .exit)) (now (warnings .entry)) (now (warnings .exit)) ⌝ }
     ensures columns { λ r. ⌜ r .columns ≡ columnsNext columns n (now (text .entry)) (length (now (out .entry))) (length (now (warnings .entry))) ⌝ }
 {
     if out.len() / 3 < text.len() {
@@ -293,8 +353,9 @@ pub fn line(
         let told = refused(16);
         return LineTold { told, columns };
     }
-    let t = whitespace::trimmed(text::text_of(text));
-    if is_section(t) {
+    let s = whitespace::trim_head(text::text_of(text));
+    if trims_to_section(s) {
+        let t = whitespace::trim_tail(s);
         let next = in_section(names_events(t), columns);
         let told = stayed(text, out);
         return LineTold {
@@ -303,7 +364,7 @@ pub fn line(
         };
     }
     if columns.events {
-        return event_line(config, map, columns, n, text, out, warnings);
+        return event_line(config, map, groups, columns, n, text, out, warnings);
     }
     let told = stayed(text, out);
     LineTold { told, columns }

@@ -22,14 +22,14 @@ ghost use Rattle.spec_base.specs.base.Put.{put, placedAt, placeAfter};
 ghost use Rattle.spec_text.specs.text.Line.{linesOf, lineCount};
 ghost use Rattle.spec_caption.specs.caption_stamp.Read.{timeIn};
 ghost use Rattle.spec_caption.specs.caption_stamp.Write.{timeText};
-ghost use Rattle.spec_map.specs.segment.Segment.{segmentsOf};
+ghost use Rattle.spec_caption.specs.caption_fate.Grouped.{segmentsBy};
 ghost use Rattle.spec_caption.specs.declared.caption_fate.Decision.the-variants.{Kept};
 ghost use Rattle.spec_caption.specs.caption_fate.Decide.{decideIn};
 ghost use Rattle.spec_caption.specs.caption_fate.Emit.{warnIf, placesOf, render};
 ghost use Rattle.spec_caption.specs.caption_fate.Told.{cueIn, Tells};
 ghost use Rattle.spec_format.specs.block_timing.Style.{stampsIn, styleOf};
 ghost use Rattle.spec_format.specs.block_cue.Block.{writtenArrow, blockFrame, blockCue, timingLineSays};
-ghost use Rattle.spec_format.specs.block_cue.Answer.{timesRead, blockAnswerIn, blockIn, numberIn};
+ghost use Rattle.spec_format.specs.block_cue.BlockThrough.{timesRead, blockAnswerIn, blockIn, numberIn};
 
 fn put_arrow(out: &mut [u8], at: usize) -> usize
     ensures { λ r. ⌜ (r ≡ placeAfter at writtenArrow (now (out .entry))) × (now (out .exit) ≡ placedAt at writtenArrow (now (out .entry))) ⌝ }
@@ -139,6 +139,7 @@ fn keep(
 fn settle(
     config: Config,
     map: &[u64],
+    groups: &[u64],
     old: Times,
     before: &[u8],
     trailing: &[u8],
@@ -151,10 +152,10 @@ fn settle(
     warnings: &mut [u64],
 ) -> Told
     requires { ⌜ (length (now before) + length (now trailing) + length (now end) + length (now after) + 51 ≤ length (now out)) × (4 ≤ length (now warnings)) × (k ≤ length (now block)) ⌝ }
-    ensures { λ r. ⌜ Tells (cueIn (config .kind) (blockCue (numberIn last k (now (block .entry))) (old .start) (old .«start_mark») (old .stop) (old .«stop_mark») (stampsIn (config .kind) (now (after .entry))) (blockFrame (now (before .entry)) (now (trailing .entry)) (now (end .entry)) (now (after .entry)))) (decideIn config (segmentsOf (now (map .entry))) (old .start) (old .stop))) r (now (out .entry)) (now (out .exit)) (now (warnings .entry)) (now (warnings .exit)) ⌝ }
+    ensures { λ r. ⌜ Tells (cueIn (config .kind) (blockCue (numberIn last k (now (block .entry))) (old .start) (old .«start_mark») (old .stop) (old .«stop_mark») (stampsIn (config .kind) (now (after .entry))) (blockFrame (now (before .entry)) (now (trailing .entry)) (now (end .entry)) (now (after .entry)))) (decideIn config (segmentsBy (now (groups .entry)) (now (map .entry))) (old .start) (old .stop))) r (now (out .entry)) (now (out .exit)) (now (warnings .entry)) (now (warnings .exit)) ⌝ }
 {
     let kind = config.kind;
-    match caption_fate::decide(map, config, old.start, old.stop) {
+    match caption_fate::decide(map, groups, config, old.start, old.stop) {
         Decision::Strange => refused(15),
         Decision::Dropped => Told {
             number: 0,
@@ -201,6 +202,7 @@ fn read_times(kind: u32, start: &[u8], stop: &[u8]) -> Reading
 fn timed(
     config: Config,
     map: &[u64],
+    groups: &[u64],
     before: &[u8],
     line: &[u8],
     after: &[u8],
@@ -211,7 +213,7 @@ fn timed(
     warnings: &mut [u64],
 ) -> Told
     requires { ⌜ (3 * (length (now before) + length (now line) + length (now after)) ≤ length (now out)) × (4 ≤ length (now warnings)) × (k ≤ length (now block)) ⌝ }
-    ensures { λ r. ⌜ Tells (blockAnswerIn config (segmentsOf (now (map .entry))) (timingLineSays (styleOf (config .kind)) (numberIn last k (now (block .entry))) (now (before .entry)) (now (line .entry)) (now (after .entry)))) r (now (out .entry)) (now (out .exit)) (now (warnings .entry)) (now (warnings .exit)) ⌝ }
+    ensures { λ r. ⌜ Tells (blockAnswerIn config (segmentsBy (now (groups .entry)) (now (map .entry))) (timingLineSays (styleOf (config .kind)) (numberIn last k (now (block .entry))) (now (before .entry)) (now (line .entry)) (now (after .entry)))) r (now (out .entry)) (now (out .exit)) (now (warnings .entry)) (now (warnings .exit)) ⌝ }
 {
     let text = text::text_of(line);
     let behind = after_arrow(text);
@@ -223,6 +225,7 @@ fn timed(
         Reading::Both(old) => settle(
             config,
             map,
+            groups,
             old,
             before,
             trailing,
@@ -241,12 +244,13 @@ fn timed(
 pub fn block(
     config: Config,
     map: &[u64],
+    groups: &[u64],
     last: u32,
     text: &[u8],
     out: &mut [u8],
     warnings: &mut [u64],
 ) -> Told
-    ensures { λ r. ⌜ Tells (blockIn config (segmentsOf (now (map .entry))) (suc last - lineCount (linesOf (now (text .entry)))) (now (text .entry)) (length (now (out .entry))) (length (now (warnings .entry)))) r (now (out .entry)) (now (out .exit)) (now (warnings .entry)) (now (warnings .exit)) ⌝ }
+    ensures { λ r. ⌜ Tells (blockIn config (segmentsBy (now (groups .entry)) (now (map .entry))) (suc last - lineCount (linesOf (now (text .entry)))) (now (text .entry)) (length (now (out .entry))) (length (now (warnings .entry)))) r (now (out .entry)) (now (out .exit)) (now (warnings .entry)) (now (warnings .exit)) ⌝ }
 {
     if out.len() / 3 < text.len() {
         return refused(16);
@@ -265,6 +269,7 @@ pub fn block(
         return timed(
             config,
             map,
+            groups,
             before,
             line,
             after,

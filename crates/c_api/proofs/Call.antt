@@ -6,7 +6,7 @@ use lib.ListN.{length}
 use Rattle.spec_base.specs.base.Put.{put}
 use Rattle.spec_session.specs.session_counts.Session.{Call}
 use Rattle.spec_parking.specs.declared.session_bytes.Told.{Told}
-use Rattle.spec_parking.specs.session_bytes.Answer.{callNumber, bytesAfter, textOut, placesIn, toldIn, Called}
+use Rattle.spec_parking.specs.session_bytes.ByteCalls.{callNumber, bytesAfter, textOut, placesIn, toldIn, Called}
 
 module _ (x : Call) (r : Told) (b b′ out out′ places places′ : List ℕ) (a : Called x r b b′ out out′ places places′) where
   pub number-called : r .number ≡ callNumber b x

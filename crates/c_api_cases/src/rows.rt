@@ -1,8 +1,8 @@
 // The captions of a text as rows: line, 0 or the warning with which it passes, start, end, where its words stand, how many bytes they are.
-use crate::show::begin;
-use crate::show::end;
-use crate::show::one;
-use crate::show::six;
+use c_api_show::begin;
+use c_api_show::end;
+use c_api_show::one;
+use c_api_show::six;
 
 // Two rows of a text that has at most two captions, the place behind them, and the two told numbers.
 fn two(kind: u32, text: &[u8]) {

@@ -1,7 +1,7 @@
 // A session that the caller keeps as its bytes: opened, fed in two pieces that part a line, finished, and fed once more.
-use crate::show::begin;
-use crate::show::end;
-use crate::show::one;
+use c_api_show::begin;
+use c_api_show::end;
+use c_api_show::one;
 use libc::STDOUT_FILENO;
 
 // The number, and two bytes of the session: the first, and the lowest of the last block's sum, which is its number, 17.

@@ -1,8 +1,8 @@
 // The ASS and the SRT text of the worked lists of calls (crates/example), each in one call; then a call that is lent one told number too few.
-use crate::show::begin;
-use crate::show::end;
-use crate::show::one;
-use crate::show::six;
+use c_api_show::begin;
+use c_api_show::end;
+use c_api_show::one;
+use c_api_show::six;
 use libc::STDOUT_FILENO;
 
 fn text(kind: u32, map: &[u64], text: &[u8]) {

@@ -20,7 +20,7 @@ use Rattle.spec_session.specs.declared.session_state.Session.{Session}
 use Rattle.spec_session.specs.session_state.View.{stored}
 use Rattle.spec_session.specs.declared.session.Fed.{Fed}
 use Rattle.spec_session.specs.declared.session.Opened as opening
-use Rattle.spec_session.specs.session.Answer.{feedCall, finishCall, openOf, Answered, OpenAnswered}
+use Rattle.spec_session.specs.session.SessionCalls.{feedCall, finishCall, openOf, Answered, OpenAnswered}
 use Rattle.promise.specs.Plain.{plainRead}
 use Rattle.spec_runs.specs.one_call.Ran.{pieceEnd}
 use Rattle.spec_runs.proofs.one_call.StandLaws.{Led, partsBehind, led-turn, led-fault, led-end, opens-well, led-start, over-plain}

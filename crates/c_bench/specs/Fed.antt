@@ -9,7 +9,7 @@ use Rattle.spec_base.specs.base.Limits.{mostTaken}
 use Rattle.spec_base.specs.base.Refusal.{_orElse_, faultUnless}
 use Rattle.spec_session.specs.declared.session_state.Session.{Session}
 use Rattle.spec_session.specs.session_state.View.{stored}
-use Rattle.spec_session.specs.session.Answer.{openOf}
+use Rattle.spec_session.specs.session.SessionCalls.{openOf}
 use Rattle.promise.specs.Plain.{plainRead}
 
 -- open's number, 16 for a text above 2^30 bytes, else the plain reader's first fault

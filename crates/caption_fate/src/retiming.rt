@@ -11,6 +11,7 @@ ghost use lib.ListN.{length, drop};
 ghost use Rattle.spec_caption.specs.caption_time.Convert.{startWithin, endWithin};
 ghost use Rattle.spec_map.specs.segment.Segment.{segmentsOf, endBad};
 ghost use Rattle.spec_caption.specs.caption_fate.Hit.{meetsParts};
+ghost use Rattle.spec_caption.specs.caption_fate.Grouped.{boundedBy, segmentsBy};
 ghost use Rattle.spec_caption.specs.caption_fate.Lost.{lostRule};
 ghost use Rattle.spec_caption.specs.caption_fate.Decide.{retimedBy, decideIn};
 
@@ -24,22 +25,33 @@ fn lost_rule(behind: &[u64], a: u64, b: u64) -> bool
     }
 }
 
-// The end was cut, and a part of the caption was lost by it: `place` is that of the segment that was hit.
-fn lost_part(cut: bool, map: &[u64], place: usize, a: u64, b: u64) -> bool
+// The same of the segments behind the place, with the bounds of their groups or without bounds.
+fn lost_behind(map: &[u64], groups: &[u64], place: usize, a: u64, b: u64) -> bool
     requires { ⌜ 6 * place + 6 ≤ length (now map) ⌝ }
-    ensures { λ r. ⌜ r ≡ (cut && lostRule (segmentsOf (drop (6 * place + 6) (now (map .entry)))) a b) ⌝ }
+    ensures { λ r. ⌜ r ≡ lostRule (boundedBy (now (groups .entry)) (place + 1) (segmentsOf (drop (6 * place + 6) (now (map .entry))))) a b ⌝ }
+{
+    if groups.len() == 0 {
+        return lost_rule(base::words_rest(map, 6 * place + 6), a, b);
+    }
+    crate::meeting::met_behind(map, groups, place, a, b)
+}
+
+// The end was cut, and a part of the caption was lost by it: `place` is that of the segment that was hit.
+fn lost_part(cut: bool, map: &[u64], groups: &[u64], place: usize, a: u64, b: u64) -> bool
+    requires { ⌜ 6 * place + 6 ≤ length (now map) ⌝ }
+    ensures { λ r. ⌜ r ≡ (cut && lostRule (boundedBy (now (groups .entry)) (place + 1) (segmentsOf (drop (6 * place + 6) (now (map .entry))))) a b) ⌝ }
 {
     if cut {
-        return lost_rule(base::words_rest(map, 6 * place + 6), a, b);
+        return lost_behind(map, groups, place, a, b);
     }
     false
 }
 
 // A caption of ticks a to b that the segment x meets, within the limits.
-fn retime(x: Met, map: &[u64], config: Config, a: u64, b: u64) -> Retimed
+fn retime(x: Met, map: &[u64], groups: &[u64], config: Config, a: u64, b: u64) -> Retimed
     requires { ⌜ 6 * x .place + 6 ≤ length (now map) ⌝ }
     requires { ⌜ (meetsParts (x .source) (x .duration) a b ≡ true) × (endBad (x .source) (x .duration) ≡ false) × (endBad (x .output) (x .duration) ≡ false) ⌝ }
-    ensures { λ r. ⌜ r ≡ retimedBy (startWithin (config .kind) (config .timescale)) (endWithin (config .kind) (config .timescale)) a b (lostRule (segmentsOf (drop (6 * x .place + 6) (now (map .entry)))) a b) x ⌝ }
+    ensures { λ r. ⌜ r ≡ retimedBy (startWithin (config .kind) (config .timescale)) (endWithin (config .kind) (config .timescale)) a b (lostRule (boundedBy (now (groups .entry)) (x .place + 1) (segmentsOf (drop (6 * x .place + 6) (now (map .entry))))) a b) x ⌝ }
 {
     let source = x.source;
     let output = x.output;
@@ -50,7 +62,7 @@ fn retime(x: Met, map: &[u64], config: Config, a: u64, b: u64) -> Retimed
     let stop = caption_time::core_end(to, config.timescale, config.kind);
     let start_cut = a < source;
     let end_cut = last < b;
-    let lost = lost_part(end_cut, map, x.place, a, b);
+    let lost = lost_part(end_cut, map, groups, x.place, a, b);
     Retimed {
         start,
         stop,
@@ -60,13 +72,13 @@ fn retime(x: Met, map: &[u64], config: Config, a: u64, b: u64) -> Retimed
     }
 }
 
-// What becomes of a caption read as s to e, in units.
-pub fn decide(map: &[u64], config: Config, s: u64, e: u64) -> Decision
-    ensures { λ r. ⌜ r ≡ decideIn config (segmentsOf (now (map .entry))) s e ⌝ }
+// What becomes of a caption read as s to e, in units, by a map with the bounds of its groups, or without bounds.
+pub fn decide(map: &[u64], groups: &[u64], config: Config, s: u64, e: u64) -> Decision
+    ensures { λ r. ⌜ r ≡ decideIn config (segmentsBy (now (groups .entry)) (now (map .entry))) s e ⌝ }
 {
     let from = caption_time::core_ticks(s, config.timescale, config.kind);
     let to = caption_time::core_ticks(e, config.timescale, config.kind);
-    match crate::meeting::find_hit(map, from, to) {
+    match crate::meeting::find_by(map, groups, from, to) {
         Hit::Miss => Decision::Dropped,
         Hit::At(x) => {
             if segment::end_bad(x.source, x.duration) {
@@ -75,7 +87,7 @@ pub fn decide(map: &[u64], config: Config, s: u64, e: u64) -> Decision
             if segment::end_bad(x.output, x.duration) {
                 return Decision::Strange;
             }
-            let r = retime(x, map, config, from, to);
+            let r = retime(x, map, groups, config, from, to);
             Decision::Kept(r)
         }
     }

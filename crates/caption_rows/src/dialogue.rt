@@ -17,7 +17,7 @@ ghost use Rattle.spec_text.specs.text.Line.{textOf};
 ghost use Rattle.spec_caption.specs.caption_stamp.Read.{timeIn};
 ghost use Rattle.spec_format.specs.ass_columns.Columns.{fields, fieldAt};
 ghost use Rattle.spec_format.specs.ass_line.Line.{timesSay, captionSays, wordSays, lineSays};
-ghost use Rattle.spec_format.specs.ass_line.Answer.{columnsAfter};
+ghost use Rattle.spec_format.specs.ass_line.AssThrough.{columnsAfter};
 ghost use Rattle.spec_runs.specs.caption_rows.Said.{captionSaid, lineSaid, lastWords};
 
 // What a line gives, and the columns for the next one.

@@ -15,7 +15,7 @@ ghost use lib.ListN.{length, drop};
 ghost use Rattle.spec_base.specs.base.Limits.{mostTaken};
 ghost use Rattle.spec_text.specs.text.Line.{linesOf};
 ghost use Rattle.spec_format.specs.ass_columns.Columns.{noColumns};
-ghost use Rattle.promise.specs.Plain.{markLength, lineFault};
+ghost use Rattle.promise.specs.Plain.{bomLength, lineFault};
 ghost use Rattle.spec_runs.specs.caption_rows.Walk.{assTurn, assNext, assWalk, blockTurn, blockFrom, blockFirst, blockWalk, headTurn, vttWalk, walkOf, lineFrom, between, WalkedBy};
 
 // The open block after a line: where it begins, and how many lines came before it.
@@ -211,7 +211,7 @@ fn walk_vtt(text: &[u8], mark: usize, rows: &mut [u64]) -> Walked
 
 // How many bytes of BOM stand before a text.
 fn mark_length(text: &[u8]) -> usize
-    ensures { λ r. ⌜ r ≡ markLength (now (text .entry)) ⌝ }
+    ensures { λ r. ⌜ r ≡ bomLength (now (text .entry)) ⌝ }
 {
     if pattern::starts_with(text, b"\xEF\xBB\xBF") {
         return 3;

@@ -19,7 +19,7 @@ use Rattle.spec_session.specs.session_counts.Calls.{newReader, hear, readingOf}
 use Rattle.spec_session.proofs.session_counts.Numbers.{opened as opened-good, opens-fresh}
 use Rattle.spec_session.specs.kinds.Kit.{kit}
 use Rattle.spec_session.specs.session_state.View.{stored}
-use Rattle.spec_session.specs.session.Answer.{OpenAnswered, openOf}
+use Rattle.spec_session.specs.session.SessionCalls.{OpenAnswered, openOf}
 use Rattle.promise.specs.Plain.{plainRead}
 use Rattle.promise.specs.Demand.{AllRight, Demand, heard}
 use Rattle.promise.specs.Runs.{Made, callsOf, outcome}

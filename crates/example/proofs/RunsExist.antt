@@ -2,7 +2,7 @@
 use mathlib.Core.Path.{refl}
 use mathlib.Core.List.{List, [], _∷_}
 use Rattle.spec_session.specs.declared.session_state.Session.{Session}
-use Rattle.spec_session.specs.session.Answer.{nextOf}
+use Rattle.spec_session.specs.session.SessionCalls.{nextOf}
 use Rattle.promise.specs.Runs.{Met, Ran}
 use Rattle.example.specs.Calls.{Asked, feeding, finishing, askedCall, madeBy, makes}
 

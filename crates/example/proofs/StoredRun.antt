@@ -19,13 +19,13 @@ use Rattle.spec_session.specs.session_counts.Session.{Call, openSession}
 use Rattle.spec_session.specs.session_counts.Calls.{newReader, hear}
 use Rattle.spec_session.proofs.session_counts.Counted.{counted-by}
 use Rattle.spec_session.specs.kinds.Kit.{kit}
-use Rattle.spec_session.specs.session.Answer.{openOf}
+use Rattle.spec_session.specs.session.SessionCalls.{openOf}
 use Rattle.spec_parking.specs.parked_blocks.Sealed.{sealedLength}
 use Rattle.promise.specs.Plain.{plainRead}
 use Rattle.promise.specs.Demand.{Demand, heard}
 use Rattle.promise.specs.Promise.{configOf}
 use Rattle.promise.proofs.TheDemand.{built-opens}
-use Rattle.spec_parking.specs.session_bytes.Answer.{openNumber, bytesAfter}
+use Rattle.spec_parking.specs.session_bytes.ByteCalls.{openNumber, bytesAfter}
 use Rattle.spec_runs.specs.keptruns.Kept.{KeptCall, keptCalls, KeptRan, keptOutcome}
 use Rattle.spec_runs.proofs.keptruns.Runs.{kept-promise}
 use Rattle.spec_runs.specs.atonceruns.Claims.{putThrough, TextHolds}

@@ -7,7 +7,7 @@ use Rattle.spec_caption.specs.caption_fate.Emit.{outputOf, warningsOf, placesOf
 use Rattle.spec_session.specs.session_counts.Session.{Call}
 use Rattle.spec_session.specs.declared.session_state.Session.{Session}
 use Rattle.spec_session.specs.declared.session.Fed.{Fed}
-use Rattle.spec_session.specs.session.Answer.{feedCall, finishCall, answerOf, nextOf}
+use Rattle.spec_session.specs.session.SessionCalls.{feedCall, finishCall, answerOf, nextOf}
 use Rattle.promise.specs.Runs.{Made, fed, finished}
 
 -- what a caller lends: the map, the piece, the output and the places

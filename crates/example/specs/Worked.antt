@@ -16,7 +16,7 @@ use Rattle.spec_session.specs.session_counts.Calls.{Played, Heard, newReader, h
 use Rattle.spec_session.specs.kinds.Kit.{kit}
 use Rattle.spec_session.specs.session_state.View.{stored}
 use Rattle.spec_session.specs.declared.session.Opened.{Opened}
-use Rattle.spec_session.specs.session.Answer.{feedCall, finishCall}
+use Rattle.spec_session.specs.session.SessionCalls.{feedCall, finishCall}
 use Rattle.promise.specs.Plain.{plainRead}
 use Rattle.promise.specs.Runs.{Made}
 use Rattle.promise.specs.Promise.{configOf}

@@ -9,7 +9,7 @@ use Rattle.spec_base.specs.base.Refusal.{_orElse_}
 use Rattle.spec_base.proofs.base.RefusalLaws.{else-none, else-found}
 use Rattle.spec_session.specs.declared.session_state.Session.{Session}
 use Rattle.spec_session.specs.declared.session.Fed.{Fed}
-use Rattle.spec_session.specs.session.Answer.{Answered, feedCall, finishCall, answerOf, nextOf}
+use Rattle.spec_session.specs.session.SessionCalls.{Answered, feedCall, finishCall, answerOf, nextOf}
 use Rattle.files_retime.specs.Retimed.{feeding, finishing, passNumber, Sized, Passes}
 
 pub piece-fits : (n : ℕ) (q : List ℕ) → length q ≡ 1024 → length (take n q) ≤ 1024

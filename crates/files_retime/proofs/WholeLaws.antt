@@ -15,7 +15,7 @@ use Rattle.spec_map.specs.segmap.Map.{Map, mapOf, madeOf}
 use Rattle.spec_map.proofs.segmap.Built.{map-front}
 use Rattle.spec_session.specs.declared.session_state.Session.{Session}
 use Rattle.spec_session.specs.declared.session.Opened.{Opened}
-use Rattle.spec_session.specs.session.Answer.{OpenAnswered, openOf}
+use Rattle.spec_session.specs.session.SessionCalls.{OpenAnswered, openOf}
 use Rattle.files_retime.specs.Retimed.{passNumber, runNumber, throughMap, retimeNumber, Passes, Runs, Chooses, Retimes}
 
 -- ---- one file

@@ -3,7 +3,7 @@ use libc::STDOUT_FILENO;
 use session_state::Session;
 ghost use mathlib.Core.Path.{_≡_};
 ghost use lib.ListN.{length};
-ghost use Rattle.spec_session.specs.session.Answer.{finishCall, answerOf};
+ghost use Rattle.spec_session.specs.session.SessionCalls.{finishCall, answerOf};
 ghost use Rattle.files_retime.specs.Retimed.{Passes};
 
 // Writes the first n bytes, or nothing where the pass is dry.

@@ -29,9 +29,11 @@ use Rattle.map_json_read.specs.declared.fields.HeadSlots.{HeadSlots}
 use Rattle.map_json_read.specs.declared.reading.Parts.{Parts}
 use Rattle.spec_json.specs.declared.map_json_read.Taken.{Taken}
 use Rattle.map_json_read.specs.Slots.{headsIn}
-use Rattle.map_json_read.specs.Steps.{objectOf, HeadsOf, ListRead, flatIn, Gathered, PartsOf, saidNumber, listBad, askNumber, Asked, Gives}
-use Rattle.spec_json.specs.map_json_read.Answer.{noneTaken, readNumber, Reads}
-use Rattle.map_json_read.proofs.NumberLaws.{left, right, said-value}
+use Rattle.map_json_segments.specs.Listed.{ListRead, listSaidIn}
+use Rattle.map_json_read.specs.Steps.{objectOf, HeadsOf, flatIn, Gathered, PartsOf, saidNumber, listBad, askNumber, Asked, Gives}
+use Rattle.spec_json.specs.map_json_read.MapRead.{noneTaken, readNumber, Reads}
+use Rattle.map_json_segments.proofs.ListLaws.{list-back}
+use Rattle.map_json_segments.proofs.NumberLaws.{left, right, said-value}
 use Rattle.map_json_read.proofs.PartLaws.{object-says}
 
 none : {A : Type 0} (n k : ℕ) → 0 < k → n ≡ k → n ≡ 0 → A
@@ -165,11 +167,11 @@ unfolding segmentsFrom
 segments-length [] = refl
 segments-length (e ∷ es) = ap suc (segments-length es)
 
-pub gathered-all : (x : HeadSlots) (input list room room′ said said′ : List ℕ) (h : Heads) (p l g₁ g : Bool) (count k : ℕ) → h ≡ headsIn x
+gathered-of : (x : HeadSlots) (input list room room′ said said′ : List ℕ) (h : Heads) (p l g₁ g : Bool) (count k : ℕ) → h ≡ headsIn x
     → p ≡ pathSaid input → ListRead (listSaid list) (elementsOf 9 list) l count room room′ → g₁ ≡ (p && l) → g ≡ (h .good && g₁)
     → k ≡ placedLength (stringBytes input) said → said′ ≡ placed (stringBytes input) said
     → Gathered x input list (record { good = g; heads = h; count = count; «path_len» = k }) room room′ said said′
-gathered-all x input list room room′ said said′ h p l g₁ g count k eh ep L e₁ eg ek es =
+gathered-of x input list room room′ said said′ h p l g₁ g count k eh ep L e₁ eg ek es =
     record {
       good-is = eg ∙ ap (λ (y : Bool). h .good && y) (e₁ ∙ ap (λ (y : Bool). y && l) ep ∙ ap (λ (y : Bool). pathSaid input && y) (L .good-is));
       heads-are = eh;
@@ -181,6 +183,13 @@ gathered-all x input list room room′ said said′ h p l g₁ g count k eh ep L
   where
     l-good : g ≡ true → l ≡ true
     l-good z = right p l (sym e₁ ∙ right (h .good) g₁ (sym eg ∙ z))
+
+pub gathered-all : (x : HeadSlots) (input list room room′ said said′ : List ℕ) (h : Heads) (p l g₁ g : Bool) (count k : ℕ) → length room ≡ 6 * mostSegments → h ≡ headsIn x
+    → p ≡ pathSaid input → ListRead (listSaidIn (length room) list) (elementsOf 9 list) l count room room′ → g₁ ≡ (p && l) → g ≡ (h .good && g₁)
+    → k ≡ placedLength (stringBytes input) said → said′ ≡ placed (stringBytes input) said
+    → Gathered x input list (record { good = g; heads = h; count = count; «path_len» = k }) room room′ said said′
+gathered-all x input list room room′ said said′ h p l g₁ g count k f eh ep L e₁ eg ek es =
+    gathered-of x input list room room′ said said′ h p l g₁ g count k eh ep (list-back list room room′ l count f L) e₁ eg ek es
 
 module _ (text room room′ said₀ said₁ map path : List ℕ) (p : Parts) (P : PartsOf (membersOf 10 (objectOf text)) p room room′ said₀ said₁) where
   abbrev ms : List Member

@@ -1,8 +1,5 @@
-pub mod NumberLaws
-pub mod NameLaws
-pub mod SlotLaws
-pub mod SegmentLaws
-pub mod ListLaws
+pub mod DepthLaws
+pub mod HeadLaws
 pub mod PartLaws
 pub mod WalkLaws
 pub mod GiveLaws

@@ -21,22 +21,17 @@ use Rattle.spec_json.specs.map_json_write.Names.{timescaleName, rateNumName, ra
 use Rattle.spec_json.specs.map_json_write.Reads.{short, pathSaid, listSaid, shallow, fieldsSaid, isMapText}
 use Rattle.map_json_read.specs.declared.fields.Heads.{Heads}
 use Rattle.map_json_read.specs.declared.walk.Walk.{Walk}
-use Rattle.map_json_read.specs.Slots.{gathered, noneWalked, walkedAfter}
-use Rattle.map_json_read.specs.Fields.{membersIn}
+use Rattle.map_json_segments.specs.Slots.{gathered}
+use Rattle.map_json_read.specs.Slots.{noneWalked, walkedAfter}
+use Rattle.map_json_segments.specs.Fields.{membersIn}
 use Rattle.map_json_read.specs.Walk.{noWalk, walkedOf, WalkIn}
 use Rattle.map_json_read.specs.Steps.{objectOf, HeadsOf}
-use Rattle.map_json_read.proofs.NumberLaws.{left, right}
+use Rattle.map_json_segments.proofs.NumberLaws.{left, right}
 
 and-in : {a b r : Bool} → a ≡ true → r ≡ b → r ≡ (a && b)
 and-in {a} {b} {r} e p = p ∙ ap (λ (x : Bool). x && b) (sym e)
 
--- ---- a first byte, and a path
-pub opens-yes : (x y b : ℕ) → x ≡ y → x ≡ b → true ≡ eqb y b
-opens-yes x y b e h = sym (eq-eqb y b (sym e ∙ h))
-
-pub opens-no : (x y b : ℕ) → x ≡ y → (x ≡ b → ⊥) → false ≡ eqb y b
-opens-no x y b e h = sym (ne-eqb y b (λ q. h (e ∙ q)))
-
+-- ---- a path
 module _ (v : List ℕ) (o : Bool) (n : ℕ) (eo : o ≡ eqb (getD v 0 0) 0x22) (h : not o ≡ false) (en : n ≡ length (stringBytes v)) where
   pub path-short : n ≤ 1024 → true ≡ pathSaid v
   path-short l = and-in (sym eo ∙ not-false o h) (sym (ap (λ (k : ℕ). leb k mostPath) (sym en) ∙ le-leb n mostPath l))

@@ -28,16 +28,17 @@ use Rattle.spec_json.specs.map_json_write.Reads.{isKnown, shallow, pathSaid, li
 use Rattle.map_json_read.specs.declared.fields.Heads.{Heads}
 use Rattle.map_json_read.specs.declared.fields.HeadSlots.{HeadSlots}
 use Rattle.map_json_read.specs.declared.reading.Parts.{Parts}
-use Rattle.map_json_read.specs.declared.number.Slot.{Slot}
+use Rattle.map_json_segments.specs.declared.number.Slot.{Slot}
 use Rattle.map_json_read.specs.declared.walk.Walk.{Walk}
-use Rattle.map_json_read.specs.Slots.{noSlot, slotWith, slotAfter, headNamed, gathered, noHeads, seenAfter, keptAfter, headsAfter, headsBy, Walked, noneWalked, walkedAfter, wordOf, headsIn}
-use Rattle.map_json_read.specs.Fields.{fieldIs, fieldIn, membersIn}
+use Rattle.map_json_segments.specs.Slots.{noSlot, slotWith, slotAfter, gathered}
+use Rattle.map_json_read.specs.Slots.{headNamed, noHeads, seenAfter, keptAfter, headsAfter, headsBy, Walked, noneWalked, walkedAfter, wordOf, headsIn}
+use Rattle.map_json_segments.specs.Fields.{fieldIs, fieldIn, membersIn}
 use Rattle.map_json_read.specs.Walk.{noWalk, walkBy, endedBy, walkedOf, HeadIn, WalkIn}
 use Rattle.map_json_read.specs.Steps.{objectOf, HeadsOf, Gathered, PartsOf}
-use Rattle.map_json_read.proofs.NumberLaws.{left, right, field-most}
-use Rattle.map_json_read.proofs.NameLaws.{head-1, head-2, head-3, head-4, head-5, head-6, head-known}
-use Rattle.map_json_read.proofs.SlotLaws.{by-number, digitsOf, slot-field, part, and-assoc, good-of, value-of}
-use Rattle.map_json_read.proofs.SegmentLaws.{closes, gather-more, gather-last}
+use Rattle.map_json_segments.proofs.NumberLaws.{left, right, field-most}
+use Rattle.map_json_read.proofs.HeadLaws.{head-1, head-2, head-3, head-4, head-5, head-6, head-known}
+use Rattle.map_json_segments.proofs.SlotLaws.{by-number, digitsOf, slot-field, part, and-assoc, good-of, value-of}
+use Rattle.map_json_segments.proofs.SegmentLaws.{closes, gather-more, gather-last}
 use Rattle.map_json_read.proofs.PartLaws.{fields-all}
 
 -- ---- the numbers of a map

@@ -1,4 +1,3 @@
 pub mod Slots
-pub mod Fields
 pub mod Walk
 pub mod Steps

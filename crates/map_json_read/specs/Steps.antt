@@ -21,7 +21,7 @@ use Rattle.map_json_read.specs.declared.fields.Heads.{Heads}
 use Rattle.map_json_read.specs.declared.fields.HeadSlots.{HeadSlots}
 use Rattle.map_json_read.specs.declared.reading.Parts.{Parts}
 use Rattle.spec_json.specs.declared.map_json_read.Taken.{Taken}
-use Rattle.map_json_read.specs.Fields.{fieldIn}
+use Rattle.map_json_segments.specs.Fields.{fieldIn}
 use Rattle.map_json_read.specs.Slots.{headsIn}
 
 -- the object that a text is; nothing where it is none
@@ -34,12 +34,6 @@ pub record HeadsOf (ms : List Member) (h : Heads) : Type 0 where
   pub num-is : h .«rate_num» ≡ fieldIn rateNumName mostFrame ms .value
   pub den-is : h .«rate_den» ≡ fieldIn rateDenName mostFrame ms .value
   pub frames-are : h .frames ≡ fieldIn framesName mostFrame ms .value
-
--- a list read: the numbers of its segments stand in the room where it has at most 1,024
-pub record ListRead (said : Bool) (es : List (List ℕ)) (good : Bool) (count : ℕ) (room room′ : List ℕ) : Type 0 where
-  pub good-is : good ≡ said
-  pub count-is : good ≡ true → count ≡ length es
-  pub numbers : good ≡ true → count ≤ mostSegments → room′ ≡ put (flatOf (segmentsFrom es)) room
 
 -- the numbers of the list of an object
 abbrev pub flatIn : List Member → List ℕ

@@ -9,8 +9,9 @@ use Rattle.spec_json.specs.json.Value.{valueWidth}
 use Rattle.spec_json.specs.json.Walk.{itemWidth, rowOf}
 use Rattle.spec_json.specs.json.Member.{memberOf}
 use Rattle.map_json_read.specs.declared.walk.Walk.{Walk}
-use Rattle.map_json_read.specs.Slots.{noHeads, headsBy, gathered, Walked, noneWalked, walkedAfter}
-use Rattle.map_json_read.specs.Fields.{membersIn}
+use Rattle.map_json_segments.specs.Slots.{gathered}
+use Rattle.map_json_read.specs.Slots.{noHeads, headsBy, Walked, noneWalked, walkedAfter}
+use Rattle.map_json_segments.specs.Fields.{membersIn}
 
 abbrev pub noWalk : Walk
 noWalk = record { heads = noHeads; «path_at» = 0; «path_len» = 0; «list_at» = 0; «list_len» = 0; whole = 0 }

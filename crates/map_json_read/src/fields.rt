@@ -1,11 +1,11 @@
 // The fields of a map's text, and the depth of the others.
-use crate::number::Slot;
-use crate::number::all_three;
-use crate::number::both;
-use crate::number::has_number;
-use crate::number::no_slot;
-use crate::number::opens;
-use crate::number::slot_if;
+use map_json_segments::number::Slot;
+use map_json_segments::number::all_three;
+use map_json_segments::number::both;
+use map_json_segments::number::has_number;
+use map_json_segments::number::no_slot;
+use map_json_segments::number::opens;
+use map_json_segments::number::slot_if;
 ghost use mathlib.Core.Path.{_≡_};
 ghost use mathlib.Core.Bool.{_||_, not, cond};
 ghost use lib.Dec.{eqb};
@@ -18,22 +18,22 @@ ghost use Rattle.map_json_read.specs.Slots.{headNamed, noHeads, headsBy,
 pub fn head_named(key: &[u8]) -> u64
     ensures { λ r. ⌜ r ≡ headNamed (stringBytes (now (key .entry))) ⌝ }
 {
-    if json::name_is(key, b"video_timescale") {
+    if json_strings::name_is(key, b"video_timescale") {
         return 1;
     }
-    if json::name_is(key, b"frame_rate_num") {
+    if json_strings::name_is(key, b"frame_rate_num") {
         return 2;
     }
-    if json::name_is(key, b"frame_rate_den") {
+    if json_strings::name_is(key, b"frame_rate_den") {
         return 3;
     }
-    if json::name_is(key, b"input") {
+    if json_strings::name_is(key, b"input") {
         return 4;
     }
-    if json::name_is(key, b"total_frames") {
+    if json_strings::name_is(key, b"total_frames") {
         return 5;
     }
-    if json::name_is(key, b"segments") {
+    if json_strings::name_is(key, b"segments") {
         return 6;
     }
     0
@@ -67,7 +67,7 @@ pub fn path_good(v: &[u8]) -> bool
     if !opens(v, 0x22) {
         return false;
     }
-    if json::string_size(v) <= 1024 {
+    if json_strings::string_size(v) <= 1024 {
         return true;
     }
     false

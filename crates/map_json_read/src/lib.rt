@@ -1,7 +1,5 @@
 // A segment map read from the JSON of the Rust cutter.
 mod fields;
-mod list;
-mod number;
 mod reading;
 mod walk;
 

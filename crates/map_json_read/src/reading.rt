@@ -3,9 +3,9 @@ use crate::fields::HeadSlots;
 use crate::fields::Heads;
 use crate::fields::heads_of;
 use crate::fields::path_good;
-use crate::list::list_into;
-use crate::number::both;
 use crate::walk::walk_text;
+use map_json_segments::list::list_into;
+use map_json_segments::number::both;
 use spec_json::map_json_read::Taken;
 ghost use mathlib.Core.Path.{_≡_};
 ghost use Prim.Native.Nat.{_*_, _≤_};
@@ -15,7 +15,7 @@ ghost use Rattle.spec_base.specs.base.Put.{placed, placedLength};
 ghost use Rattle.spec_json.specs.json.Space.{spaces};
 ghost use Rattle.spec_json.specs.json.Member.{membersOf};
 ghost use Rattle.spec_json.specs.map_json_write.Names.{mostPath};
-ghost use Rattle.spec_json.specs.map_json_read.Answer.{noneTaken, Reads};
+ghost use Rattle.spec_json.specs.map_json_read.MapRead.{noneTaken, Reads};
 ghost use Rattle.map_json_read.specs.Steps.{objectOf, Gathered, PartsOf, listBad, Asked, Gives};
 
 fn refused(number: u32) -> Taken
@@ -47,7 +47,7 @@ fn gather(x: HeadSlots, input: &[u8], list: &[u8], room: &mut [u64], said: &mut 
 {
     let h = heads_of(x);
     let l = list_into(list, room);
-    let k = json::string_bytes(input, said);
+    let k = json_strings::string_bytes(input, said);
     Parts {
         good: both(h.good, both(path_good(input), l.good)),
         heads: h,

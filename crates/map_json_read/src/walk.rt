@@ -3,7 +3,7 @@ use crate::fields::HeadSlots;
 use crate::fields::head_named;
 use crate::fields::heads_after;
 use crate::fields::no_heads;
-use crate::number::opens;
+use map_json_segments::number::opens;
 ghost use mathlib.Core.Path.{_≡_};
 ghost use mathlib.Core.Bool.{_&&_, cond};
 ghost use lib.Dec.{eqb};
@@ -11,7 +11,8 @@ ghost use lib.ListN.{length, drop, getD};
 ghost use Rattle.spec_text.specs.utf8.Utf8.{utf8};
 ghost use Rattle.spec_json.specs.json.Space.{spaces};
 ghost use Rattle.spec_json.specs.json.Member.{membersOf};
-ghost use Rattle.map_json_read.specs.Slots.{gathered, noneWalked, walkedAfter};
+ghost use Rattle.map_json_segments.specs.Slots.{gathered};
+ghost use Rattle.map_json_read.specs.Slots.{noneWalked, walkedAfter};
 ghost use Rattle.map_json_read.specs.Walk.{noWalk, walkBy, endedBy, walkedOf, HeadIn, WalkIn};
 ghost use Rattle.map_json_read.specs.Steps.{objectOf};
 

@@ -18,7 +18,7 @@ use Rattle.spec_json.specs.map_json_write.Names.{mostPath}
 use Rattle.spec_json.specs.map_json_write.Text.{mapText}
 use Rattle.map_json_write.specs.Written.{Written}
 use Rattle.spec_json.specs.declared.map_json_write.Wrote.{Wrote}
-use Rattle.spec_json.specs.map_json_write.Answer.{askedNumber, writeNumber, whenDone, Writes}
+use Rattle.spec_json.specs.map_json_write.MapWritten.{askedNumber, writeNumber, whenDone, Writes}
 
 abbrev byTests : (a b c d : Bool) → ℕ
 byTests a b c d = faultUnless (not a) 15 orElse faultUnless (not b) 15 orElse faultUnless c 16 orElse faultUnless d 20

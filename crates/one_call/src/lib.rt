@@ -1,5 +1,4 @@
 // A whole text retimed at once. No exported function has a `requires`.
-mod lining;
 mod running;
 mod telling;
 

@@ -1,14 +1,18 @@
-// A whole text: its lines where they stand, then what is left in pieces, and the finish.
-use crate::lining::begun;
-use crate::lining::resumed;
-use crate::lining::run_lines;
+// A whole text: one feed of it, and the finish.
 use session::Fed;
 use session_counts::Counts;
+use session_state::Head;
 use session_state::Session;
+use session_text::TextFed;
+use session_text::take_text;
 use spec_runs::one_call::Ran;
 ghost use mathlib.Core.Path.{_≡_};
+ghost use Prim.Native.Nat.{_≤_};
 ghost use lib.ListN.{length};
-ghost use Rattle.spec_runs.specs.one_call.Ran.{pieceEnd, Ready, RanText};
+ghost use Rattle.spec_base.specs.base.Limits.{mostHeld};
+ghost use Rattle.spec_session.specs.session_state.View.{view};
+ghost use Rattle.spec_session.specs.session_state.Head.{viewOf};
+ghost use Rattle.spec_runs.specs.one_call.Ran.{pieceEnd, Ready, begunOf, RanText};
 
 // Where a piece that begins at i of n bytes ends.
 pub fn piece_end(i: usize, n: usize) -> usize
@@ -23,7 +27,63 @@ pub fn piece_end(i: usize, n: usize) -> usize
     i + base::MOST_PIECE
 }
 
-// After the last call.
+// The numbers of a session that has just been opened.
+fn begun(session: Session) -> Head
+    ensures { λ r. ⌜ r ≡ begunOf session ⌝ }
+{
+    let config = session.config;
+    let counts = session.counts;
+    let columns = session.columns;
+    Head {
+        config,
+        ended: session.ended,
+        outcome: session.outcome,
+        taken: session.taken,
+        lines: session.lines,
+        counts,
+        columns,
+        held_len: 0,
+    }
+}
+
+// The session of these numbers that holds `kept`.
+fn resumed(head: Head, kept: &[u8]) -> Session
+    requires { ⌜ length (now kept) ≤ mostHeld ⌝ }
+    ensures { λ r. ⌜ (view r ≡ viewOf head (now (kept .entry))) × (length (r .held) ≡ mostHeld) ⌝ }
+{
+    let config = head.config;
+    let counts = head.counts;
+    let columns = head.columns;
+    let mut held = [0u8; 8192];
+    let n = base::bytes(&mut held, kept);
+    Session {
+        config,
+        ended: head.ended,
+        outcome: head.outcome,
+        taken: head.taken,
+        lines: head.lines,
+        counts,
+        columns,
+        held_len: n,
+        held,
+    }
+}
+
+// The text ended by a fault.
+fn stopped(fed: TextFed) -> Ran
+    ensures { λ r. ⌜ (r .number ≡ fed .number) × (r .written ≡ fed .written) × (r .warned ≡ fed .warned) × (r .counts ≡ fed .head .counts) ⌝ }
+{
+    let head = fed.head;
+    let counts = head.counts;
+    Ran {
+        number: fed.number,
+        written: fed.written,
+        warned: fed.warned,
+        counts,
+    }
+}
+
+// After the finish.
 fn ended(last: Fed, written: usize, warned: usize) -> Ran
     ensures { λ r. ⌜ (r .number ≡ last .number) × (r .written ≡ written) × (r .warned ≡ warned) × (r .counts ≡ last .session .counts) ⌝ }
 {
@@ -37,7 +97,7 @@ fn ended(last: Fed, written: usize, warned: usize) -> Ran
     }
 }
 
-// The lines of the text; from the first that is too long, at fault or without LF, the pieces, up to a fault; then the finish.
+// The text is fed at once; then comes the finish of what is held.
 pub fn run_text(
     session: Session,
     map: &[u64],
@@ -48,23 +108,15 @@ pub fn run_text(
     requires { ⌜ Ready session (now map) (length (now text)) (length (now out)) (length (now warnings)) ⌝ }
     ensures { λ r. ⌜ RanText (session .config) (now (map .entry)) (now (text .entry)) r (now (out .entry)) (now (out .exit)) (now (warnings .entry)) (now (warnings .exit)) ⌝ }
 {
-    let config = session.config;
-    let lined = run_lines(config, map, begun(session), text, out, warnings);
-    let mut at = resumed(session, lined, text);
-    let mut i = lined.place;
-    let mut o = lined.written;
-    let mut w = lined.warned;
-    while i < text.len() {
-        let e = piece_end(i, text.len());
-        let fed = session::feed(at, map, &text[i..e], &mut out[o..], &mut warnings[w..]);
-        o += fed.written;
-        w += fed.warned;
-        if fed.number != 0 {
-            return ended(fed, o, w);
-        }
-        at = fed.session;
-        i = e;
+    let fed = take_text(begun(session), map, text, false, out, warnings);
+    if fed.number != 0 {
+        return stopped(fed);
     }
+    let head = fed.head;
+    let b = fed.begin;
+    let o = fed.written;
+    let w = fed.warned;
+    let at = resumed(head, &text[b..]);
     let last = session::finish(at, map, &mut out[o..], &mut warnings[w..]);
     ended(last, o + last.written, w + last.warned)
 }

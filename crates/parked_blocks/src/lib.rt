@@ -4,6 +4,9 @@ mod writing;
 mod zeros;
 
 pub use reading::unseal;
+pub use reading::unseal_first;
+pub use writing::blocks_for;
 pub use writing::seal;
+pub use writing::seal_first;
 pub use writing::words_bytes;
 pub use zeros::all_zero;

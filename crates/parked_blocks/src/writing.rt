@@ -4,7 +4,8 @@ ghost use Prim.Native.Nat.{_+_, _*_, _-_, _%_, _^_, _≤_};
 ghost use lib.ListN.{length, take, drop, replicate};
 ghost use Rattle.spec_base.specs.base.Put.{put, putAt};
 ghost use Rattle.spec_sheet.specs.checked_blocks.Block.{sumWords};
-ghost use Rattle.spec_parking.specs.parked_blocks.Sealed.{bodyLength, roomLength, sealedLength, wordBytes, wordsBytes, sealed, sealedAll, filled, rowOf, rowIn};
+ghost use Rattle.spec_parking.specs.parked_blocks.Sealed.{bodyLength, roomLength, sealedLength, wordBytes, wordsBytes, sealed, sealedAll, filled, rowIn};
+ghost use Rattle.spec_parking.specs.parked_blocks.First.{blocksFor, firstBlocks, firstIn};
 
 // A word's four bytes, from the place `at` on.
 fn put_word(out: &mut [u8], at: usize, w: u32)
@@ -82,30 +83,40 @@ fn part(held: &[u8], n: usize) -> &[u8]
     base::front(base::rest(held, 504 * n), 504)
 }
 
-// Blocks 1 to 17 with these bytes and zeros behind them, at the start.
-fn put_held(out: &mut [u8], held: &[u8])
-    requires { ⌜ (8704 ≤ length (now out)) × (length (now held) ≤ roomLength) ⌝ }
-    ensures { λ _. ⌜ now (out .exit) ≡ put (sealedAll 1 17 (filled roomLength (now (held .entry)))) (now (out .entry)) ⌝ }
+// Blocks 1 to k with these bytes and zeros behind them, at the start.
+fn put_held(out: &mut [u8], held: &[u8], k: usize)
+    requires { ⌜ (8704 ≤ length (now out)) × (length (now held) ≤ roomLength) × (k ≤ 17) ⌝ }
+    ensures { λ _. ⌜ now (out .exit) ≡ put (sealedAll 1 k (filled roomLength (now (held .entry)))) (now (out .entry)) ⌝ }
 {
     let mut n: usize = 0;
-    while n < 17 {
+    while n < k {
         block_at(out, 512 * n, (n as u32) + 1, part(held, n));
         n += 1;
     }
 }
 
-// All 18 blocks.
-fn put_all(out: &mut [u8], head: &[u8], held: &[u8])
-    requires { ⌜ (sealedLength ≤ length (now out)) × (length (now head) ≤ bodyLength) × (length (now held) ≤ roomLength) ⌝ }
-    ensures { λ _. ⌜ now (out .exit) ≡ put (rowOf (now (head .entry)) (now (held .entry))) (now (out .entry)) ⌝ }
+// Block 0 and k more.
+fn put_first(out: &mut [u8], head: &[u8], held: &[u8], k: usize)
+    requires { ⌜ (sealedLength ≤ length (now out)) × (length (now head) ≤ bodyLength) × (length (now held) ≤ roomLength) × (k ≤ 17) ⌝ }
+    ensures { λ _. ⌜ now (out .exit) ≡ put (firstBlocks k (now (head .entry)) (now (held .entry))) (now (out .entry)) ⌝ }
 {
     put_block(out, 0, head);
-    put_held(&mut out[512..], held);
+    put_held(&mut out[512..], held, k);
 }
 
-// Writes 18 blocks at the start of `out`: block 0 with the bytes of `head`, blocks 1 to 17 with those of `held`, zeros behind each. Nothing where one of them has no place.
-pub fn seal(out: &mut [u8], head: &[u8], held: &[u8])
-    ensures { λ _. ⌜ now (out .exit) ≡ put (rowIn (length (now (out .entry))) (now (head .entry)) (now (held .entry))) (now (out .entry)) ⌝ }
+// How many of blocks 1 to 17 n bytes take.
+pub fn blocks_for(n: usize) -> usize
+    ensures { λ r. ⌜ r ≡ blocksFor n ⌝ }
+{
+    if 8568 <= n {
+        return 17;
+    }
+    (n + 503) / 504
+}
+
+// Writes, at the start of `out`, block 0 with the bytes of `head`, and as many blocks with those of `held` as n bytes take, zeros behind each. Nothing where 18 blocks or the bytes have no place.
+pub fn seal_first(out: &mut [u8], head: &[u8], held: &[u8], n: usize)
+    ensures { λ _. ⌜ now (out .exit) ≡ put (firstIn (length (now (out .entry))) n (now (head .entry)) (now (held .entry))) (now (out .entry)) ⌝ }
 {
     if out.len() < 9216 {
         return;
@@ -116,7 +127,14 @@ pub fn seal(out: &mut [u8], head: &[u8], held: &[u8])
     if held.len() > 8568 {
         return;
     }
-    put_all(out, head, held);
+    put_first(out, head, held, blocks_for(n));
+}
+
+// All 18 blocks.
+pub fn seal(out: &mut [u8], head: &[u8], held: &[u8])
+    ensures { λ _. ⌜ now (out .exit) ≡ put (rowIn (length (now (out .entry))) (now (head .entry)) (now (held .entry))) (now (out .entry)) ⌝ }
+{
+    seal_first(out, head, held, 8568);
 }
 
 // The bytes of 16 words.

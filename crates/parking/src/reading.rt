@@ -2,6 +2,7 @@
 use ass_columns::Columns;
 use caption_fate::Config;
 use session_counts::Counts;
+use session_state::Head;
 use session_state::Session;
 ghost use mathlib.Core.Path.{_≡_};
 ghost use mathlib.Core.Bool.{true, _&&_};
@@ -13,6 +14,7 @@ ghost use Rattle.spec_sheet.specs.checked_blocks.Block.{wordAt};
 ghost use Rattle.spec_session.specs.session_counts.Session.{isOutcome};
 ghost use Rattle.spec_parking.specs.parked_blocks.Sealed.{isRow, roomOf, allZero};
 ghost use Rattle.spec_parking.specs.parking.Parked.{isMark, isFlag, unusedZero, isParked, sessionIn};
+ghost use Rattle.spec_parking.specs.parking.Head.{headIn};
 
 fn is_mark(k: u32) -> bool
     ensures { λ r. ⌜ r ≡ isMark k ⌝ }
@@ -62,7 +64,7 @@ fn ended_zero(s: &[u8], room: &[u8]) -> bool
 
 // Whether no unused byte is other than zero.
 fn unused_zero(s: &[u8], room: &[u8]) -> bool
-    requires { ⌜ now room ≡ roomOf (now s) ⌝ }
+    requires { ⌜ (now room ≡ take (length (now room)) (roomOf (now s))) × (allZero (drop (length (now room)) (roomOf (now s))) ≡ true) ⌝ }
     ensures { λ r. ⌜ r ≡ unusedZero (now (s .entry)) ⌝ }
 {
     if parked_blocks::all_zero(base::front(base::rest(s, 68), 440)) {
@@ -76,9 +78,9 @@ fn unused_zero(s: &[u8], room: &[u8]) -> bool
     false
 }
 
-// Whether 18 blocks that hold are a parked session.
+// Whether 18 blocks that hold are a parked session, given the start of their room, behind which there are zeros.
 pub fn is_parked(s: &[u8], room: &[u8]) -> bool
-    requires { ⌜ (isRow (now s) ≡ true) × (now room ≡ roomOf (now s)) ⌝ }
+    requires { ⌜ (isRow (now s) ≡ true) × (now room ≡ take (length (now room)) (roomOf (now s))) × (allZero (drop (length (now room)) (roomOf (now s))) ≡ true) ⌝ }
     ensures { λ r. ⌜ r ≡ isParked (now (s .entry)) ⌝ }
 {
     if words_good(s) {
@@ -159,5 +161,29 @@ pub fn session_in(s: &[u8], room: &[u8]) -> Session
         columns,
         held_len,
         held,
+    }
+}
+
+// The numbers of the session that the blocks name.
+pub fn head_in(s: &[u8]) -> Head
+    ensures { λ r. ⌜ r ≡ headIn (now (s .entry)) ⌝ }
+{
+    let config = config_in(s);
+    let counts = counts_in(s);
+    let columns = columns_in(s);
+    let ended = checked_blocks::word(s, 4);
+    let outcome = checked_blocks::word(s, 5);
+    let taken = checked_blocks::word(s, 6);
+    let lines = checked_blocks::word(s, 7);
+    let held_len = checked_blocks::word(s, 16) as usize;
+    Head {
+        config,
+        ended: ended == 1,
+        outcome,
+        taken,
+        lines,
+        counts,
+        columns,
+        held_len,
     }
 }

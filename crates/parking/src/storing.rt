@@ -1,13 +1,15 @@
 // A session stored.
+use session_state::Head;
 use session_state::Session;
 ghost use mathlib.Core.Path.{_≡_};
 ghost use mathlib.Core.Bool.{true, false, cond};
-ghost use Prim.Native.Nat.{_%_, _^_, _≤_};
+ghost use Prim.Native.Nat.{_%_, _^_, _≤_, max};
 ghost use lib.ListN.{length};
 ghost use Rattle.spec_base.specs.base.Put.{put};
 ghost use Rattle.spec_parking.specs.parking.Parked.{flag, headWords, parkedOf};
+ghost use Rattle.spec_parking.specs.parking.Head.{headNumbers, bareOf, headBytes, restored};
 ghost use Rattle.spec_parking.specs.parked_blocks.Sealed.{sealedLength, wordsBytes};
-ghost use Rattle.spec_parking.specs.parking.Answer.{parkNumber, Parks, Stores};
+ghost use Rattle.spec_parking.specs.parking.Parkings.{parkNumber, Parks, Stores};
 
 // The mark of a house that warns of lost parts by request 2.7's rule.
 const MARK: u32 = 2;
@@ -30,26 +32,26 @@ fn low_word(n: usize) -> u32
 }
 
 // Words 1 to 16 of a session that is going on.
-fn live_words(session: Session) -> [u32; 16]
-    requires { ⌜ session .ended ≡ false ⌝ }
-    ensures { λ r. ⌜ wordsBytes r ≡ wordsBytes (headWords 2 session) ⌝ }
+fn live_words(head: Head) -> [u32; 16]
+    requires { ⌜ head .ended ≡ false ⌝ }
+    ensures { λ r. ⌜ wordsBytes r ≡ headBytes head ⌝ }
 {
-    let config = session.config;
-    let counts = session.counts;
-    let columns = session.columns;
+    let config = head.config;
+    let counts = head.counts;
+    let columns = head.columns;
     let events = flag_word(columns.events);
     let width = low_word(columns.columns);
     let start = low_word(columns.start);
     let end = low_word(columns.end);
-    let held = low_word(session.held_len);
+    let held = low_word(head.held_len);
     [
         MARK,
         config.kind,
         config.timescale,
         0,
-        session.outcome,
-        session.taken,
-        session.lines,
+        head.outcome,
+        head.taken,
+        head.lines,
         counts.shifted,
         counts.clipped,
         counts.dropped,
@@ -63,19 +65,19 @@ fn live_words(session: Session) -> [u32; 16]
 }
 
 // The same of an ended one: words 7 and 12 to 16 are unused.
-fn ended_words(session: Session) -> [u32; 16]
-    requires { ⌜ session .ended ≡ true ⌝ }
-    ensures { λ r. ⌜ r ≡ headWords 2 session ⌝ }
+fn ended_words(head: Head) -> [u32; 16]
+    requires { ⌜ head .ended ≡ true ⌝ }
+    ensures { λ r. ⌜ r ≡ headWords 2 (bareOf head) ⌝ }
 {
-    let config = session.config;
-    let counts = session.counts;
+    let config = head.config;
+    let counts = head.counts;
     [
         MARK,
         config.kind,
         config.timescale,
         1,
-        session.outcome,
-        session.taken,
+        head.outcome,
+        head.taken,
         0,
         counts.shifted,
         counts.clipped,
@@ -89,14 +91,14 @@ fn ended_words(session: Session) -> [u32; 16]
     ]
 }
 
-// Words 1 to 16, as their bytes tell them: of a number above 32 bits, which only a foreign session has, the low ones.
-fn head_words(session: Session) -> [u32; 16]
-    ensures { λ r. ⌜ wordsBytes r ≡ wordsBytes (headWords 2 session) ⌝ }
+// Words 1 to 16, as their bytes tell them: of a number above 32 bits, which only a foreign head has, the low ones.
+fn head_words(head: Head) -> [u32; 16]
+    ensures { λ r. ⌜ wordsBytes r ≡ headBytes head ⌝ }
 {
-    if session.ended {
-        return ended_words(session);
+    if head.ended {
+        return ended_words(head);
     }
-    live_words(session)
+    live_words(head)
 }
 
 // 17, then 16, else 0.
@@ -123,10 +125,36 @@ fn kept_length(session: Session) -> usize
 }
 
 // The bytes of words 1 to 16.
+fn number_bytes(head: Head) -> [u8; 64]
+    ensures { λ r. ⌜ r ≡ headBytes head ⌝ }
+{
+    parked_blocks::words_bytes(head_words(head))
+}
+
+// The numbers of a session.
+fn numbers(session: Session) -> Head
+    ensures { λ r. ⌜ r ≡ headNumbers session ⌝ }
+{
+    let config = session.config;
+    let counts = session.counts;
+    let columns = session.columns;
+    Head {
+        config,
+        ended: session.ended,
+        outcome: session.outcome,
+        taken: session.taken,
+        lines: session.lines,
+        counts,
+        columns,
+        held_len: session.held_len,
+    }
+}
+
+// The bytes of words 1 to 16 of a session.
 fn head_bytes(session: Session) -> [u8; 64]
     ensures { λ r. ⌜ r ≡ wordsBytes (headWords 2 session) ⌝ }
 {
-    parked_blocks::words_bytes(head_words(session))
+    number_bytes(numbers(session))
 }
 
 // The 18 blocks, at the start.
@@ -161,4 +189,19 @@ pub fn park(session: Session, out: &mut [u8]) -> u32
     }
     store(session, out);
     0
+}
+
+// The larger of two lengths.
+fn most(a: usize, b: usize) -> usize
+    ensures { λ r. ⌜ r ≡ max a b ⌝ }
+{
+    if a < b { b } else { a }
+}
+
+// Stores, with mark 2, the session of these numbers and held bytes in the place of one that held `old` bytes: only the blocks that had bytes or have some now. Nothing where 18 blocks or the bytes have no place.
+pub fn restore(head: Head, held: &[u8], old: usize, bytes: &mut [u8])
+    ensures { λ _. ⌜ now (bytes .exit) ≡ restored head (now (held .entry)) old (now (bytes .entry)) ⌝ }
+{
+    let words = number_bytes(head);
+    parked_blocks::seal_first(bytes, &words, held, most(held.len(), old));
 }

@@ -8,11 +8,11 @@ use Rattle.spec_text.specs.text.Line.{lineCount, concat}
 use Rattle.spec_caption.specs.caption_time.Kind.{kindBad, unitsOf}
 use Rattle.spec_caption.proofs.caption_time.Limits.{by-kind}
 use Rattle.spec_caption.specs.caption_fate.Says.{Part, stays, cue, passes, faultNumber}
-use Rattle.spec_caption.specs.caption_fate.Mark.{marked, behindMark, markWritten}
+use Rattle.spec_caption.specs.caption_fate.Bom.{startsBom, behindBom, bomWritten}
 use Rattle.spec_format.specs.declared.ass_columns.Columns.{Columns}
 use Rattle.spec_format.proofs.ass_columns.ColumnLaws.{Apart}
 use Rattle.spec_format.specs.ass_line.Line.{LineSays, lineSays, faulty, says}
-use Rattle.spec_format.specs.ass_line.Answer.{columnsAfter}
+use Rattle.spec_format.specs.ass_line.AssThrough.{columnsAfter}
 use Rattle.spec_format.specs.ass_columns.Columns.{noColumns}
 use Rattle.spec_format.proofs.back.AssLine.{line-back, line-apart}
 use Rattle.spec_format.specs.block_timing.Style.{styleOf}
@@ -24,7 +24,7 @@ use Rattle.spec_format.proofs.back.BlockKinds.{srt-blocked, Point, vtt-blocked}
 use Rattle.spec_format.proofs.back.Stands.{line-stands, block-stands}
 use Rattle.spec_format.proofs.whole.BlockShape.{blockLines, blocks-joined}
 use Rattle.spec_session.specs.session_counts.Reader.{Reading, fails, _⊕_}
-use Rattle.promise.specs.Plain.{lineFault, unlessFault, lineThen, assRead, bodyFault, blockThen, bodyThen, blanksThen, markBehind, closesBlock, blocksRead, headFault, vttRead, linesRead, linesSay, opened, markLength, readBehind, markBack, plainRead}
+use Rattle.promise.specs.Plain.{lineFault, unlessFault, lineThen, assRead, bodyFault, blockThen, bodyThen, blanksThen, bomBehind, closesBlock, blocksRead, headFault, vttRead, linesRead, linesSay, opened, bomLength, readBehind, bomBack, plainRead}
 use Rattle.promise.specs.Again.{LineAgain, endSeconds, BlockAgain, CueAgain, PartAgain, AllAgain}
 use Rattle.promise.proofs.LinesCut.{Cut, cut-tail, cut-behind, cut-before, cut-lines, text-cut}
 
@@ -79,9 +79,9 @@ module _ (j : ℕ) (Mark : ℕ → Type 0) (K : Blocked (suc j) Mark (endSeconds
   closes-again true x n body [] after c a = body-again n body after c a
   closes-again false x n body [] after c a = a
   closes-again true x n body (l ∷ ls) after c a =
-      again-unless (suc j) (lineFault (markBehind x body) l) (bodyThen (suc j) n body ((stays l ∷ []) ⊕ blanksThen ls after)) (body-again n body ((stays l ∷ []) ⊕ blanksThen ls after) c (tt, blanks-again ls after a))
+      again-unless (suc j) (lineFault (bomBehind x body) l) (bodyThen (suc j) n body ((stays l ∷ []) ⊕ blanksThen ls after)) (body-again n body ((stays l ∷ []) ⊕ blanksThen ls after) c (tt, blanks-again ls after a))
   closes-again false x n body (l ∷ ls) after c a =
-      again-unless (suc j) (lineFault (markBehind x body) l) (bodyThen (suc j) n body ((stays l ∷ []) ⊕ blanksThen ls after)) (body-again n body ((stays l ∷ []) ⊕ blanksThen ls after) c (tt, blanks-again ls after a))
+      again-unless (suc j) (lineFault (bomBehind x body) l) (bodyThen (suc j) n body ((stays l ∷ []) ⊕ blanksThen ls after)) (body-again n body ((stays l ∷ []) ⊕ blanksThen ls after) c (tt, blanks-again ls after a))
 
   blocks-again : (f : Bool) (end : Reading) → AllAgain (suc j) (end .parts) → (x n : ℕ) (bs : List Block) → Cut (blockLines bs) → AllAgain (suc j) (blocksRead (suc j) f end x n bs .parts)
   unfolding blocksRead
@@ -120,19 +120,19 @@ module _ (f : Bool) (x : ℕ) (t : List ℕ) where
   unfolding linesSay
   vtt-behind = vtt-again _ tt (linesRead f t) (text-cut f t)
 
-mark-again : (kind : ℕ) (b : Bool) → AllAgain kind (markWritten b)
+mark-again : (kind : ℕ) (b : Bool) → AllAgain kind (bomWritten b)
 mark-again kind true = (tt, tt)
 mark-again kind false = tt
 
 module _ (f : Bool) (text : List ℕ) where
   -- a BOM that is written back, then the lines behind it
-  with-mark : (kind : ℕ) → AllAgain kind (readBehind kind f (markLength text) (behindMark text) .parts) → AllAgain kind (plainRead kind f text .parts)
+  with-mark : (kind : ℕ) → AllAgain kind (readBehind kind f (bomLength text) (behindBom text) .parts) → AllAgain kind (plainRead kind f text .parts)
   unfolding plainRead
   with-mark kind a =
-      again-append kind (markBack kind f text) (readBehind kind f (markLength text) (behindMark text) .parts) (mark-again kind (marked text && opened kind f (markLength text) (linesRead f (behindMark text)))) a
+      again-append kind (bomBack kind f text) (readBehind kind f (bomLength text) (behindBom text) .parts) (mark-again kind (startsBom text && opened kind f (bomLength text) (linesRead f (behindBom text)))) a
 
   pub text-again : (kind : ℕ) → kindBad kind ≡ false → AllAgain kind (plainRead kind f text .parts)
   text-again kind k =
       by-kind (λ i. AllAgain i (plainRead i f text .parts))
-      (with-mark 0 (ass-behind f (markLength text) (behindMark text))) (with-mark 1 (srt-behind f (markLength text) (behindMark text)))
-      (with-mark 2 (vtt-behind f (markLength text) (behindMark text))) kind k
+      (with-mark 0 (ass-behind f (bomLength text) (behindBom text))) (with-mark 1 (srt-behind f (bomLength text) (behindBom text)))
+      (with-mark 2 (vtt-behind f (bomLength text) (behindBom text))) kind k

@@ -11,7 +11,7 @@ use Rattle.spec_base.specs.base.Limits.{mostLine}
 use Rattle.spec_base.specs.base.Refusal.{faultUnless}
 use Rattle.spec_text.specs.pattern.Find.{starts, equals}
 use Rattle.spec_text.specs.text.Line.{concat}
-use Rattle.spec_caption.specs.caption_fate.Mark.{bom, markWritten}
+use Rattle.spec_caption.specs.caption_fate.Bom.{bom, bomWritten}
 use Rattle.spec_session.specs.session_counts.Cut.{Cut, before, push, cut, isLf, closedLines, unfinished}
 use Rattle.spec_session.specs.session_counts.Machine.{Machine, Says, faulty, says, hasBom, withBom, takeLine, Rest, bomAlone, lastLine, restFor, restOf}
 use Rattle.spec_session.specs.session_counts.Reader.{Reading, fails, _⊕_, readLine, readClose, readLast, readRest, readLines, readText}
@@ -158,11 +158,11 @@ module _ {σ : Type 0} (M : Machine σ) where
   opens f x [] = f && passed (M .close (M .start) 0)
   opens f x (l ∷ ls) = leb (x + length l) mostLine && passed (M .step (M .start) 0 l)
 
-  close-marked : (x : Says σ) → readClose M (withBom x) ≡ markWritten (passed x) ⊕ readClose M x
+  close-marked : (x : Says σ) → readClose M (withBom x) ≡ bomWritten (passed x) ⊕ readClose M x
   close-marked (faulty f) = refl
   close-marked (says s ps) = refl
 
-  line-marked : (b : Bool) (x : Says σ) (after : σ → Reading) → readLine M b (withBom x) after ≡ markWritten (b && passed x) ⊕ readLine M b x after
+  line-marked : (b : Bool) (x : Says σ) (after : σ → Reading) → readLine M b (withBom x) after ≡ bomWritten (b && passed x) ⊕ readLine M b x after
   line-marked false x after = refl
   line-marked true (faulty f) after = refl
   line-marked true (says s ps) after = refl
@@ -191,7 +191,7 @@ module _ {σ : Type 0} (M : Machine σ) where
 
   rest-marked : (f : Bool) (r : List ℕ)
       → readRest M (leb (length (bom ++ r)) mostLine) f (M .start) 0 (bom ++ r)
-      ≡ markWritten (opens f 3 (endLines f r)) ⊕ readAll M f 3 (endLines f r) r (M .start) 0
+      ≡ bomWritten (opens f 3 (endLines f r)) ⊕ readAll M f 3 (endLines f r) r (M .start) 0
   rest-marked false r =
       ap (λ (g : σ → ℕ → List ℕ → Reading). g (M .start) 0 (bom ++ r)) (fails-long M (leb (length (bom ++ r)) mostLine))
       ∙ ap (λ (b : Bool). fails (faultUnless b 19)) (long-three r)
@@ -205,13 +205,13 @@ module _ {σ : Type 0} (M : Machine σ) where
 
   lines-marked : (f : Bool) (ls : List (List ℕ)) (r : List ℕ)
       → readLines M f (before bom ls r .pieces) (before bom ls r .rest) (M .start) 0
-      ≡ markWritten (opens f 3 (ls ++ endLines f r)) ⊕ readAll M f 3 (ls ++ endLines f r) r (M .start) 0
+      ≡ bomWritten (opens f 3 (ls ++ endLines f r)) ⊕ readAll M f 3 (ls ++ endLines f r) r (M .start) 0
   lines-marked f [] r = rest-marked f r
   lines-marked f (l ∷ ls) r =
       ap (λ (x : Says σ). readLine M (leb (length (bom ++ l)) mostLine) x (λ t. readLines M f ls r t 1)) (take-marked (M .start) l)
       ∙ ap (λ (b : Bool). readLine M b (withBom (M .step (M .start) 0 l)) (λ t. readLines M f ls r t 1)) (long-three l)
       ∙ line-marked (leb (3 + length l) mostLine) (M .step (M .start) 0 l) (λ t. readLines M f ls r t 1)
-      ∙ ap (λ (x : Reading). markWritten (opens f 3 (l ∷ (ls ++ endLines f r))) ⊕ x)
+      ∙ ap (λ (x : Reading). bomWritten (opens f 3 (l ∷ (ls ++ endLines f r))) ⊕ x)
       (read-same M (leb (3 + length l) mostLine) (M .step (M .start) 0 l) (λ t. readLines M f ls r t 1)
       (λ t. readAll M f 0 (ls ++ endLines f r) r t 1) (λ t. later M f ls r t 0))
 
@@ -223,13 +223,13 @@ module _ {σ : Type 0} (M : Machine σ) where
       go (l ∷ ls) r = refl
 
   marked-behind : (f : Bool) (t : List ℕ)
-      → readText M f (bom ++ t) ≡ markWritten (opens f 3 (linesRead f t)) ⊕ readAll M f 3 (linesRead f t) (unfinished t) (M .start) 0
+      → readText M f (bom ++ t) ≡ bomWritten (opens f 3 (linesRead f t)) ⊕ readAll M f 3 (linesRead f t) (unfinished t) (M .start) 0
   marked-behind f t =
       ap (λ (c : Cut ℕ). readLines M f (c .pieces) (c .rest) (M .start) 0) (cut-marked t)
       ∙ lines-marked f (closedLines t) (unfinished t)
-      ∙ ap (λ (ls : List (List ℕ)). markWritten (opens f 3 ls) ⊕ readAll M f 3 ls (unfinished t) (M .start) 0) (sym (lines-read f t))
+      ∙ ap (λ (ls : List (List ℕ)). bomWritten (opens f 3 ls) ⊕ readAll M f 3 ls (unfinished t) (M .start) 0) (sym (lines-read f t))
 
   pub marked-text : (f : Bool) (text : List ℕ) → hasBom text ≡ true
       → readText M f text
-      ≡ markWritten (opens f 3 (linesRead f (drop 3 text))) ⊕ readAll M f 3 (linesRead f (drop 3 text)) (unfinished (drop 3 text)) (M .start) 0
+      ≡ bomWritten (opens f 3 (linesRead f (drop 3 text))) ⊕ readAll M f 3 (linesRead f (drop 3 text)) (unfinished (drop 3 text)) (M .start) 0
   marked-text f text e = ap (readText M f) (bom-behind text e) ∙ marked-behind f (drop 3 text)

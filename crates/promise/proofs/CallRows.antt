@@ -18,7 +18,7 @@ use Rattle.spec_session.specs.session_counts.Session.{isOutcome, outcomeBad}
 use Rattle.spec_session.specs.kinds.Takes.{takes, blockTakes, ends, blockEnds}
 use Rattle.spec_session.specs.kinds.Kit.{heldBad, columnsBad}
 use Rattle.spec_session.specs.session_state.View.{heldOf, foreignOf, stored, padded}
-use Rattle.spec_session.specs.session.Answer.{feedCall, finishCall, answerOf, sessionGate, nextOf}
+use Rattle.spec_session.specs.session.SessionCalls.{feedCall, finishCall, answerOf, sessionGate, nextOf}
 use Rattle.promise.specs.Foreign.{counted, session}
 
 -- an SRT session of T 1000 that has taken so many bytes and holds nothing

@@ -25,7 +25,7 @@ use Rattle.spec_format.specs.block_timing.Style.{blankIn, srtEnd, endIn, stamps
 use Rattle.spec_format.specs.block_timing.Arrow.{timingOf, afterArrow}
 use Rattle.spec_format.specs.block_cue.Block.{blockFrame, blockCue, timingLineSays as blockLineSays, blockSays}
 use Rattle.spec_format.specs.whole.Srt.{blocksOf}
-use Rattle.spec_caption.specs.caption_fate.Mark.{bom}
+use Rattle.spec_caption.specs.caption_fate.Bom.{bom}
 use Rattle.spec_session.specs.session_counts.Reader.{reading, fails}
 use Rattle.promise.specs.Plain.{lineFault, bodyLineFault, assRead, bodyFault, blocksRead, linesSay, plainRead}
 

@@ -11,7 +11,7 @@ use Rattle.spec_format.specs.block_timing.Style.{blankIn}
 use Rattle.spec_session.specs.session_counts.Session.{isOutcome, outcomeBad}
 use Rattle.spec_session.specs.kinds.Kit.{heldBad, columnsBad}
 use Rattle.spec_session.specs.session_state.View.{heldOf, padded, stored, foreignOf}
-use Rattle.spec_session.specs.session.Answer.{answerOf, openOf}
+use Rattle.spec_session.specs.session.SessionCalls.{answerOf, openOf}
 use Rattle.promise.specs.Foreign.{Foreign}
 
 pub foreign-rows : Foreign

@@ -17,7 +17,7 @@ use Rattle.spec_session.proofs.session_counts.Numbers.{OfText, lines-number, op
 use Rattle.spec_session.specs.kinds.Takes.{machineOf, blankState}
 use Rattle.spec_session.specs.kinds.Kit.{kit}
 use Rattle.spec_session.specs.declared.session.Opened.{Opened}
-use Rattle.spec_session.specs.session.Answer.{OpenAnswered, openOf}
+use Rattle.spec_session.specs.session.SessionCalls.{OpenAnswered, openOf}
 use Rattle.promise.specs.Plain.{plainRead}
 use Rattle.promise.specs.Runs.{Made, callsOf, Ran, outcome}
 use Rattle.promise.specs.Promise.{configOf}

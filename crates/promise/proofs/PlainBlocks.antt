@@ -20,7 +20,7 @@ use Rattle.spec_format.specs.whole.Srt.{Block, blockOf, ontoBlock, ontoBlanks, 
 use Rattle.spec_session.specs.session_counts.Machine.{Machine, Says, faulty}
 use Rattle.spec_session.specs.session_counts.Reader.{Reading, fails, _⊕_, readLine, readClose}
 use Rattle.spec_session.specs.kinds.Takes.{State, blankState, withBlock, ofBlock, closes, adds, blockTakes, takes, blockEnds, ends, machineOf}
-use Rattle.promise.specs.Plain.{lineFault, bodyLineFault, unlessFault, bodyFault, blockThen, bodyThen, blanksThen, markBehind, closesBlock, blocksRead, restFault}
+use Rattle.promise.specs.Plain.{lineFault, bodyLineFault, unlessFault, bodyFault, blockThen, bodyThen, blanksThen, bomBehind, closesBlock, blocksRead, restFault}
 use Rattle.spec_format.proofs.whole.BlockShape.{blocks-none, blocks-blank, blocks-body}
 use Rattle.promise.proofs.Bare.{passed, endOf, readAll}
 use Rattle.promise.proofs.PlainAss.{rest-behind, ending}
@@ -45,12 +45,12 @@ body-none : (x size : ℕ) → bodyFault x size [] ≡ 0
 unfolding bodyFault
 body-none x size = refl
 
-mark-zero : (ks : List (List ℕ)) → markBehind 0 ks ≡ 0
+mark-zero : (ks : List (List ℕ)) → bomBehind 0 ks ≡ 0
 mark-zero [] = refl
 mark-zero (k ∷ ks) = refl
 
 body-append : (ks more : List (List ℕ)) (x size : ℕ) → bodyFault x size ks ≡ 0
-    → bodyFault x size (ks ++ more) ≡ bodyFault (markBehind x ks) (size + length (concat ks)) more
+    → bodyFault x size (ks ++ more) ≡ bodyFault (bomBehind x ks) (size + length (concat ks)) more
 unfolding bodyFault
 body-append [] more x size e = let z : size ≡ size + 0 = omega arith in ap (λ (k : ℕ). bodyFault x k more) z
 body-append (k ∷ ks) more x size e =
@@ -79,7 +79,7 @@ count-snoc : (ks : List (List ℕ)) (l : List ℕ) → lineCount (ks ++ (l ∷ [
 count-snoc [] l = refl
 count-snoc (k ∷ ks) l = ap suc (count-snoc ks l)
 
-mark-snoc : (x : ℕ) (ks : List (List ℕ)) (l : List ℕ) → markBehind x (ks ++ (l ∷ [])) ≡ 0
+mark-snoc : (x : ℕ) (ks : List (List ℕ)) (l : List ℕ) → bomBehind x (ks ++ (l ∷ [])) ≡ 0
 mark-snoc x [] l = refl
 mark-snoc x (k ∷ ks) l = refl
 
@@ -92,11 +92,11 @@ body-one : (x size : ℕ) (l : List ℕ) → bodyFault x size (l ∷ []) ≡ bod
 unfolding bodyFault
 body-one x size l = else-same (bodyLineFault x size l)
 
-body-snoc : (ks : List (List ℕ)) (l : List ℕ) (x : ℕ) → bodyFault x 0 ks ≡ 0 → bodyFault x 0 (ks ++ (l ∷ [])) ≡ bodyLineFault (markBehind x ks) (length (concat ks)) l
+body-snoc : (ks : List (List ℕ)) (l : List ℕ) (x : ℕ) → bodyFault x 0 ks ≡ 0 → bodyFault x 0 (ks ++ (l ∷ [])) ≡ bodyLineFault (bomBehind x ks) (length (concat ks)) l
 body-snoc ks l x e =
     let z : 0 + length (concat ks) ≡ length (concat ks) = omega arith in
-    body-append ks (l ∷ []) x 0 e ∙ body-one (markBehind x ks) (0 + length (concat ks)) l
-    ∙ ap (λ (i : ℕ). bodyLineFault (markBehind x ks) i l) z
+    body-append ks (l ∷ []) x 0 e ∙ body-one (bomBehind x ks) (0 + length (concat ks)) l
+    ∙ ap (λ (i : ℕ). bodyLineFault (bomBehind x ks) i l) z
 
 -- ---- no header is due behind a line
 pub due-past : (kind n : ℕ) (b : List (List ℕ)) → headerDue kind (suc n) b ≡ false
@@ -160,29 +160,29 @@ module _ (j0 : ℕ) where
 
   -- a block that a blank line closes
   closes-at : (f : Bool) (x n : ℕ) (body : List (List ℕ)) (l : List ℕ) (ls : List (List ℕ)) (after : Reading)
-      → closesBlock (suc j0) f x n body (l ∷ ls) after ≡ unlessFault (lineFault (markBehind x body) l) (bodyThen (suc j0) n body ((stays l ∷ []) ⊕ blanksThen ls after))
+      → closesBlock (suc j0) f x n body (l ∷ ls) after ≡ unlessFault (lineFault (bomBehind x body) l) (bodyThen (suc j0) n body ((stays l ∷ []) ⊕ blanksThen ls after))
   closes-at true x n body l ls after = refl
   closes-at false x n body l ls after = refl
 
   read-closed : (f : Bool) (z : Reading) (x n : ℕ) (ks : List (List ℕ)) (l : List ℕ) (ls : List (List ℕ)) (bs : List Block) → bodyFault x 0 ks ≡ 0
       → blocksRead (suc j0) f z x n (prefix ks (blockOf [] (l ∷ ls) ∷ bs))
-      ≡ unlessFault (lineFault (markBehind x ks) l) (bodyThen (suc j0) n ks ((stays l ∷ []) ⊕ blanksThen ls (blocksRead (suc j0) f z 0 (suc (n + lineCount ks) + lineCount ls) bs)))
+      ≡ unlessFault (lineFault (bomBehind x ks) l) (bodyThen (suc j0) n ks ((stays l ∷ []) ⊕ blanksThen ls (blocksRead (suc j0) f z 0 (suc (n + lineCount ks) + lineCount ls) bs)))
   read-closed f z x n ks l ls bs e =
       ap (λ (b : List (List ℕ)). blocksRead (suc j0) f z x n (blockOf b (l ∷ ls) ∷ bs)) (append-nil ks)
       ∙ read-block f z x n ks (l ∷ ls) bs
       ∙ ap (λ (i : ℕ). unlessFault i (closesBlock (suc j0) f x n ks (l ∷ ls) (blocksRead (suc j0) f z 0 (n + lineCount ks + lineCount (l ∷ ls)) bs))) e
       ∙ closes-at f x n ks l ls (blocksRead (suc j0) f z 0 (n + lineCount ks + lineCount (l ∷ ls)) bs)
       ∙ (let q : n + lineCount ks + suc (lineCount ls) ≡ suc (n + lineCount ks) + lineCount ls = omega arith in
-      ap (λ (i : ℕ). unlessFault (lineFault (markBehind x ks) l) (bodyThen (suc j0) n ks ((stays l ∷ []) ⊕ blanksThen ls (blocksRead (suc j0) f z 0 i bs)))) q)
+      ap (λ (i : ℕ). unlessFault (lineFault (bomBehind x ks) l) (bodyThen (suc j0) n ks ((stays l ∷ []) ⊕ blanksThen ls (blocksRead (suc j0) f z 0 i bs)))) q)
 
   -- a blank line, whatever comes behind it
   read-blank : (f : Bool) (z : Reading) (x n : ℕ) (ks : List (List ℕ)) (l : List ℕ) (bs : List Block) → bodyFault x 0 ks ≡ 0
       → blocksRead (suc j0) f z x n (prefix ks (blankOnto l bs))
-      ≡ unlessFault (lineFault (markBehind x ks) l) (bodyThen (suc j0) n ks ((stays l ∷ []) ⊕ blocksRead (suc j0) f z 0 (suc (n + lineCount ks)) bs))
+      ≡ unlessFault (lineFault (bomBehind x ks) l) (bodyThen (suc j0) n ks ((stays l ∷ []) ⊕ blocksRead (suc j0) f z 0 (suc (n + lineCount ks)) bs))
   read-blank f z x n ks l bs e = by-blocks bs
     where
       rest : Reading → Reading
-      rest r = unlessFault (lineFault (markBehind x ks) l) (bodyThen (suc j0) n ks ((stays l ∷ []) ⊕ r))
+      rest r = unlessFault (lineFault (bomBehind x ks) l) (bodyThen (suc j0) n ks ((stays l ∷ []) ⊕ r))
 
       same : (i : ℕ) (bs : List Block) → i ≡ suc (n + lineCount ks) → rest (blocksRead (suc j0) f z 0 i bs) ≡ rest (blocksRead (suc j0) f z 0 (suc (n + lineCount ks)) bs)
       same i bs q = ap (λ (i : ℕ). rest (blocksRead (suc j0) f z 0 i bs)) q
@@ -276,34 +276,34 @@ module _ (j0 : ℕ) where
       ∙ ap (closesBlock (suc j0) f x n (k ∷ ks) []) (read-none f z 0 (n + lineCount (k ∷ ks) + 0))
 
   end-read : (f : Bool) (x : ℕ) (r : List ℕ) (s : State) (n n0 : ℕ) → n ≡ n0 + lineCount (s .block) → headerDue (suc j0) n (s .block) ≡ false → bodyFault x 0 (s .block) ≡ 0
-      → endOf M f (markBehind x (s .block)) r s n ≡ blocksRead (suc j0) f (ending f (markBehind x (s .block)) [] r) x n0 (prefix (s .block) [])
+      → endOf M f (bomBehind x (s .block)) r s n ≡ blocksRead (suc j0) f (ending f (bomBehind x (s .block)) [] r) x n0 (prefix (s .block) [])
   end-read true x r s n n0 e d g =
       ap (readClose M) (ends-block s n d) ∙ close-read s n n0 (s .block) e
       ∙ sym (read-open true (fails 0) x n0 (s .block) g)
-  end-read false x r s n n0 e d g = sym (read-open false (ending false (markBehind x (s .block)) [] r) x n0 (s .block) g)
+  end-read false x r s n n0 e d g = sym (read-open false (ending false (bomBehind x (s .block)) [] r) x n0 (s .block) g)
 
   -- ---- all lines: s holds the open block's lines, which have passed their checks, and n0 lines came before them; no header is due
   abbrev Reads : Bool → List (List ℕ) → List ℕ → Type 0
   Reads f ls r =
       (x : ℕ) (s : State) (n n0 : ℕ) → n ≡ n0 + lineCount (s .block) → headerDue (suc j0) n (s .block) ≡ false → bodyFault x 0 (s .block) ≡ 0
-      → readAll M f (markBehind x (s .block)) ls r s n ≡ blocksRead (suc j0) f (ending f (markBehind x (s .block)) ls r) x n0 (prefix (s .block) (blocksOf (suc j0) ls))
+      → readAll M f (bomBehind x (s .block)) ls r s n ≡ blocksRead (suc j0) f (ending f (bomBehind x (s .block)) ls r) x n0 (prefix (s .block) (blocksOf (suc j0) ls))
 
   by-fault : (f : Bool) (l : List ℕ) (ls : List (List ℕ)) (r : List ℕ) → Reads f ls r → (x : ℕ) (s : State) (n n0 : ℕ) → n ≡ n0 + lineCount (s .block) → bodyFault x 0 (s .block) ≡ 0
-      → (k : ℕ) → bodyLineFault (markBehind x (s .block)) (length (concat (s .block))) l ≡ k
+      → (k : ℕ) → bodyLineFault (bomBehind x (s .block)) (length (concat (s .block))) l ≡ k
       → unlessFault k (readAll M f 0 ls r (withBlock (s .block ++ (l ∷ [])) s) (suc n))
-      ≡ blocksRead (suc j0) f (ending f (markBehind x (s .block)) (l ∷ ls) r) x n0 (prefix (s .block ++ (l ∷ [])) (blocksOf (suc j0) ls))
+      ≡ blocksRead (suc j0) f (ending f (bomBehind x (s .block)) (l ∷ ls) r) x n0 (prefix (s .block ++ (l ∷ [])) (blocksOf (suc j0) ls))
   by-fault f l ls r ih x s n n0 e g zero h =
       let q : suc n ≡ n0 + lineCount (s .block ++ (l ∷ [])) = omega (arith, count-snoc (s .block) l) in
       ap (λ (i : ℕ). readAll M f i ls r (withBlock (s .block ++ (l ∷ [])) s) (suc n)) (sym (mark-snoc x (s .block) l))
       ∙ ih x (withBlock (s .block ++ (l ∷ [])) s) (suc n) n0 q (due-past (suc j0) n (s .block ++ (l ∷ []))) (body-snoc (s .block) l x g ∙ h)
       ∙ ap (λ (i : ℕ). blocksRead (suc j0) f (fails i) x n0 (prefix (s .block ++ (l ∷ [])) (blocksOf (suc j0) ls)))
-      (ap (λ (i : ℕ). restFault f i ls r) (mark-snoc x (s .block) l) ∙ rest-behind f (markBehind x (s .block)) l ls r)
+      (ap (λ (i : ℕ). restFault f i ls r) (mark-snoc x (s .block) l) ∙ rest-behind f (bomBehind x (s .block)) l ls r)
   by-fault f l ls r ih x s n n0 e g (suc j) h =
-      sym (read-faulty f (ending f (markBehind x (s .block)) (l ∷ ls) r) x n0 j (s .block ++ (l ∷ [])) (blocksOf (suc j0) ls) (body-snoc (s .block) l x g ∙ h))
+      sym (read-faulty f (ending f (bomBehind x (s .block)) (l ∷ ls) r) x n0 j (s .block ++ (l ∷ [])) (blocksOf (suc j0) ls) (body-snoc (s .block) l x g ∙ h))
 
   blank-next : (f : Bool) (l : List ℕ) (ls : List (List ℕ)) (r : List ℕ) → Reads f ls r → blankIn (suc j0) l ≡ true → Reads f (l ∷ ls) r
   blank-next f l ls r ih p x s n n0 e d g =
-      let y : ℕ = markBehind x (s .block) in
+      let y : ℕ = bomBehind x (s .block) in
       let q : suc n ≡ suc n + 0 = omega arith in
       let m : suc n ≡ suc (n0 + lineCount (s .block)) = omega arith in
       blank-line y s n n0 l (λ t. readAll M f 0 ls r t (suc n)) e d p
@@ -316,7 +316,7 @@ module _ (j0 : ℕ) where
 
   body-next : (f : Bool) (l : List ℕ) (ls : List (List ℕ)) (r : List ℕ) → Reads f ls r → blankIn (suc j0) l ≡ false → Reads f (l ∷ ls) r
   body-next f l ls r ih p x s n n0 e d g =
-      let y : ℕ = markBehind x (s .block) in
+      let y : ℕ = bomBehind x (s .block) in
       let z : Reading = ending f y (l ∷ ls) r in
       let ks : List (List ℕ) = s .block ++ (l ∷ []) in
       body-line y s n l (λ t. readAll M f 0 ls r t (suc n)) d p
@@ -331,7 +331,7 @@ module _ (j0 : ℕ) where
   pub block-reads : (f : Bool) (ls : List (List ℕ)) (r : List ℕ) → Reads f ls r
   block-reads f [] r x s n n0 e d g =
       end-read f x r s n n0 e d g
-      ∙ ap (λ (bs : List Block). blocksRead (suc j0) f (ending f (markBehind x (s .block)) [] r) x n0 (prefix (s .block) bs)) (sym (blocks-none (suc j0)))
+      ∙ ap (λ (bs : List Block). blocksRead (suc j0) f (ending f (bomBehind x (s .block)) [] r) x n0 (prefix (s .block) bs)) (sym (blocks-none (suc j0)))
   block-reads f (l ∷ ls) r x s n n0 e d g = next-line f l ls r (block-reads f ls r) (blankIn (suc j0) l) refl x s n n0 e d g
 
   -- from an empty block

@@ -8,7 +8,7 @@ use lib.ListN.{length, drop}
 use Rattle.spec_base.specs.base.Limits.{mostLine}
 use Rattle.spec_text.specs.pattern.Find.{starts}
 use Rattle.spec_caption.specs.caption_time.Kind.{kindBad}
-use Rattle.spec_caption.specs.caption_fate.Mark.{bom, markWritten}
+use Rattle.spec_caption.specs.caption_fate.Bom.{bom, bomWritten}
 use Rattle.spec_caption.proofs.caption_time.Limits.{by-kind}
 use Rattle.spec_session.specs.session_counts.Cut.{closedLines, unfinished}
 use Rattle.spec_session.specs.session_counts.Machine.{hasBom}
@@ -80,10 +80,10 @@ module _ (kind : ℕ) (R : Reads kind) where
 
   by-mark : (f : Bool) (text : List ℕ) (b : Bool) → hasBom text ≡ b
       → readText (machineOf kind) f text
-      ≡ markWritten (b && opened kind f (cond b 3 0) (linesRead f (cond b (drop 3 text) text))) ⊕ readBehind kind f (cond b 3 0) (cond b (drop 3 text) text)
+      ≡ bomWritten (b && opened kind f (cond b 3 0) (linesRead f (cond b (drop 3 text) text))) ⊕ readBehind kind f (cond b 3 0) (cond b (drop 3 text) text)
   by-mark f text true e =
       marked-text (machineOf kind) f text e
-      ∙ ap₂ (λ (b : Bool) (r : Reading). markWritten b ⊕ r) (opens-same f 3 (linesRead f (drop 3 text))) (behind-same f 3 (drop 3 text))
+      ∙ ap₂ (λ (b : Bool) (r : Reading). bomWritten b ⊕ r) (opens-same f 3 (linesRead f (drop 3 text))) (behind-same f 3 (drop 3 text))
   by-mark f text false e = unmarked-text (machineOf kind) f text e ∙ behind-same f 0 text
 
   text-same : (f : Bool) (text : List ℕ) → said kind f text ≡ plainRead kind f text

@@ -24,7 +24,7 @@ use Rattle.spec_session.specs.declared.session_state.Session.{Session}
 use Rattle.spec_session.specs.session_state.View.{view, stored, padded, foreignOf}
 use Rattle.spec_session.proofs.session_state.ViewLaws.{view-stored, padded-length, native-view}
 use Rattle.spec_session.specs.declared.session.Fed.{Fed}
-use Rattle.spec_session.specs.session.Answer.{answerOf, sessionGate, gateNumber, nextBy, nextOf, Answered}
+use Rattle.spec_session.specs.session.SessionCalls.{answerOf, sessionGate, gateNumber, nextBy, nextOf, Answered}
 use Rattle.spec_session.proofs.session.CallLaws.{gate-passed, answer-by, settled-small}
 use Rattle.promise.specs.Runs.{Made, callsOf, Met, Ran, warningsIn, writtenBy, warnedBy, outcome}
 

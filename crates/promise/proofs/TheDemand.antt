@@ -26,7 +26,7 @@ use Rattle.spec_session.specs.declared.session_state.Session.{Session}
 use Rattle.spec_session.specs.session_state.View.{view, stored}
 use Rattle.spec_session.proofs.session_state.ViewLaws.{view-stored, padded-length}
 use Rattle.spec_session.specs.declared.session.Opened.{Opened}
-use Rattle.spec_session.specs.session.Answer.{OpenAnswered, openOf}
+use Rattle.spec_session.specs.session.SessionCalls.{OpenAnswered, openOf}
 use Rattle.promise.specs.Demand.{AllRight, saidIn, Demand}
 use Rattle.promise.specs.Runs.{Made, callsOf, Ran, outcome}
 use Rattle.promise.specs.Promise.{configOf}

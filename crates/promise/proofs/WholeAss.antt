@@ -9,14 +9,14 @@ use Rattle.spec_base.specs.base.Refusal.{_orElse_}
 use Rattle.spec_base.proofs.base.Laws.{and-true}
 use Rattle.spec_text.specs.text.Line.{linesOf, lineCount}
 use Rattle.spec_caption.specs.caption_fate.Says.{Part, Fault, longLine, notUtf8, longBlock, badTime, badHeader, faultNumber}
-use Rattle.spec_caption.specs.caption_fate.Mark.{marked, behindMark, markWritten}
+use Rattle.spec_caption.specs.caption_fate.Bom.{startsBom, behindBom, bomWritten}
 use Rattle.spec_format.specs.declared.ass_columns.Columns.{Columns}
 use Rattle.spec_format.specs.ass_line.Line.{LineSays, lineSays, faulty as lineFaulty, says as lineSaid}
-use Rattle.spec_format.specs.ass_line.Answer.{columnsAfter}
+use Rattle.spec_format.specs.ass_line.AssThrough.{columnsAfter}
 use Rattle.spec_format.specs.ass_columns.Columns.{noColumns}
 use Rattle.spec_format.specs.whole.Ass.{saidThen, linesSaid, columnsBehind, assSaid}
 use Rattle.spec_session.specs.session_counts.Reader.{Reading, fails}
-use Rattle.promise.specs.Plain.{markLength, lineFault, unlessFault, lineThen, assRead, markBehind, linesSay, opened, markBack, plainRead}
+use Rattle.promise.specs.Plain.{bomLength, lineFault, unlessFault, lineThen, assRead, bomBehind, linesSay, opened, bomBack, plainRead}
 use Rattle.promise.specs.Whole.{AssWhole, timeFault, AssStops, AssBefore}
 
 -- ---- lines, cut where the reader stops
@@ -29,7 +29,7 @@ record Cut (x : ℕ) (c : Columns) (n : ℕ) (ls : List (List ℕ)) : Type 0 whe
   cut : ls ≡ before ++ rest
   passes : read x c n before .fault ≡ 0
   parts : read x c n ls .parts ≡ linesSaid c n before
-  stops : AssStops (markBehind x before) (columnsBehind c n before) (n + lineCount before) rest (read x c n ls .fault)
+  stops : AssStops (bomBehind x before) (columnsBehind c n before) (n + lineCount before) rest (read x c n ls .fault)
 
 stops-same : (rest : List (List ℕ)) (x y : ℕ) (c d : Columns) (n m k j : ℕ) → x ≡ y → c ≡ d → n ≡ m → k ≡ j → AssStops x c n rest k → AssStops y d m rest j
 stops-same rest x y c d n m k j p q r s h =
@@ -38,7 +38,7 @@ stops-same rest x y c d n m k j p q r s h =
     (subst (λ (i : Columns). AssStops y i n rest k) q
     (subst (λ (i : ℕ). AssStops i c n rest k) p h)))
 
-pub mark-none : (ls : List (List ℕ)) → markBehind 0 ls ≡ 0
+pub mark-none : (ls : List (List ℕ)) → bomBehind 0 ls ≡ 0
 mark-none [] = refl
 mark-none (l ∷ ls) = refl
 
@@ -96,7 +96,7 @@ module _ (x : ℕ) (c : Columns) (n : ℕ) (l : List ℕ) where
             ∙ ap (λ (k : List Part). p ∷ k) (r .parts)
             ∙ sym (said-line (r .before) (lineSaid d p) f);
         stops =
-            stops-same (r .rest) (markBehind 0 (r .before)) 0 (columnsBehind d (suc n) (r .before)) (columnsBehind c n (l ∷ r .before))
+            stops-same (r .rest) (bomBehind 0 (r .before)) 0 (columnsBehind d (suc n) (r .before)) (columnsBehind c n (l ∷ r .before))
             (suc n + lineCount (r .before)) (n + suc (lineCount (r .before))) (read 0 d (suc n) ls .fault) (read x c n (l ∷ ls) .fault)
             (mark-none (r .before)) (sym (columns-line (r .before) (lineSaid d p) f)) m
             (sym (ap (λ (k : Reading). k .fault) (read-line ls 0 (lineSaid d p) e f))) (r .stops);
@@ -123,15 +123,15 @@ cut-lines (l ∷ ls) x c n = by-line x c n l ls (lineFault x l) (lineSays c n l)
 pub ass-before : (text : List ℕ) → AssBefore text
 unfolding plainRead linesSay
 ass-before text =
-    let r = cut-lines (linesOf (behindMark text)) (markLength text) noColumns 0 in
+    let r = cut-lines (linesOf (behindBom text)) (bomLength text) noColumns 0 in
     let m : 0 + lineCount (r .before) ≡ lineCount (r .before) = omega arith in
     record {
       before = r .before;
       rest = r .rest;
       cut = r .cut;
       passes = r .passes;
-      parts = ap (λ (ps : List Part). markBack 0 true text ++ ps) (r .parts);
-      stops = subst (λ (i : ℕ). AssStops (markBehind (markLength text) (r .before)) (columnsBehind noColumns 0 (r .before)) i (r .rest) (plainRead 0 true text .fault)) m (r .stops);
+      parts = ap (λ (ps : List Part). bomBack 0 true text ++ ps) (r .parts);
+      stops = subst (λ (i : ℕ). AssStops (bomBehind (bomLength text) (r .before)) (columnsBehind noColumns 0 (r .before)) i (r .rest) (plainRead 0 true text .fault)) m (r .stops);
     }
 
 -- without a fault nothing is left behind the cut, and a BOM was written back
@@ -148,16 +148,16 @@ unfolding assRead
 opened-all x [] e = refl
 opened-all x (l ∷ ls) e = ap (λ (k : ℕ). eqb k 0) (no-fault (lineFault x l) (lineThen (lineSays noColumns 0 l) (λ d. read 0 d 1 ls)) e)
 
-pub mark-back : (b o : Bool) → o ≡ true → markWritten (b && o) ≡ markWritten b
-mark-back b o e = ap (λ (t : Bool). markWritten (b && t)) e ∙ ap markWritten (and-true b)
+pub mark-back : (b o : Bool) → o ≡ true → bomWritten (b && o) ≡ bomWritten b
+mark-back b o e = ap (λ (t : Bool). bomWritten (b && t)) e ∙ ap bomWritten (and-true b)
 
 pub ass-whole : AssWhole
 unfolding plainRead linesSay assSaid
 ass-whole text e =
     let r = ass-before text in
-    let none = rest-none (markBehind (markLength text) (r .before)) (columnsBehind noColumns 0 (r .before)) (lineCount (r .before)) (plainRead 0 true text .fault) (r .rest) (r .stops) e in
-    let all : linesOf (behindMark text) ≡ r .before = r .cut ∙ ap (λ (k : List (List ℕ)). r .before ++ k) none ∙ append-nil (r .before) in
+    let none = rest-none (bomBehind (bomLength text) (r .before)) (columnsBehind noColumns 0 (r .before)) (lineCount (r .before)) (plainRead 0 true text .fault) (r .rest) (r .stops) e in
+    let all : linesOf (behindBom text) ≡ r .before = r .cut ∙ ap (λ (k : List (List ℕ)). r .before ++ k) none ∙ append-nil (r .before) in
     r .parts
     ∙ ap₂ (λ (a b : List Part). a ++ b)
-    (mark-back (marked text) (opened 0 true (markLength text) (linesOf (behindMark text))) (opened-all (markLength text) (linesOf (behindMark text)) e))
+    (mark-back (startsBom text) (opened 0 true (bomLength text) (linesOf (behindBom text))) (opened-all (bomLength text) (linesOf (behindBom text)) e))
     (ap (linesSaid noColumns 0) (sym all))

@@ -12,7 +12,7 @@ use Rattle.spec_format.specs.block_cue.Block.{BlockSays, blockSays, faulty as b
 use Rattle.spec_format.specs.whole.Srt.{Block, blockOf, blockSaidThen, bodySaid, blocksSaid}
 use Rattle.spec_format.proofs.whole.BlockShape.{blockLines, AllBlank, Lines, BlankBehind, Others, Blocks, lines-more, others-blocks}
 use Rattle.spec_session.specs.session_counts.Reader.{Reading, fails, _⊕_}
-use Rattle.promise.specs.Plain.{lineFault, unlessFault, bodyFault, blockThen, bodyThen, blanksThen, markBehind, closesBlock, blocksRead}
+use Rattle.promise.specs.Plain.{lineFault, unlessFault, bodyFault, blockThen, bodyThen, blanksThen, bomBehind, closesBlock, blocksRead}
 use Rattle.promise.specs.Whole.{blockTimeFault, bodyTimeFault, firstBlankFault, blockFault, BlocksStop, endsBlank}
 use Rattle.promise.proofs.LinesCut.{many-append}
 use Rattle.promise.proofs.WholeAss.{mark-none, number-positive}
@@ -65,7 +65,7 @@ blanks-cut [] = all (λ r. refl)
 blanks-cut (l ∷ ls) = blanks-by l ls (lineFault 0 l) refl (blanks-cut ls)
 
 -- ---- lines in a row
-mark-lines : (x : ℕ) (ks : List (List ℕ)) → Lines ks → markBehind x ks ≡ 0
+mark-lines : (x : ℕ) (ks : List (List ℕ)) → Lines ks → bomBehind x ks ≡ 0
 mark-lines x [] h = absurd h
 mark-lines x (k ∷ ks) h = refl
 
@@ -101,7 +101,7 @@ module _ (kind : ℕ) where
   body-said n (l ∷ ls) ps e = block-said (blockSays (styleOf kind) (suc n) (l ∷ ls)) ps e
 
   closes-read : (x n : ℕ) (body blanks : List (List ℕ)) (r : Reading)
-      → closesBlock kind true x n body blanks r ≡ unlessFault (firstBlankFault (markBehind x body) blanks) (bodyThen kind n body (blanksRead blanks r))
+      → closesBlock kind true x n body blanks r ≡ unlessFault (firstBlankFault (bomBehind x body) blanks) (bodyThen kind n body (blanksRead blanks r))
   closes-read x n body [] r = refl
   closes-read x n body (l ∷ ls) r = refl
 
@@ -155,7 +155,7 @@ module _ (kind : ℕ) where
     pub closed : 0 < read x n bs .fault → endsBlank kind (blockLines before) ≡ true
     pub passes : read x n before .fault ≡ 0
     pub parts : read x n bs .parts ≡ blocksSaid kind n before
-    pub stops : BlocksStop kind (markBehind x (blockLines before)) (n + lineCount (blockLines before)) rest (read x n bs .fault)
+    pub stops : BlocksStop kind (bomBehind x (blockLines before)) (n + lineCount (blockLines before)) rest (read x n bs .fault)
 
   pub stops-same : (rest : List Block) (x y n m k j : ℕ) → x ≡ y → n ≡ m → k ≡ j → BlocksStop kind x n rest k → BlocksStop kind y m rest j
   stops-same rest x y n m k j p r s h =
@@ -175,27 +175,27 @@ module _ (kind : ℕ) where
 
     read-block : (blanks : List (List ℕ)) (bs : List Block)
         → read x n (blockOf body blanks ∷ bs)
-        ≡ unlessFault (bodyFault x 0 body) (unlessFault (firstBlankFault (markBehind x body) blanks) (bodyThen kind n body (blanksRead blanks (read 0 (next blanks) bs))))
+        ≡ unlessFault (bodyFault x 0 body) (unlessFault (firstBlankFault (bomBehind x body) blanks) (bodyThen kind n body (blanksRead blanks (read 0 (next blanks) bs))))
     unfolding blocksRead
     read-block blanks bs = ap (unlessFault (bodyFault x 0 body)) (closes-read x n body blanks (read 0 (next blanks) bs))
 
     read-fault : (blanks : List (List ℕ)) (bs : List Block) (k : ℕ) → blockFault kind x n body blanks ≡ suc k → read x n (blockOf body blanks ∷ bs) ≡ fails (suc k)
     read-fault blanks bs k e =
         read-block blanks bs
-        ∙ faults n body (bodyFault x 0 body) (firstBlankFault (markBehind x body) blanks) k (blanksRead blanks (read 0 (next blanks) bs)) e
+        ∙ faults n body (bodyFault x 0 body) (firstBlankFault (bomBehind x body) blanks) k (blanksRead blanks (read 0 (next blanks) bs)) e
 
     read-pass : (blanks : List (List ℕ)) (bs : List Block) → blockFault kind x n body blanks ≡ 0
         → read x n (blockOf body blanks ∷ bs) ≡ bodyParts n body ⊕ blanksRead blanks (read 0 (next blanks) bs)
     read-pass blanks bs e =
         read-block blanks bs
-        ∙ no-faults n body (bodyFault x 0 body) (firstBlankFault (markBehind x body) blanks) (blanksRead blanks (read 0 (next blanks) bs)) e
+        ∙ no-faults n body (bodyFault x 0 body) (firstBlankFault (bomBehind x body) blanks) (blanksRead blanks (read 0 (next blanks) bs)) e
 
     said-pass : (blanks : List (List ℕ)) (bs : List Block) → blockFault kind x n body blanks ≡ 0
         → blocksSaid kind n (blockOf body blanks ∷ bs) ≡ bodyParts n body ++ (map stays blanks ++ blocksSaid kind (next blanks) bs)
     unfolding blocksSaid
     said-pass blanks bs e =
         body-said n body (map stays blanks ++ blocksSaid kind (next blanks) bs)
-        (no-time-fault n body (bodyFault x 0 body) (firstBlankFault (markBehind x body) blanks) e)
+        (no-time-fault n body (bodyFault x 0 body) (firstBlankFault (bomBehind x body) blanks) e)
 
     -- a block with a fault
     here : (blanks : List (List ℕ)) (bs : List Block) (k : ℕ) → Blocks kind (blockOf body blanks ∷ bs) → blockFault kind x n body blanks ≡ suc k → Cut x n (blockOf body blanks ∷ bs)
@@ -252,7 +252,7 @@ module _ (kind : ℕ) where
               ∙ ap (λ (y : Reading). y .fault) (all-p (fails 0));
           parts = ap (λ (y : Reading). y .parts) r ∙ sym (said-pass (l₀ ∷ p) [] e);
           stops =
-              stops-same (blockOf [] (l ∷ q) ∷ bs) 0 (markBehind x head) (n + lineCount head) (n + lineCount head) (suc k) (read x n (blockOf body (l₀ ∷ ls) ∷ bs) .fault)
+              stops-same (blockOf [] (l ∷ q) ∷ bs) 0 (bomBehind x head) (n + lineCount head) (n + lineCount head) (suc k) (read x n (blockOf body (l₀ ∷ ls) ∷ bs) .fault)
               (sym (mark-lines x head (lines-last body l₀ (p ++ [])))) refl (sym (ap (λ (y : Reading). y .fault) r)) (sym own, z);
         }
 
@@ -287,7 +287,7 @@ module _ (kind : ℕ) where
               ∙ ap (λ (y : List Part). bodyParts n body ++ (map stays blanks ++ y)) (c .parts)
               ∙ sym (said-pass blanks (c .before) e);
           stops =
-              stops-same (c .rest) (markBehind 0 head) (markBehind x (body ++ (blanks ++ head))) (next blanks + lineCount head) (n + lineCount (body ++ (blanks ++ head)))
+              stops-same (c .rest) (bomBehind 0 head) (bomBehind x (body ++ (blanks ++ head))) (next blanks + lineCount head) (n + lineCount (body ++ (blanks ++ head)))
               (read 0 (next blanks) bs .fault) (read x n (blockOf body blanks ∷ bs) .fault)
               (mark-none head ∙ sym (mark-lines x (body ++ (blanks ++ head)) (lines-either body blanks head (h .2)))) m
               (sym (ap (λ (y : Reading). y .fault) (reads bs))) (c .stops);

@@ -10,11 +10,11 @@ use Rattle.spec_base.specs.base.Refusal.{_orElse_}
 use Rattle.spec_base.proofs.base.RefusalLaws.{else-zero}
 use Rattle.spec_text.specs.text.Line.{linesOf, lineCount}
 use Rattle.spec_caption.specs.caption_fate.Says.{Part}
-use Rattle.spec_caption.specs.caption_fate.Mark.{marked, behindMark}
+use Rattle.spec_caption.specs.caption_fate.Bom.{startsBom, behindBom}
 use Rattle.spec_format.specs.block_timing.Style.{blankIn}
 use Rattle.spec_format.specs.whole.Srt.{Block, ontoBlock, ontoBlanks, blankOnto, blocksOf, blocksSaid, srtSaid}
 use Rattle.spec_format.proofs.whole.BlockShape.{blockLines, blocks-joined, blocks-shape, blocks-only, blocks-blank, blocks-body}
-use Rattle.promise.specs.Plain.{markLength, lineFault, bodyLineFault, bodyFault, markBehind, blocksRead, linesSay, opened, markBack, plainRead}
+use Rattle.promise.specs.Plain.{bomLength, lineFault, bodyLineFault, bodyFault, bomBehind, blocksRead, linesSay, opened, bomBack, plainRead}
 use Rattle.promise.specs.Whole.{SrtWhole, BlocksStop, SrtBefore}
 use Rattle.promise.proofs.WholeAss.{no-fault, mark-back}
 use Rattle.promise.proofs.WholeBlocks.{read, Cut, cut-blocks, rest-none}
@@ -23,8 +23,8 @@ use Rattle.promise.proofs.WholeBlocks.{read, Cut, cut-blocks, rest-none
 pub srt-before : (text : List ℕ) → SrtBefore text
 unfolding plainRead linesSay
 srt-before text =
-    let ls : List (List ℕ) = linesOf (behindMark text) in
-    let r = cut-blocks 1 (blocksOf 1 ls) (markLength text) 0 (blocks-shape 1 ls) in
+    let ls : List (List ℕ) = linesOf (behindBom text) in
+    let r = cut-blocks 1 (blocksOf 1 ls) (bomLength text) 0 (blocks-shape 1 ls) in
     let head : blocksOf 1 (blockLines (r .before)) ≡ r .before = blocks-only 1 (r .before) (r .shape-before) in
     let tail : blocksOf 1 (blockLines (r .rest)) ≡ r .rest = blocks-only 1 (r .rest) (r .shape-rest) in
     let m : 0 + lineCount (blockLines (r .before)) ≡ lineCount (blockLines (r .before)) = omega arith in
@@ -33,11 +33,11 @@ srt-before text =
       rest = blockLines (r .rest);
       cut = sym (blocks-joined 1 ls) ∙ r .cut;
       closed = r .closed;
-      passes = ap (λ (bs : List Block). read 1 (markLength text) 0 bs .fault) head ∙ r .passes;
-      parts = ap (λ (ps : List Part). markBack 1 true text ++ ps) (r .parts ∙ ap (blocksSaid 1 0) (sym head));
+      passes = ap (λ (bs : List Block). read 1 (bomLength text) 0 bs .fault) head ∙ r .passes;
+      parts = ap (λ (ps : List Part). bomBack 1 true text ++ ps) (r .parts ∙ ap (blocksSaid 1 0) (sym head));
       stops =
-          subst (λ (bs : List Block). BlocksStop 1 (markBehind (markLength text) (blockLines (r .before))) (lineCount (blockLines (r .before))) bs (plainRead 1 true text .fault)) (sym tail)
-          (subst (λ (i : ℕ). BlocksStop 1 (markBehind (markLength text) (blockLines (r .before))) i (r .rest) (plainRead 1 true text .fault)) m (r .stops));
+          subst (λ (bs : List Block). BlocksStop 1 (bomBehind (bomLength text) (blockLines (r .before))) (lineCount (blockLines (r .before))) bs (plainRead 1 true text .fault)) (sym tail)
+          (subst (λ (i : ℕ). BlocksStop 1 (bomBehind (bomLength text) (blockLines (r .before))) i (r .rest) (plainRead 1 true text .fault)) m (r .stops));
     }
 
 -- without a fault a BOM was written back
@@ -68,11 +68,11 @@ pub srt-whole : SrtWhole
 unfolding plainRead linesSay srtSaid
 srt-whole text e =
     let r = srt-before text in
-    let ls : List (List ℕ) = linesOf (behindMark text) in
-    let none = rest-none 1 (markBehind (markLength text) (r .before)) (lineCount (r .before)) (plainRead 1 true text .fault) (blocksOf 1 (r .rest)) (r .stops) e in
+    let ls : List (List ℕ) = linesOf (behindBom text) in
+    let none = rest-none 1 (bomBehind (bomLength text) (r .before)) (lineCount (r .before)) (plainRead 1 true text .fault) (blocksOf 1 (r .rest)) (r .stops) e in
     let rest : r .rest ≡ [] = sym (blocks-joined 1 (r .rest)) ∙ ap blockLines none in
     let whole : ls ≡ r .before = r .cut ∙ ap (λ (k : List (List ℕ)). r .before ++ k) rest ∙ append-nil (r .before) in
     r .parts
     ∙ ap₂ (λ (a b : List Part). a ++ b)
-    (mark-back (marked text) (opened 1 true (markLength text) ls) (opened-all (markLength text) ls e))
+    (mark-back (startsBom text) (opened 1 true (bomLength text) ls) (opened-all (bomLength text) ls e))
     (ap (λ (k : List (List ℕ)). blocksSaid 1 0 (blocksOf 1 k)) (sym whole))

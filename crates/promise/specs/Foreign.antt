@@ -8,7 +8,7 @@ use Rattle.spec_format.specs.declared.ass_columns.Columns.{Columns}
 use Rattle.spec_session.specs.declared.session_counts.Counts.{Counts}
 use Rattle.spec_session.specs.declared.session_state.Session.{Session}
 use Rattle.spec_session.specs.session_state.View.{stored, foreignOf}
-use Rattle.spec_session.specs.session.Answer.{feedCall, finishCall, answerOf, openOf}
+use Rattle.spec_session.specs.session.SessionCalls.{feedCall, finishCall, answerOf, openOf}
 
 abbrev pub counted : (shifted clipped dropped passed : ℕ) → Counts
 counted s k d p = record { shifted = s; clipped = k; dropped = d; passed = p }

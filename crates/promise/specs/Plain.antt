@@ -10,7 +10,7 @@ use Rattle.spec_text.specs.utf8.Utf8.{utf8}
 use Rattle.spec_text.specs.pattern.Find.{starts, equals}
 use Rattle.spec_text.specs.text.Line.{linesOf, lineCount, textOf}
 use Rattle.spec_caption.specs.caption_fate.Says.{Part, stays, faultNumber}
-use Rattle.spec_caption.specs.caption_fate.Mark.{marked, behindMark, markWritten}
+use Rattle.spec_caption.specs.caption_fate.Bom.{startsBom, behindBom, bomWritten}
 use Rattle.spec_format.specs.declared.ass_columns.Columns.{Columns}
 use Rattle.spec_format.specs.ass_line.Line.{LineSays, lineSays, faulty as lineFaulty, says as lineSaid}
 use Rattle.spec_format.specs.ass_columns.Columns.{noColumns}
@@ -21,8 +21,8 @@ use Rattle.spec_session.specs.session_counts.Cut.{closedLines, unfinished}
 use Rattle.spec_session.specs.session_counts.Reader.{Reading, fails, _⊕_}
 
 -- ---- the bytes that a leading BOM adds to the first line
-abbrev pub markLength : List ℕ → ℕ
-markLength text = cond (marked text) 3 0
+abbrev pub bomLength : List ℕ → ℕ
+bomLength text = cond (startsBom text) 3 0
 
 -- ---- the checks of a line: 19 (x bytes of BOM stand before it), 20, and for a line of a block 21 (size bytes of the block came before it)
 unfoldable pub lineFault : (x : ℕ) → List ℕ → ℕ
@@ -66,15 +66,15 @@ blanksThen [] after = after
 blanksThen (l ∷ ls) after = unlessFault (lineFault 0 l) ((stays l ∷ []) ⊕ blanksThen ls after)
 
 -- the bytes of BOM before the line behind some lines: only a first line has them
-abbrev pub markBehind : (x : ℕ) → List (List ℕ) → ℕ
-markBehind x [] = x
-markBehind x (l ∷ ls) = 0
+abbrev pub bomBehind : (x : ℕ) → List (List ℕ) → ℕ
+bomBehind x [] = x
+bomBehind x (l ∷ ls) = 0
 
 -- a block ends at its first blank line, behind that line's own checks, or at finish; one that neither has closed is left out
 abbrev pub closesBlock : (kind : ℕ) → (finished : Bool) → (x n : ℕ) → (body blanks : List (List ℕ)) → Reading → Reading
 closesBlock kind true x n body [] after = bodyThen kind n body after
 closesBlock kind false x n body [] after = after
-closesBlock kind f x n body (l ∷ ls) after = unlessFault (lineFault (markBehind x body) l) (bodyThen kind n body ((stays l ∷ []) ⊕ blanksThen ls after))
+closesBlock kind f x n body (l ∷ ls) after = unlessFault (lineFault (bomBehind x body) l) (bodyThen kind n body ((stays l ∷ []) ⊕ blanksThen ls after))
 
 unfoldable pub blocksRead : (kind : ℕ) → (finished : Bool) → (end : Reading) → (x n : ℕ) → List Block → Reading
 blocksRead kind f end x n [] = end
@@ -133,8 +133,8 @@ module _ (kind : ℕ) (finished : Bool) where
   abbrev pub readBehind : (x : ℕ) → (t : List ℕ) → Reading
   readBehind x t = linesSay kind finished (fails (restFault finished x (closedLines t) (unfinished t))) x (linesRead finished t)
 
-  abbrev pub markBack : (text : List ℕ) → List Part
-  markBack text = markWritten (marked text && opened kind finished (markLength text) (linesRead finished (behindMark text)))
+  abbrev pub bomBack : (text : List ℕ) → List Part
+  bomBack text = bomWritten (startsBom text && opened kind finished (bomLength text) (linesRead finished (behindBom text)))
 
   unfoldable pub plainRead : (text : List ℕ) → Reading
-  plainRead text = markBack text ⊕ readBehind (markLength text) (behindMark text)
+  plainRead text = bomBack text ⊕ readBehind (bomLength text) (behindBom text)

@@ -31,7 +31,7 @@ use Rattle.spec_session.specs.session_counts.Counts.{total, CountedBy}
 use Rattle.spec_session.specs.session_counts.Calls.{Proper, newReader, numbersHeard}
 use Rattle.spec_session.specs.declared.session_state.Session.{Session}
 use Rattle.spec_session.specs.declared.session.Opened.{Opened}
-use Rattle.spec_session.specs.session.Answer.{OpenAnswered}
+use Rattle.spec_session.specs.session.SessionCalls.{OpenAnswered}
 use Rattle.promise.specs.Plain.{plainRead}
 use Rattle.promise.specs.Demand.{PartRight, passings, readerIn, saidIn}
 use Rattle.promise.specs.Runs.{Made, callsOf, Ran, writtenBy, warnedBy, lastOf}

@@ -10,7 +10,7 @@ use Rattle.spec_session.specs.session_counts.Calls.{Played}
 use Rattle.spec_session.specs.declared.session_state.Session.{Session}
 use Rattle.spec_session.specs.session_state.View.{view}
 use Rattle.spec_session.specs.declared.session.Fed.{Fed}
-use Rattle.spec_session.specs.session.Answer.{feedCall, finishCall, Answered}
+use Rattle.spec_session.specs.session.SessionCalls.{feedCall, finishCall, Answered}
 
 -- a call that was made: its arguments but the session (the map, the piece, the lengths lent), the output and the places as they were lent, what
 -- came back, and what stood in both afterwards

@@ -15,7 +15,7 @@ use Rattle.spec_caption.specs.caption_fate.Emit.{Emit, emitsOf}
 use Rattle.spec_session.specs.session_counts.Calls.{Proper}
 use Rattle.spec_session.specs.declared.session_state.Session.{Session}
 use Rattle.spec_session.specs.declared.session.Opened.{Opened}
-use Rattle.spec_session.specs.session.Answer.{OpenAnswered}
+use Rattle.spec_session.specs.session.SessionCalls.{OpenAnswered}
 use Rattle.promise.specs.Demand.{PartRight, AllRight, saidIn, Demand}
 use Rattle.promise.specs.Runs.{Made, callsOf, Ran, outcome}
 use Rattle.promise.specs.Promise.{configOf, AsSaid}

@@ -8,7 +8,7 @@ use Prim.Native.Nat.{ℕ, suc, _<_}
 use Rattle.spec_base.specs.base.Refusal.{_orElse_}
 use Rattle.spec_text.specs.text.Line.{linesOf, lineCount}
 use Rattle.spec_caption.specs.caption_fate.Says.{stays, faultNumber}
-use Rattle.spec_caption.specs.caption_fate.Mark.{marked, behindMark, markWritten}
+use Rattle.spec_caption.specs.caption_fate.Bom.{startsBom, behindBom, bomWritten}
 use Rattle.spec_format.specs.declared.ass_columns.Columns.{Columns}
 use Rattle.spec_format.specs.ass_line.Line.{LineSays, lineSays, faulty as lineFaulty, says as lineSaid}
 use Rattle.spec_format.specs.ass_columns.Columns.{noColumns}
@@ -18,7 +18,7 @@ use Rattle.spec_format.specs.block_cue.Block.{BlockSays, blockSays, faulty as b
 use Rattle.spec_format.specs.whole.Srt.{Block, blocksOf, blocksSaid, srtSaid}
 use Rattle.spec_format.specs.whole.Vtt.{vttSaid}
 use Rattle.spec_session.specs.session_counts.Reader.{fails}
-use Rattle.promise.specs.Plain.{markLength, lineFault, assRead, bodyFault, markBehind, blocksRead, headFault, markBack, plainRead}
+use Rattle.promise.specs.Plain.{bomLength, lineFault, assRead, bodyFault, bomBehind, blocksRead, headFault, bomBack, plainRead}
 
 -- ---- without a fault
 abbrev pub AssWhole : Type 0
@@ -45,10 +45,10 @@ AssStops x c n (l ∷ ls) k = (k ≡ lineFault x l orElse timeFault (lineSays c 
 pub record AssBefore (text : List ℕ) : Type 0 where
   pub before : List (List ℕ)
   pub rest : List (List ℕ)
-  pub cut : linesOf (behindMark text) ≡ before ++ rest
-  pub passes : assRead (fails 0) (markLength text) noColumns 0 before .fault ≡ 0
-  pub parts : plainRead 0 true text .parts ≡ markBack 0 true text ++ linesSaid noColumns 0 before
-  pub stops : AssStops (markBehind (markLength text) before) (columnsBehind noColumns 0 before) (lineCount before) rest (plainRead 0 true text .fault)
+  pub cut : linesOf (behindBom text) ≡ before ++ rest
+  pub passes : assRead (fails 0) (bomLength text) noColumns 0 before .fault ≡ 0
+  pub parts : plainRead 0 true text .parts ≡ bomBack 0 true text ++ linesSaid noColumns 0 before
+  pub stops : AssStops (bomBehind (bomLength text) before) (columnsBehind noColumns 0 before) (lineCount before) rest (plainRead 0 true text .fault)
 
 -- ---- blocks: before a fault
 abbrev pub blockTimeFault : BlockSays → ℕ
@@ -65,7 +65,7 @@ firstBlankFault x (l ∷ ls) = lineFault x l
 
 -- a block: 19, 20, 21 of its lines, 19 and 20 of its first blank line, then a bad time
 abbrev pub blockFault : (kind x n : ℕ) → (body blanks : List (List ℕ)) → ℕ
-blockFault kind x n body blanks = bodyFault x 0 body orElse (firstBlankFault (markBehind x body) blanks orElse bodyTimeFault kind n body)
+blockFault kind x n body blanks = bodyFault x 0 body orElse (firstBlankFault (bomBehind x body) blanks orElse bodyTimeFault kind n body)
 
 -- the reader stops without a fault behind the last block, else at a block by that block's fault
 abbrev pub BlocksStop : (kind x n : ℕ) → (rest : List Block) → (fault : ℕ) → Type 0
@@ -82,11 +82,11 @@ endsBlank kind (l ∷ k ∷ ls) = endsBlank kind (k ∷ ls)
 pub record SrtBefore (text : List ℕ) : Type 0 where
   pub before : List (List ℕ)
   pub rest : List (List ℕ)
-  pub cut : linesOf (behindMark text) ≡ before ++ rest
+  pub cut : linesOf (behindBom text) ≡ before ++ rest
   pub closed : 0 < plainRead 1 true text .fault → endsBlank 1 before ≡ true
-  pub passes : blocksRead 1 true (fails 0) (markLength text) 0 (blocksOf 1 before) .fault ≡ 0
-  pub parts : plainRead 1 true text .parts ≡ markBack 1 true text ++ blocksSaid 1 0 (blocksOf 1 before)
-  pub stops : BlocksStop 1 (markBehind (markLength text) before) (lineCount before) (blocksOf 1 rest) (plainRead 1 true text .fault)
+  pub passes : blocksRead 1 true (fails 0) (bomLength text) 0 (blocksOf 1 before) .fault ≡ 0
+  pub parts : plainRead 1 true text .parts ≡ bomBack 1 true text ++ blocksSaid 1 0 (blocksOf 1 before)
+  pub stops : BlocksStop 1 (bomBehind (bomLength text) before) (lineCount before) (blocksOf 1 rest) (plainRead 1 true text .fault)
 
 -- ---- WebVTT: a text without a first line, or stopped at it, says nothing; else the first line passed, and behind it the lines are cut as SRT's
 abbrev pub FirstStops : (x : ℕ) → (lines : List (List ℕ)) → (fault : ℕ) → Type 0
@@ -95,17 +95,17 @@ FirstStops x (l ∷ ls) k = (k ≡ headFault x l) × (0 < k)
 
 pub record VttAtFirst (text : List ℕ) : Type 0 where
   pub parts : plainRead 2 true text .parts ≡ []
-  pub stops : FirstStops (markLength text) (linesOf (behindMark text)) (plainRead 2 true text .fault)
+  pub stops : FirstStops (bomLength text) (linesOf (behindBom text)) (plainRead 2 true text .fault)
 
 pub record VttBehind (text : List ℕ) : Type 0 where
   pub head : List ℕ
   pub before : List (List ℕ)
   pub rest : List (List ℕ)
-  pub cut : linesOf (behindMark text) ≡ head ∷ (before ++ rest)
-  pub heads : headFault (markLength text) head ≡ 0
+  pub cut : linesOf (behindBom text) ≡ head ∷ (before ++ rest)
+  pub heads : headFault (bomLength text) head ≡ 0
   pub closed : 0 < plainRead 2 true text .fault → endsBlank 2 before ≡ true
   pub passes : blocksRead 2 true (fails 0) 0 1 (blocksOf 2 before) .fault ≡ 0
-  pub parts : plainRead 2 true text .parts ≡ markWritten (marked text) ++ stays head ∷ blocksSaid 2 1 (blocksOf 2 before)
+  pub parts : plainRead 2 true text .parts ≡ bomWritten (startsBom text) ++ stays head ∷ blocksSaid 2 1 (blocksOf 2 before)
   pub stops : BlocksStop 2 0 (suc (lineCount before)) (blocksOf 2 rest) (plainRead 2 true text .fault)
 
 abbrev pub VttBefore : (text : List ℕ) → Type 0

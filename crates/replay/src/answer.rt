@@ -1,10 +1,10 @@
 // The answer to a case, by its op.
-use crate::mapping::asks;
-use crate::mapping::map_texts;
-use crate::mapping::print_made;
-use crate::mapping::texts;
-use crate::mapping::through_made;
 use libc::STDOUT_FILENO;
+use replay_maps::asks;
+use replay_maps::map_texts;
+use replay_maps::print_made;
+use replay_maps::texts;
+use replay_maps::through_made;
 
 fn wide(x: u32) -> u64 {
     x as u64

@@ -1,13 +1,12 @@
 // Answers a stream of cases on standard input: eight 32-bit words `op a b c d lenX lenY lenZ`, then the bytes X, Y and Z.
-// Ops: 1 a trim list, 2 a map, 3 a text retimed, 4 a conversion, 5 a text retimed through a given map; a map as JSON (crate `maptexts`): 6 a given one
-// written, 7 one read; what is asked about a given map (crate `queries`): 8 what becomes of a caption and why, 9 what is sure of a caption whose times are
-// known only roughly, 10 whether it ascends, 11 how many starts of a caption survive the cut, 12 the delay that loses least; and (crate `retimings`) 13 a text
-// retimed with parkings, 14 a session taken up, 15 a session parked; and (crate `cuetexts`) 16 the captions of the text Z of the kind b as rows, c places being
+// Ops: 1 a trim list, 2 a map, 3 a text retimed, 4 a conversion, 5 a text retimed through a given map; a map as JSON (crate `replay_json`): 6 a given one
+// written, 7 one read; what is asked about a given map (crate `replay_ask`): 8 what becomes of a caption and why, 9 what is sure of a caption whose times are
+// known only roughly, 10 whether it ascends, 11 how many starts of a caption survive the cut, 12 the delay that loses least; and (crate `replay_sessions`) 13 a text
+// retimed with parkings, 14 a session taken up, 15 a session parked; and (crate `replay_rows`) 16 the captions of the text Z of the kind b as rows, c places being
 // lent for them, 0 as many as it needs. The answers to 1 to 7 have the form of the program that this one is compared with. Word c of
 // ops 2 and 3 is the number of work bytes lent, 0 being 131,072. Word d of ops 3 and 5 says how the text is cut into pieces; the answer is the same for each.
 mod answer;
 mod input;
-mod mapping;
 
 use libc::STDOUT_FILENO;
 

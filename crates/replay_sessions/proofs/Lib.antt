@@ -1,2 +1,1 @@
 pub mod OpLaws
-pub mod RunLaws

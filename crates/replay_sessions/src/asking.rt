@@ -1,8 +1,8 @@
 // The answer by its op.
 use crate::parked::print_parked;
 use crate::retimed::print_retimed;
-use crate::storing::Plan;
-use crate::taken::print_taken;
+use replay_feeds::Plan;
+use replay_taken::print_taken;
 ghost use mathlib.Core.Path.{_≡_};
 ghost use Rattle.replay_sessions.specs.Op.{isText};
 

@@ -1,9 +1,9 @@
 // The session that a text leaves, parked.
 use crate::printing::print_output;
-use crate::running::Step;
-use crate::running::end;
-use crate::running::feed_all;
-use crate::storing::Plan;
+use replay_feeds::Plan;
+use replay_feeds::Step;
+use replay_feeds::end;
+use replay_feeds::feed_all;
 use session_state::Session;
 
 // The text in pieces, then a finish where one is asked for.

@@ -1,6 +1,6 @@
 // What a text became, printed.
-use crate::notes::number_at;
 use libc::STDOUT_FILENO;
+use replay_feeds::number_at;
 use session_counts::Counts;
 
 // The line `retimed` with its four counts.

@@ -1,11 +1,11 @@
 // A text retimed.
 use crate::printing::print_counts;
 use crate::printing::print_output;
-use crate::running::Step;
-use crate::running::end;
-use crate::running::feed_all;
-use crate::storing::Plan;
 use libc::STDOUT_FILENO;
+use replay_feeds::Plan;
+use replay_feeds::Step;
+use replay_feeds::end;
+use replay_feeds::feed_all;
 use session_state::Session;
 
 // The text in pieces, then a finish.

@@ -1,1 +1,1 @@
-pub mod MarkLaws
+pub mod MilestoneLaws

@@ -1,2 +1,2 @@
 -- The segment map.
-pub mod Marks
+pub mod Milestones

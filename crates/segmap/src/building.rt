@@ -13,7 +13,7 @@ ghost use Rattle.spec_base.specs.base.Limits.{mostFrames, mostTicks, mostSegmen
 ghost use Rattle.spec_base.specs.base.Put.{put};
 ghost use Rattle.spec_sheet.specs.sheet_frames.Frames.{decodeOf, ticksFrom};
 ghost use Rattle.spec_map.specs.segment.Segment.{numbersOf, flatOf};
-ghost use Rattle.segmap.specs.Marks.{Carried};
+ghost use Rattle.segmap.specs.Milestones.{Carried};
 ghost use Rattle.spec_map.specs.segmap.Build.{keptTicks, rangesFault, segmentIn, segmentsIn};
 
 // A segment, and how far the sum has come with it.
@@ -29,18 +29,18 @@ fn segment_of(
     start: DisplayIdx,
     end: DisplayIdx,
     output: u64,
-    marks: &mut [u64],
+    milestones: &mut [u64],
 ) -> Step
-    requires { ⌜ Carried (now s) (from .decode .0) (from .ticks) (now marks) ⌝ }
+    requires { ⌜ Carried (now s) (from .decode .0) (from .ticks) (now milestones) ⌝ }
     requires { ⌜ (start .0 ≤ end .0) × (decodeOf (now s) (start .0) + (end .0 - start .0) ≤ mostFrames) ⌝ }
     requires { ⌜ ticksFrom (now s) 0 (decodeOf (now s) (start .0) + (end .0 - start .0)) ≤ mostTicks ⌝ }
     ensures { λ r. ⌜ (r .segment ≡ segmentIn (now (s .entry)) output (start .0) (end .0)) × (r .segment .duration ≤ mostTicks) ⌝ }
-    ensures { λ r. ⌜ Carried (now (s .entry)) (r .reached .decode .0) (r .reached .ticks) (now (marks .exit)) ⌝ }
+    ensures { λ r. ⌜ Carried (now (s .entry)) (r .reached .decode .0) (r .reached .ticks) (now (milestones .exit)) ⌝ }
 {
     let count = order::frame_count(start, end);
     let decode = sheet_frames::decode_at(s, start);
-    let first = reach(s, from, decode, marks);
-    let last = reach(s, first.far, DecodeIdx(decode.0 + count), marks);
+    let first = reach(s, from, decode, milestones);
+    let last = reach(s, first.far, DecodeIdx(decode.0 + count), milestones);
     let segment = Segment {
         source_start_frame: start.0,
         source_end_frame: end.0,
@@ -73,39 +73,39 @@ fn place(
     start: DisplayIdx,
     end: DisplayIdx,
     output: u64,
-    marks: &mut [u64],
+    milestones: &mut [u64],
     map: &mut [u64],
     at: usize,
 ) -> Step
-    requires { ⌜ Carried (now s) (from .decode .0) (from .ticks) (now marks) × (at + 6 ≤ length (now map)) ⌝ }
+    requires { ⌜ Carried (now s) (from .decode .0) (from .ticks) (now milestones) × (at + 6 ≤ length (now map)) ⌝ }
     requires { ⌜ (start .0 ≤ end .0) × (decodeOf (now s) (start .0) + (end .0 - start .0) ≤ mostFrames) ⌝ }
     requires { ⌜ ticksFrom (now s) 0 (decodeOf (now s) (start .0) + (end .0 - start .0)) ≤ mostTicks ⌝ }
     ensures { λ r. ⌜ (r .segment ≡ segmentIn (now (s .entry)) output (start .0) (end .0)) × (r .segment .duration ≤ mostTicks) ⌝ }
-    ensures { λ r. ⌜ Carried (now (s .entry)) (r .reached .decode .0) (r .reached .ticks) (now (marks .exit)) ⌝ }
+    ensures { λ r. ⌜ Carried (now (s .entry)) (r .reached .decode .0) (r .reached .ticks) (now (milestones .exit)) ⌝ }
     ensures { λ r. ⌜ now (map .exit) ≡ sets (now (map .entry)) at (numbersOf (r .segment)) ⌝ }
 {
-    let step = segment_of(s, from, start, end, output, marks);
+    let step = segment_of(s, from, start, end, output, milestones);
     let segment = step.segment;
     store(map, at, segment);
     step
 }
 
-// Writes the segments of the first `count` ranges, which have no fault, and answers their durations together. The marks are for the sums.
+// Writes the segments of the first `count` ranges, which have no fault, and answers their durations together. The milestones are for the sums.
 pub fn build(
     s: &[u8],
     n: u32,
     ranges: &[u32],
     count: usize,
-    marks: &mut [u64],
+    milestones: &mut [u64],
     map: &mut [u64],
 ) -> u64
-    requires { ⌜ length (now marks) ≡ 1025 ⌝ }
+    requires { ⌜ length (now milestones) ≡ 1025 ⌝ }
     requires { ⌜ (n ≤ mostFrames) × (ticksFrom (now s) 0 n ≤ mostTicks) × (count ≤ mostSegments) × (2 * count ≤ length (now ranges)) × (6 * count ≤ length (now map)) ⌝ }
     requires { ⌜ rangesFault (now s) n (take (2 * count) (now ranges)) ≡ 0 ⌝ }
     ensures { λ r. ⌜ r ≡ keptTicks (now (s .entry)) (take (2 * count) (now (ranges .entry))) ⌝ }
     ensures { λ _. ⌜ now (map .exit) ≡ put (flatOf (segmentsIn (now (s .entry)) 0 (take (2 * count) (now (ranges .entry))))) (now (map .entry)) ⌝ }
 {
-    let mut from = at_first(s, marks);
+    let mut from = at_first(s, milestones);
     let mut output: u64 = 0;
     let mut i: usize = 0;
     while i < count {
@@ -116,7 +116,7 @@ pub fn build(
             DisplayIdx(ranges[at]),
             DisplayIdx(ranges[at + 1]),
             output,
-            marks,
+            milestones,
             map,
             6 * i,
         );

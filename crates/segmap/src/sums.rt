@@ -6,7 +6,7 @@ ghost use Prim.Native.Nat.{_≤_, _<_, min};
 ghost use lib.ListN.{length};
 ghost use Rattle.spec_base.specs.base.Limits.{mostFrames, mostTicks};
 ghost use Rattle.spec_sheet.specs.sheet_frames.Frames.{ticksFrom};
-ghost use Rattle.segmap.specs.Marks.{Noted, Carried};
+ghost use Rattle.segmap.specs.Milestones.{Noted, Carried};
 
 // How far a sum has come: `ticks` of all samples before `decode`.
 pub struct Reached {
@@ -14,18 +14,18 @@ pub struct Reached {
     pub ticks: u64,
 }
 
-// A sum that was asked for, and how far the one that writes marks has come.
+// A sum that was asked for, and how far the one that writes milestones has come.
 pub struct Sum {
     pub ticks: u64,
     pub far: Reached,
 }
 
-// Nothing is added up yet: the first mark is 0.
-pub fn at_first(s: &[u8], marks: &mut [u64]) -> Reached
-    requires { ⌜ length (now marks) ≡ 1025 ⌝ }
-    ensures { λ r. ⌜ Carried (now (s .entry)) (r .decode .0) (r .ticks) (now (marks .exit)) ⌝ }
+// Nothing is added up yet: the first milestone is 0.
+pub fn at_first(s: &[u8], milestones: &mut [u64]) -> Reached
+    requires { ⌜ length (now milestones) ≡ 1025 ⌝ }
+    ensures { λ r. ⌜ Carried (now (s .entry)) (r .decode .0) (r .ticks) (now (milestones .exit)) ⌝ }
 {
-    marks[0] = 0;
+    milestones[0] = 0;
     Reached {
         decode: DecodeIdx(0),
         ticks: 0,
@@ -57,12 +57,12 @@ fn nearer(a: DecodeIdx, b: DecodeIdx) -> DecodeIdx
     b
 }
 
-// The sum goes on to the next mark, or to `to` where that is nearer; a mark that it comes to is written.
-fn step(s: &[u8], from: Reached, to: DecodeIdx, marks: &mut [u64]) -> Reached
-    requires { ⌜ (length (now marks) ≡ 1025) × (from .ticks ≡ ticksFrom (now s) 0 (from .decode .0)) ⌝ }
+// The sum goes on to the next milestone, or to `to` where that is nearer; a milestone that it comes to is written.
+fn step(s: &[u8], from: Reached, to: DecodeIdx, milestones: &mut [u64]) -> Reached
+    requires { ⌜ (length (now milestones) ≡ 1025) × (from .ticks ≡ ticksFrom (now s) 0 (from .decode .0)) ⌝ }
     requires { ⌜ (from .decode .0 < to .0) × (to .0 ≤ mostFrames) × (ticksFrom (now s) 0 (to .0) ≤ mostTicks) ⌝ }
     ensures { λ r. ⌜ (from .decode .0 < r .decode .0) × (r .decode .0 ≤ to .0) × (r .ticks ≡ ticksFrom (now (s .entry)) 0 (r .decode .0)) ⌝ }
-    ensures { λ r. ⌜ Noted (now (s .entry)) (from .decode .0) (r .decode .0) (now (marks .entry)) (now (marks .exit)) ⌝ }
+    ensures { λ r. ⌜ Noted (now (s .entry)) (from .decode .0) (r .decode .0) (now (milestones .entry)) (now (milestones .exit)) ⌝ }
 {
     let start = from.decode;
     let k = start.0 / 1024 + 1;
@@ -72,28 +72,28 @@ fn step(s: &[u8], from: Reached, to: DecodeIdx, marks: &mut [u64]) -> Reached
         return reached;
     }
     let at = k as usize;
-    marks[at] = reached.ticks;
+    milestones[at] = reached.ticks;
     reached
 }
 
-// The sum of all samples before `to`, continued from one that has come no further; each mark on the way is written.
-fn go_on(s: &[u8], from: Reached, to: DecodeIdx, marks: &mut [u64]) -> Reached
-    requires { ⌜ (length (now marks) ≡ 1025) × (from .ticks ≡ ticksFrom (now s) 0 (from .decode .0)) ⌝ }
+// The sum of all samples before `to`, continued from one that has come no further; each milestone on the way is written.
+fn go_on(s: &[u8], from: Reached, to: DecodeIdx, milestones: &mut [u64]) -> Reached
+    requires { ⌜ (length (now milestones) ≡ 1025) × (from .ticks ≡ ticksFrom (now s) 0 (from .decode .0)) ⌝ }
     requires { ⌜ (from .decode .0 ≤ to .0) × (to .0 ≤ mostFrames) × (ticksFrom (now s) 0 (to .0) ≤ mostTicks) ⌝ }
     ensures { λ r. ⌜ (r .decode .0 ≡ to .0) × (r .ticks ≡ ticksFrom (now (s .entry)) 0 (to .0)) ⌝ }
-    ensures { λ r. ⌜ Noted (now (s .entry)) (from .decode .0) (to .0) (now (marks .entry)) (now (marks .exit)) ⌝ }
+    ensures { λ r. ⌜ Noted (now (s .entry)) (from .decode .0) (to .0) (now (milestones .entry)) (now (milestones .exit)) ⌝ }
 {
     let mut reached = from;
     while reached.decode.0 < to.0 {
-        let next = step(s, reached, to, marks);
+        let next = step(s, reached, to, milestones);
         reached = next;
     }
     reached
 }
 
-// Where a sum of all samples before `to` can go on from: the place that the sum has come to, or where that is past `to`, the last mark before.
-fn nearest(s: &[u8], far: Reached, to: DecodeIdx, marks: &[u64]) -> Reached
-    requires { ⌜ Carried (now s) (far .decode .0) (far .ticks) (now marks) ⌝ }
+// Where a sum of all samples before `to` can go on from: the place that the sum has come to, or where that is past `to`, the last milestone before.
+fn nearest(s: &[u8], far: Reached, to: DecodeIdx, milestones: &[u64]) -> Reached
+    requires { ⌜ Carried (now s) (far .decode .0) (far .ticks) (now milestones) ⌝ }
     requires { ⌜ to .0 ≤ mostFrames ⌝ }
     ensures { λ r. ⌜ (r .decode .0 ≤ to .0) × (r .ticks ≡ ticksFrom (now (s .entry)) 0 (r .decode .0)) × (far .decode .0 ≤ to .0 → r .decode .0 ≤ far .decode .0) ⌝ }
 {
@@ -103,20 +103,20 @@ fn nearest(s: &[u8], far: Reached, to: DecodeIdx, marks: &[u64]) -> Reached
         let at = k as usize;
         return Reached {
             decode: DecodeIdx(1024 * k),
-            ticks: marks[at],
+            ticks: milestones[at],
         };
     }
     far
 }
 
 // The sum of all samples before `to`, and how far the sum has come then.
-pub fn reach(s: &[u8], far: Reached, to: DecodeIdx, marks: &mut [u64]) -> Sum
-    requires { ⌜ Carried (now s) (far .decode .0) (far .ticks) (now marks) ⌝ }
+pub fn reach(s: &[u8], far: Reached, to: DecodeIdx, milestones: &mut [u64]) -> Sum
+    requires { ⌜ Carried (now s) (far .decode .0) (far .ticks) (now milestones) ⌝ }
     requires { ⌜ (to .0 ≤ mostFrames) × (ticksFrom (now s) 0 (to .0) ≤ mostTicks) ⌝ }
-    ensures { λ r. ⌜ (r .ticks ≡ ticksFrom (now (s .entry)) 0 (to .0)) × (r .ticks ≤ mostTicks) × Carried (now (s .entry)) (r .far .decode .0) (r .far .ticks) (now (marks .exit)) ⌝ }
+    ensures { λ r. ⌜ (r .ticks ≡ ticksFrom (now (s .entry)) 0 (to .0)) × (r .ticks ≤ mostTicks) × Carried (now (s .entry)) (r .far .decode .0) (r .far .ticks) (now (milestones .exit)) ⌝ }
 {
-    let from = nearest(s, far, to, marks);
-    let reached = go_on(s, from, to, marks);
+    let from = nearest(s, far, to, milestones);
+    let reached = go_on(s, from, to, milestones);
     let start = far.decode;
     if to.0 < start.0 {
         return Sum {

@@ -54,8 +54,8 @@ fn keep(s: &[u8], n: u32, ranges: &[u32], count: usize, map: &mut [u64]) -> u32
         return g;
     }
     let mut held = [0; 6144];
-    let mut marks = [0; 1025];
-    let sum = build(s, n, ranges, count, &mut marks, &mut held);
+    let mut milestones = [0; 1025];
+    let sum = build(s, n, ranges, count, &mut milestones, &mut held);
     if base::MOST_TICKS < sum {
         return 26;
     }

@@ -13,11 +13,10 @@ ghost use Prim.Native.Nat.{_≤_};
 ghost use lib.ListN.{length, replicate, drop};
 ghost use Rattle.spec_base.specs.base.Put.{put};
 ghost use Rattle.spec_session.specs.kinds.Takes.{noColumns};
-ghost use Rattle.spec_session.specs.session.Answer.{Answered, OpenAnswered, feedCall, finishCall, openOf, lengthsBad, refusalOf, beginAt, endedSession, unchangedFed, endedFed, heldFed};
+ghost use Rattle.spec_session.specs.session.SessionCalls.{Answered, OpenAnswered, feedCall, finishCall, openOf, lengthsBad, refusalOf, beginAt, endedSession, unchangedFed, endedFed, heldFed};
 
 // 16, by the lengths.
-fn lengths_bad(taken: u32, piece: usize, out: usize, places: usize) -> bool
-    requires { ⌜ taken ≤ 1073741824 ⌝ }
+pub fn lengths_bad(taken: u32, piece: usize, out: usize, places: usize) -> bool
     ensures { λ r. ⌜ r ≡ lengthsBad taken piece out places ⌝ }
 {
     if base::MOST_PIECE < piece {

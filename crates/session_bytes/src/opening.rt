@@ -1,7 +1,7 @@
 // A session opened and parked.
 ghost use mathlib.Core.Path.{_≡_};
 ghost use lib.ListN.{length};
-ghost use Rattle.spec_parking.specs.session_bytes.Answer.{openNumber, openBytes};
+ghost use Rattle.spec_parking.specs.session_bytes.ByteCalls.{openNumber, openBytes};
 
 // open's number: 0, 15 or 16; or 16 where fewer than 9,216 bytes are lent. With 0 the session stands at the start of `bytes`.
 pub fn open(kind: u32, timescale: u32, map: &[u64], bytes: &mut [u8]) -> u32

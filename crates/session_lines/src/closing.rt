@@ -10,15 +10,17 @@ ghost use Prim.Native.Nat.{_≤_, _*_};
 ghost use lib.ListN.{length};
 ghost use Rattle.spec_text.specs.text.Line.{linesOf};
 ghost use Rattle.spec_map.specs.segment.Segment.{segmentsOf};
+ghost use Rattle.spec_caption.specs.caption_fate.Grouped.{segmentsBy};
 ghost use Rattle.spec_format.specs.block_timing.Style.{styleOf};
 ghost use Rattle.spec_session.specs.kinds.Takes.{blankState, closes};
-ghost use Rattle.spec_session.specs.session_lines.Answer.{answerIn, endIn, EndTells};
+ghost use Rattle.spec_session.specs.session_lines.LinesThrough.{answerIn, endIn, EndTells};
 ghost use Rattle.spec_session.specs.session_lines.Done.{Ample};
 
 // The end of a block, with the room for it.
 pub fn close_block(
     config: Config,
     map: &[u64],
+    groups: &[u64],
     n: u32,
     counts: Counts,
     block: &[u8],
@@ -26,13 +28,13 @@ pub fn close_block(
     warnings: &mut [u64],
 ) -> Ended
     requires { ⌜ Ample counts (length (now block)) (length (now out)) (length (now warnings)) ⌝ }
-    ensures { λ r. ⌜ EndTells (answerIn config (segmentsOf (now (map .entry))) (closes (styleOf (config .kind)) blankState n (linesOf (now (block .entry))) [])) counts r (now (out .entry)) (now (out .exit)) (now (warnings .entry)) (now (warnings .exit)) ⌝ }
+    ensures { λ r. ⌜ EndTells (answerIn config (segmentsBy (now (groups .entry)) (now (map .entry))) (closes (styleOf (config .kind)) blankState n (linesOf (now (block .entry))) [])) counts r (now (out .entry)) (now (out .exit)) (now (warnings .entry)) (now (warnings .exit)) ⌝ }
     ensures { λ r. ⌜ r .written ≤ 3 * length (now (block .entry)) ⌝ }
 {
     if block.len() == 0 {
         return still(0, counts);
     }
-    let told = block_cue::block(config, map, n, block, out, warnings);
+    let told = block_cue::block(config, map, groups, n, block, out, warnings);
     if told.number != 0 {
         return still(told.number, counts);
     }
@@ -64,5 +66,14 @@ pub fn end_block(
     if block_timing::header_due(config.kind, n, block) {
         return still(24, counts);
     }
-    close_block(config, map, n, counts, block, out, warnings)
+    close_block(
+        config,
+        map,
+        base::words_front(map, 0),
+        n,
+        counts,
+        block,
+        out,
+        warnings,
+    )
 }

@@ -8,3 +8,4 @@ pub use spec_session::session_lines::Ended;
 pub use spec_session::session_lines::Taken;
 pub use taking::put_bom;
 pub use taking::take_line;
+pub use taking::take_line_by;

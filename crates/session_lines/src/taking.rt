@@ -17,16 +17,18 @@ ghost use lib.ListN.{length, take, drop};
 ghost use Rattle.spec_base.specs.base.Put.{placed};
 ghost use Rattle.spec_text.specs.text.Line.{linesOf};
 ghost use Rattle.spec_map.specs.segment.Segment.{segmentsOf};
+ghost use Rattle.spec_caption.specs.caption_fate.Grouped.{segmentsBy};
 ghost use Rattle.spec_format.specs.block_timing.Style.{styleOf};
 ghost use Rattle.spec_session.specs.session_counts.Machine.{bom, hasBom, takeLine};
 ghost use Rattle.spec_session.specs.kinds.Takes.{lineTakes, blockTakes, headTakes, takes, machineOf};
-ghost use Rattle.spec_session.specs.session_lines.Answer.{takenIn, stateOf, bomSize, takeIn, LineTells};
+ghost use Rattle.spec_session.specs.session_lines.LinesThrough.{takenIn, stateOf, bomSize, takeIn, LineTells};
 ghost use Rattle.spec_session.specs.session_lines.Done.{Ample};
 
 // An ASS line without BOM; n lines came before it.
 fn ass_line(
     config: Config,
     map: &[u64],
+    groups: &[u64],
     n: u32,
     counts: Counts,
     columns: Columns,
@@ -35,12 +37,12 @@ fn ass_line(
     warnings: &mut [u64],
 ) -> Taken
     requires { ⌜ Ample counts (length (now line)) (length (now out)) (length (now warnings)) ⌝ }
-    ensures { λ r. ⌜ LineTells (takenIn config (segmentsOf (now (map .entry))) columns 0 (lineTakes (record { columns = columns; block = [] }) n (now (line .entry)))) counts r (now (out .entry)) (now (out .exit)) (now (warnings .entry)) (now (warnings .exit)) ⌝ }
+    ensures { λ r. ⌜ LineTells (takenIn config (segmentsBy (now (groups .entry)) (now (map .entry))) columns 0 (lineTakes (record { columns = columns; block = [] }) n (now (line .entry)))) counts r (now (out .entry)) (now (out .exit)) (now (warnings .entry)) (now (warnings .exit)) ⌝ }
 {
     if !utf8::is_utf8(line) {
         return quiet(20, false, counts, columns);
     }
-    let said = ass_line::line(config, map, columns, n, line, out, warnings);
+    let said = ass_line::line(config, map, groups, columns, n, line, out, warnings);
     let told = said.told;
     if told.number != 0 {
         return quiet(told.number, false, counts, columns);
@@ -63,6 +65,7 @@ fn ass_line(
 fn block_line(
     config: Config,
     map: &[u64],
+    groups: &[u64],
     n: u32,
     counts: Counts,
     columns: Columns,
@@ -72,13 +75,13 @@ fn block_line(
     warnings: &mut [u64],
 ) -> Taken
     requires { ⌜ Ample counts (length (now block) + length (now line)) (length (now out)) (length (now warnings)) ⌝ }
-    ensures { λ r. ⌜ LineTells (takenIn config (segmentsOf (now (map .entry))) columns 0 (blockTakes (styleOf (config .kind)) (record { columns = columns; block = linesOf (now (block .entry)) }) n (now (line .entry)))) counts r (now (out .entry)) (now (out .exit)) (now (warnings .entry)) (now (warnings .exit)) ⌝ }
+    ensures { λ r. ⌜ LineTells (takenIn config (segmentsBy (now (groups .entry)) (now (map .entry))) columns 0 (blockTakes (styleOf (config .kind)) (record { columns = columns; block = linesOf (now (block .entry)) }) n (now (line .entry)))) counts r (now (out .entry)) (now (out .exit)) (now (warnings .entry)) (now (warnings .exit)) ⌝ }
 {
     if !utf8::is_utf8(line) {
         return quiet(20, false, counts, columns);
     }
     if block_timing::is_blank_in(config.kind, line) {
-        let end = close_block(config, map, n, counts, block, out, warnings);
+        let end = close_block(config, map, groups, n, counts, block, out, warnings);
         if end.number != 0 {
             return quiet(end.number, false, counts, columns);
         }
@@ -95,6 +98,7 @@ fn block_line(
 fn head_line(
     config: Config,
     map: &[u64],
+    groups: &[u64],
     counts: Counts,
     columns: Columns,
     line: &[u8],
@@ -102,7 +106,7 @@ fn head_line(
     warnings: &mut [u64],
 ) -> Taken
     requires { ⌜ Ample counts (length (now line)) (length (now out)) (length (now warnings)) ⌝ }
-    ensures { λ r. ⌜ LineTells (takenIn config (segmentsOf (now (map .entry))) columns 0 (headTakes (record { columns = columns; block = [] }) (now (line .entry)))) counts r (now (out .entry)) (now (out .exit)) (now (warnings .entry)) (now (warnings .exit)) ⌝ }
+    ensures { λ r. ⌜ LineTells (takenIn config (segmentsBy (now (groups .entry)) (now (map .entry))) columns 0 (headTakes (record { columns = columns; block = [] }) (now (line .entry)))) counts r (now (out .entry)) (now (out .exit)) (now (warnings .entry)) (now (warnings .exit)) ⌝ }
 {
     if !utf8::is_utf8(line) {
         return quiet(20, false, counts, columns);
@@ -118,6 +122,7 @@ fn head_line(
 fn any_line(
     config: Config,
     map: &[u64],
+    groups: &[u64],
     n: u32,
     counts: Counts,
     columns: Columns,
@@ -128,17 +133,37 @@ fn any_line(
     warnings: &mut [u64],
 ) -> Taken
     requires { ⌜ Ample counts (s + (length (now held) - a)) (length (now out)) (length (now warnings)) × (s ≤ a) × (a ≤ length (now held)) ⌝ }
-    ensures { λ r. ⌜ LineTells (takenIn config (segmentsOf (now (map .entry))) columns 0 (takes (config .kind) (stateOf (config .kind) columns (take s (now (held .entry)))) n (drop a (now (held .entry))))) counts r (now (out .entry)) (now (out .exit)) (now (warnings .entry)) (now (warnings .exit)) ⌝ }
+    ensures { λ r. ⌜ LineTells (takenIn config (segmentsBy (now (groups .entry)) (now (map .entry))) columns 0 (takes (config .kind) (stateOf (config .kind) columns (take s (now (held .entry)))) n (drop a (now (held .entry))))) counts r (now (out .entry)) (now (out .exit)) (now (warnings .entry)) (now (warnings .exit)) ⌝ }
 {
     if config.kind == 0 {
-        return ass_line(config, map, n, counts, columns, &held[a..], out, warnings);
+        return ass_line(
+            config,
+            map,
+            groups,
+            n,
+            counts,
+            columns,
+            &held[a..],
+            out,
+            warnings,
+        );
     }
     if block_timing::header_due(config.kind, n, &held[..s]) {
-        return head_line(config, map, counts, columns, &held[a..], out, warnings);
+        return head_line(
+            config,
+            map,
+            groups,
+            counts,
+            columns,
+            &held[a..],
+            out,
+            warnings,
+        );
     }
     block_line(
         config,
         map,
+        groups,
         n,
         counts,
         columns,
@@ -181,6 +206,7 @@ pub fn put_bom(out: &mut [u8])
 fn take_held(
     config: Config,
     map: &[u64],
+    groups: &[u64],
     n: u32,
     counts: Counts,
     columns: Columns,
@@ -190,13 +216,14 @@ fn take_held(
     warnings: &mut [u64],
 ) -> Taken
     requires { ⌜ Ample counts (length (now held)) (length (now out)) (length (now warnings)) × (s ≤ length (now held)) ⌝ }
-    ensures { λ r. ⌜ LineTells (takenIn config (segmentsOf (now (map .entry))) columns (bomSize n (drop s (now (held .entry)))) (takeLine (machineOf (config .kind)) (stateOf (config .kind) columns (take s (now (held .entry)))) n (drop s (now (held .entry))))) counts r (now (out .entry)) (now (out .exit)) (now (warnings .entry)) (now (warnings .exit)) ⌝ }
+    ensures { λ r. ⌜ LineTells (takenIn config (segmentsBy (now (groups .entry)) (now (map .entry))) columns (bomSize n (drop s (now (held .entry)))) (takeLine (machineOf (config .kind)) (stateOf (config .kind) columns (take s (now (held .entry)))) n (drop s (now (held .entry))))) counts r (now (out .entry)) (now (out .exit)) (now (warnings .entry)) (now (warnings .exit)) ⌝ }
 {
     let k = bom_size(n, &held[s..]);
     let a = s + k;
     let told = any_line(
         config,
         map,
+        groups,
         n,
         counts,
         columns,
@@ -216,7 +243,42 @@ fn take_held(
     behind_bom(told)
 }
 
-// A line with the BOM that may begin it: held from s on, behind the open block; n lines came before it.
+// A line with the BOM that may begin it: held from s on, behind the open block; n lines came before it. The map has the bounds of its groups, or none.
+pub fn take_line_by(
+    config: Config,
+    map: &[u64],
+    groups: &[u64],
+    n: u32,
+    counts: Counts,
+    columns: Columns,
+    held: &[u8],
+    s: usize,
+    out: &mut [u8],
+    warnings: &mut [u64],
+) -> Taken
+    ensures { λ r. ⌜ LineTells (takeIn config (segmentsBy (now (groups .entry)) (now (map .entry))) n counts columns (now (held .entry)) s (length (now (out .entry))) (length (now (warnings .entry)))) counts r (now (out .entry)) (now (out .exit)) (now (warnings .entry)) (now (warnings .exit)) ⌝ }
+{
+    if held.len() < s {
+        return quiet(16, false, counts, columns);
+    }
+    if lent_bad(counts, held.len(), out.len(), warnings.len()) {
+        return quiet(16, false, counts, columns);
+    }
+    take_held(
+        config,
+        map,
+        groups,
+        n,
+        counts,
+        columns,
+        held,
+        s,
+        out,
+        warnings,
+    )
+}
+
+// The same of a map without bounds.
 pub fn take_line(
     config: Config,
     map: &[u64],
@@ -230,11 +292,16 @@ pub fn take_line(
 ) -> Taken
     ensures { λ r. ⌜ LineTells (takeIn config (segmentsOf (now (map .entry))) n counts columns (now (held .entry)) s (length (now (out .entry))) (length (now (warnings .entry)))) counts r (now (out .entry)) (now (out .exit)) (now (warnings .entry)) (now (warnings .exit)) ⌝ }
 {
-    if held.len() < s {
-        return quiet(16, false, counts, columns);
-    }
-    if lent_bad(counts, held.len(), out.len(), warnings.len()) {
-        return quiet(16, false, counts, columns);
-    }
-    take_held(config, map, n, counts, columns, held, s, out, warnings)
+    take_line_by(
+        config,
+        map,
+        base::words_front(map, 0),
+        n,
+        counts,
+        columns,
+        held,
+        s,
+        out,
+        warnings,
+    )
 }

@@ -6,7 +6,7 @@ use spec_session::session_lines::Ended;
 use spec_session::session_lines::Taken;
 ghost use mathlib.Core.Path.{_≡_};
 ghost use Prim.Native.Nat.{_+_, _<_, _^_};
-ghost use Rattle.spec_session.specs.session_lines.Answer.{mostCount, lentBad};
+ghost use Rattle.spec_session.specs.session_lines.LinesThrough.{mostCount, lentBad};
 ghost use Rattle.spec_session.specs.session_lines.Told.{countBy, quietLine, quietEnd, blankLine, behindLine};
 ghost use Rattle.spec_session.specs.session_lines.Done.{Below};
 

@@ -6,17 +6,19 @@ use crate::held::held_bad;
 use crate::held::lf_count;
 use ass_columns::Columns;
 use session_counts::counts_above;
+use spec_session::session_state::Head;
 use spec_session::session_state::Session;
 ghost use mathlib.Core.Path.{_≡_};
 ghost use mathlib.Core.Bool.{_||_};
 ghost use lib.Dec.{ltb};
 ghost use lib.ListN.{length};
-ghost use Rattle.spec_base.specs.base.Limits.{mostHeld};
 ghost use Rattle.spec_text.specs.text.Line.{lineCount};
 ghost use Rattle.spec_session.specs.session_counts.Cut.{closedLines};
 ghost use Rattle.spec_session.specs.session_counts.Session.{outcomeBad};
-ghost use Rattle.spec_session.specs.kinds.Kit.{strange};
-ghost use Rattle.spec_session.specs.session_state.View.{heldOf, foreignOf};
+ghost use Rattle.spec_session.specs.session_counts.Session as model;
+ghost use Rattle.spec_session.specs.kinds.Kit.{kit, strange};
+ghost use Rattle.spec_session.specs.session_state.Head.{viewOf};
+ghost use Rattle.spec_session.specs.session_state.View.{foreignOf};
 
 // Whether the outcome can't be, or more LFs are held than lines have ended.
 fn marks_bad(ended: bool, outcome: u32, lines: u32, held: &[u8]) -> bool
@@ -28,30 +30,24 @@ fn marks_bad(ended: bool, outcome: u32, lines: u32, held: &[u8]) -> bool
     (lines as usize) < lf_count(held)
 }
 
-// Whether more bytes are held than were taken, or the columns or the held bytes, the first `n` of the room, are ones that 17 refuses.
+// Whether more bytes are held than were taken, or the columns or the held bytes are ones that 17 refuses.
 fn kept_bad(
     kind: u32,
     taken: u32,
     columns: Columns,
-    n: usize,
     ended: bool,
     outcome: u32,
     lines: u32,
-    room: &[u8],
+    held: &[u8],
 ) -> bool
-    requires { ⌜ length (now room) ≡ mostHeld ⌝ }
-    ensures { λ r. ⌜ r ≡ (ltb taken n || (strange kind columns (heldOf n (now (room .entry))) || (outcomeBad ended outcome || ltb lines (lineCount (closedLines (heldOf n (now (room .entry)))))))) ⌝ }
+    ensures { λ r. ⌜ r ≡ (ltb taken (length (now (held .entry))) || (strange kind columns (now (held .entry)) || (outcomeBad ended outcome || ltb lines (lineCount (closedLines (now (held .entry))))))) ⌝ }
 {
-    if (taken as usize) < n {
+    if (taken as usize) < held.len() {
         return true;
     }
     if columns_bad(columns) {
         return true;
     }
-    if base::MOST_HELD < n {
-        return true;
-    }
-    let held = base::front(room, n);
     if held_bad(kind, held) {
         return true;
     }
@@ -61,14 +57,14 @@ fn kept_bad(
     marks_bad(ended, outcome, lines, held)
 }
 
-// Whether the session is foreign.
-pub fn foreign(session: Session) -> bool
-    ensures { λ r. ⌜ r ≡ foreignOf session ⌝ }
+// Whether a session of these numbers and held bytes is foreign.
+pub fn foreign_head(head: Head, held: &[u8]) -> bool
+    ensures { λ r. ⌜ r ≡ model.foreign kit (viewOf head (now (held .entry))) ⌝ }
 {
-    let config = session.config;
-    let counts = session.counts;
-    let columns = session.columns;
-    let taken = session.taken;
+    let config = head.config;
+    let counts = head.counts;
+    let columns = head.columns;
+    let taken = head.taken;
     if config_bad(config) {
         return true;
     }
@@ -78,17 +74,40 @@ pub fn foreign(session: Session) -> bool
     if counts_above(taken, counts) {
         return true;
     }
-    if taken < session.lines {
+    if taken < head.lines {
         return true;
     }
     kept_bad(
         config.kind,
         taken,
         columns,
-        session.held_len,
-        session.ended,
-        session.outcome,
-        session.lines,
-        &session.held,
+        head.ended,
+        head.outcome,
+        head.lines,
+        held,
     )
+}
+
+// Whether the session is foreign.
+pub fn foreign(session: Session) -> bool
+    ensures { λ r. ⌜ r ≡ foreignOf session ⌝ }
+{
+    let n = session.held_len;
+    if base::MOST_HELD < n {
+        return true;
+    }
+    let config = session.config;
+    let counts = session.counts;
+    let columns = session.columns;
+    let head = Head {
+        config,
+        ended: session.ended,
+        outcome: session.outcome,
+        taken: session.taken,
+        lines: session.lines,
+        counts,
+        columns,
+        held_len: n,
+    };
+    foreign_head(head, base::front(&session.held, n))
 }

@@ -1,5 +1,5 @@
 // Each sample named once. No exported function has a `requires`.
-mod marks;
+mod bits;
 mod naming;
 
 pub use naming::once_fault;

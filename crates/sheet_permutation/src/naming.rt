@@ -1,6 +1,6 @@
 // The decode indices of a sheet's records, each met once.
-use crate::marks::clear;
-use crate::marks::mark;
+use crate::bits::clear;
+use crate::bits::set_bit;
 use order::DecodeIdx;
 use order::DisplayIdx;
 ghost use mathlib.Core.Path.{_≡_};
@@ -36,7 +36,7 @@ fn pass(s: &[u8], two: bool, n: u32, bits: &mut [u8]) -> u32
         if n <= d.0 {
             return 25;
         }
-        if mark(bits, d) {
+        if set_bit(bits, d) {
             return 25;
         }
         i += 1;

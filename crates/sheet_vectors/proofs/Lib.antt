@@ -1,5 +1,3 @@
 pub mod Vectors
 pub mod Edges
 pub mod Named
-pub mod Stills
-pub mod Words

@@ -3,5 +3,5 @@ pub mod Delay
 pub mod Loss
 pub mod Paint
 pub mod Tally
-pub mod Answer
+pub mod BestDelay
 pub mod Order

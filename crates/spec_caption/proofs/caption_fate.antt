@@ -1,4 +1,6 @@
 pub mod HitLaws
+pub mod GroupedLaws
+pub mod GroupRows
 pub mod DecideLaws
 pub mod FateLaws
 pub mod OnlyFate
@@ -10,6 +12,6 @@ pub mod WarnLaws
 pub mod LostRows
 pub mod TellLaws
 pub mod CountRows
-pub mod MarkRows
+pub mod BomRows
 pub mod EmitRows
 pub mod DecideRows

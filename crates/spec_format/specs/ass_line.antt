@@ -1,3 +1,3 @@
 -- What an ASS line says, and what the code answers to it.
 pub mod Line
-pub mod Answer
+pub mod AssThrough

@@ -1,3 +1,3 @@
 -- Blocks of lines (SRT, WebVTT): what a block says, and what the code answers to it.
 pub mod Block
-pub mod Answer
+pub mod BlockThrough

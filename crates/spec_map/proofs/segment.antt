@@ -1,2 +1,4 @@
 pub mod SegmentLaws
 pub mod Edges
+pub mod GroupLaws
+pub mod GroupRows

@@ -1,2 +1,3 @@
 -- Segments, and the limits of a map.
 pub mod Segment
+pub mod Groups

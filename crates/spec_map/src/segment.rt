@@ -9,3 +9,9 @@ pub struct Segment {
     pub output_start: u64,
     pub duration: u64,
 }
+
+// What a survey of a map tells: how many numbers its groups take, and whether all of its numbers are small.
+pub struct Surveyed {
+    pub count: usize,
+    pub small: bool,
+}

@@ -5,4 +5,5 @@ pub mod StoreLaws
 pub mod ReadLaws
 pub mod TakeLaws
 pub mod Rows
+pub mod HeadLaws
 pub mod AnswerRows

@@ -1,2 +1,3 @@
 -- 18 blocks with a number and a sum.
 pub mod Sealed
+pub mod First

@@ -1,2 +1,3 @@
 -- A session kept as its 18 blocks between two calls.
-pub mod Answer
+pub mod ByteCalls
+pub mod Text

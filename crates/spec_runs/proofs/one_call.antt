@@ -1,3 +1,4 @@
 pub mod StandLaws
 pub mod TextLaws
+pub mod WholeLaws
 pub mod ToldLaws

@@ -2,6 +2,7 @@ pub mod CountLaws
 pub mod Emits
 pub mod Counted
 pub mod CutLaws
+pub mod GoodLines
 pub mod OpenLines
 pub mod Bytes
 pub mod Resume

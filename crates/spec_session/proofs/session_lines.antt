@@ -2,4 +2,5 @@ pub mod TellLaws
 pub mod BomLaws
 pub mod LentLaws
 pub mod DoneLaws
+pub mod PlainLaws
 pub mod LentRows

@@ -1,3 +1,3 @@
 -- The session's calls: what open, feed and finish answer; and how the loop's numbers stand for the text taken.
-pub mod Answer
+pub mod SessionCalls
 pub mod Stand

@@ -3,3 +3,4 @@ pub mod session;
 pub mod session_counts;
 pub mod session_lines;
 pub mod session_state;
+pub mod session_text;

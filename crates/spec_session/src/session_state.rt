@@ -15,3 +15,15 @@ pub struct Session {
     pub held_len: usize,
     pub held: [u8; 8192],
 }
+
+// The numbers of a session, apart from the bytes that it holds; `held_len` tells how many there are.
+pub struct Head {
+    pub config: Config,
+    pub ended: bool,
+    pub outcome: u32,
+    pub taken: u32,
+    pub lines: u32,
+    pub counts: Counts,
+    pub columns: Columns,
+    pub held_len: usize,
+}

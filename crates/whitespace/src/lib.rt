@@ -2,4 +2,5 @@
 mod white;
 
 pub use white::trim_head;
+pub use white::trim_tail;
 pub use white::trimmed;

@@ -130,7 +130,7 @@ pub fn trim_head(s: &[u8]) -> &[u8]
 }
 
 // The slice without the white space at its end.
-fn trim_tail(s: &[u8]) -> &[u8]
+pub fn trim_tail(s: &[u8]) -> &[u8]
     ensures { λ r. ⌜ now r ≡ trimTail (now (s .entry)) ⌝ }
 {
     let mut n = s.len();

@@ -12,22 +12,22 @@ use Rattle.spec_caption.specs.declared.caption_fate.Decision.the-variants.{Stra
 use Rattle.spec_caption.specs.caption_fate.Decide.{decideOf}
 use Rattle.spec_caption.specs.caption_fate.Fates.{Fate, passed, dropped, shifted, clipped, fateBy, fateOf}
 use Rattle.spec_ask.specs.ask_order.Ascending.{ascends}
-use Rattle.spec_ask.specs.ask_edges.Edge.{edgesOf, fateMark, markThrough}
+use Rattle.spec_ask.specs.ask_edges.Edge.{edgesOf, fateGrade, gradeThrough}
 use Rattle.spec_ask.specs.ask_edges.Count.{oneKept, oneWhole, countStarts, keptFast, wholeFast, EdgesAscend}
-use Rattle.spec_ask.proofs.ask_edges.Units.{fate-marks}
+use Rattle.spec_ask.proofs.ask_edges.Units.{fate-grades}
 use Rattle.spec_ask.proofs.ask_edges.Kept.{kept-fast}
 use Rattle.spec_ask.proofs.ask_edges.Whole.{whole-fast}
 use Rattle.spec_ask.specs.ask_census.Census.{isShifted, isClipped, isDropped, startsWith}
 use Rattle.spec_ask.proofs.ask_census.Rising.{edges-ascend}
 
 -- ---- one fate
-whole-of : (f : Fate) → isShifted f ≡ oneWhole (fateMark f)
+whole-of : (f : Fate) → isShifted f ≡ oneWhole (fateGrade f)
 whole-of passed = refl
 whole-of dropped = refl
 whole-of (shifted s e) = refl
 whole-of (clipped s e) = refl
 
-kept-of : (f : Fate) → isShifted f + isClipped f ≡ oneKept (fateMark f)
+kept-of : (f : Fate) → isShifted f + isClipped f ≡ oneKept (fateGrade f)
 kept-of passed = refl
 kept-of dropped = refl
 kept-of (shifted s e) = refl
@@ -58,16 +58,16 @@ module _ (c : Config) (m : List Segment) (L : ℕ) where
     unfolding startsWith countStarts
     whole-starts zero = refl
     whole-starts (suc N) =
-        let k : isShifted (fateOf c m N (N + L)) ≡ oneWhole (markThrough (edgesOf (c .timescale) (unitsOf (c .kind)) m) N (N + L)) =
-        whole-of (fateOf c m N (N + L)) ∙ ap oneWhole (fate-marks c m hT hU N (N + L)) in
+        let k : isShifted (fateOf c m N (N + L)) ≡ oneWhole (gradeThrough (edgesOf (c .timescale) (unitsOf (c .kind)) m) N (N + L)) =
+        whole-of (fateOf c m N (N + L)) ∙ ap oneWhole (fate-grades c m hT hU N (N + L)) in
         omega (arith, whole-starts N, k)
 
     kept-starts : (N : ℕ) → startsWith isShifted c m L N + startsWith isClipped c m L N ≡ countStarts oneKept (edgesOf (c .timescale) (unitsOf (c .kind)) m) L N
     unfolding startsWith countStarts
     kept-starts zero = refl
     kept-starts (suc N) =
-        let k : isShifted (fateOf c m N (N + L)) + isClipped (fateOf c m N (N + L)) ≡ oneKept (markThrough (edgesOf (c .timescale) (unitsOf (c .kind)) m) N (N + L)) =
-        kept-of (fateOf c m N (N + L)) ∙ ap oneKept (fate-marks c m hT hU N (N + L)) in
+        let k : isShifted (fateOf c m N (N + L)) + isClipped (fateOf c m N (N + L)) ≡ oneKept (gradeThrough (edgesOf (c .timescale) (unitsOf (c .kind)) m) N (N + L)) =
+        kept-of (fateOf c m N (N + L)) ∙ ap oneKept (fate-grades c m hT hU N (N + L)) in
         omega (arith, kept-starts N, k)
 
     module _ (w : ascends m ≡ true) where

@@ -15,7 +15,7 @@ use Rattle.spec_ask.specs.declared.ask_delay.Delay.{Delay}
 use Rattle.spec_ask.specs.ask_delay.Delay.{delayedOf, delayOf}
 use Rattle.spec_ask.specs.ask_delay.Loss.{exceedsAll, lostUnder, tooLong, lossOf, floorOf, bestTry, triedOf, anyLate, delayNumber}
 use Rattle.spec_ask.specs.ask_delay.Tally.{configWith}
-use Rattle.spec_ask.specs.ask_delay.Answer.{foundDelay, delayAnswer}
+use Rattle.spec_ask.specs.ask_delay.BestDelay.{foundDelay, delayAnswer}
 
 abbrev worked : List ℕ
 worked = 0 ∷ 3 ∷ 0 ∷ 3 ∷ 0 ∷ 3003 ∷ 6 ∷ 10 ∷ 6006 ∷ 4 ∷ 3003 ∷ 4004 ∷ []

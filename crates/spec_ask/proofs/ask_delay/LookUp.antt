@@ -1,4 +1,4 @@
--- What is looked up is what is lost: the marks of a caption, and its fate under a delay.
+-- What is looked up is what is lost: the grades of a caption, and its fate under a delay.
 use mathlib.Core.Path.{_≡_, refl, sym, ap, _∙_}
 use mathlib.Core.Bool.{Bool, true, false, cond, not}
 use mathlib.Core.List.{List}
@@ -12,18 +12,18 @@ use Rattle.spec_caption.specs.caption_time.Kind.{unitsOf}
 use Rattle.spec_map.specs.declared.segment.Segment.{Segment}
 use Rattle.spec_caption.specs.declared.caption_fate.Config.{Config}
 use Rattle.spec_caption.specs.caption_fate.Fates.{Fate, passed, dropped, shifted, clipped, fateOf}
-use Rattle.spec_ask.specs.ask_edges.Edge.{edgesOf, fateMark, markThrough}
-use Rattle.spec_ask.proofs.ask_edges.Units.{fate-marks}
+use Rattle.spec_ask.specs.ask_edges.Edge.{edgesOf, fateGrade, gradeThrough}
+use Rattle.spec_ask.proofs.ask_edges.Units.{fate-grades}
 use Rattle.spec_ask.specs.declared.ask_delay.Moved.the-variants.{At, Below}
 use Rattle.spec_ask.specs.ask_delay.Delay.{delayedOf, Near}
 use Rattle.spec_ask.specs.ask_delay.Loss.{whole, lostAt, lostUnder}
 use Rattle.spec_ask.specs.ask_delay.Paint.{reach, Window, lostMoved, lostBy}
 
-mark-whole : (f : Fate) → eqb (fateMark f) 2 ≡ whole f
-mark-whole passed = refl
-mark-whole dropped = refl
-mark-whole (shifted s e) = refl
-mark-whole (clipped s e) = refl
+grade-whole : (f : Fate) → eqb (fateGrade f) 2 ≡ whole f
+grade-whole passed = refl
+grade-whole dropped = refl
+grade-whole (shifted s e) = refl
+grade-whole (clipped s e) = refl
 
 module _ (c : Config) (m : List Segment) (hT : 0 < c .timescale) (hU : 0 < unitsOf (c .kind)) (S E : ℕ) (l : List ℕ)
     (w : Window (edgesOf (c .timescale) (unitsOf (c .kind)) m) S E l) where
@@ -33,8 +33,8 @@ module _ (c : Config) (m : List Segment) (hT : 0 < c .timescale) (hU : 0 < units
       let a : s + reach - S ≡ j = omega arith in
       let b : S + j - reach ≡ s = omega arith in
       let d : E + j - reach ≡ e = omega arith in
-      let k : getD l j 0 ≡ markThrough (edgesOf (c .timescale) (unitsOf (c .kind)) m) s e = rw (b, d) at (w .marks j h (omega arith) (omega arith)) in
-      ap (λ (n : ℕ). eqb (getD l n 0) 2) a ∙ ap (λ (n : ℕ). eqb n 2) (k ∙ sym (fate-marks c m hT hU s e)) ∙ mark-whole (fateOf c m s e)
+      let k : getD l j 0 ≡ gradeThrough (edgesOf (c .timescale) (unitsOf (c .kind)) m) s e = rw (b, d) at (w .grades j h (omega arith) (omega arith)) in
+      ap (λ (n : ℕ). eqb (getD l n 0) 2) a ∙ ap (λ (n : ℕ). eqb n 2) (k ∙ sym (fate-grades c m hT hU s e)) ∙ grade-whole (fateOf c m s e)
 
   pub looked-up : (d : ℤ) → Near d → lostBy l S E d ≡ lostUnder c m d S E
   unfolding lostBy lostUnder delayedOf

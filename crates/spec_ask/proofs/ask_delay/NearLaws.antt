@@ -80,7 +80,7 @@ module _ (l : List ℕ) (S E k : ℕ) (r : Moved) (er : r ≡ delayedOf S (delay
     unfolding lostBy
     lost-end p = sym (ap (λ (m : Moved). lostMoved l S m (delayedOf E (delayOf k))) (sym er ∙ q) ∙ ap (λ (m : Moved). lostMoved l S (At s) m) (sym er′ ∙ p))
 
-    pub lost-mark : (e b : ℕ) → r′ ≡ At e → b ≡ getD l (s + 6000 - S) 0 → not (eqb b 2) ≡ lostBy l S E (delayOf k)
+    pub lost-grade : (e b : ℕ) → r′ ≡ At e → b ≡ getD l (s + 6000 - S) 0 → not (eqb b 2) ≡ lostBy l S E (delayOf k)
     unfolding lostBy
-    lost-mark e b p eb =
+    lost-grade e b p eb =
         sym (ap (λ (m : Moved). lostMoved l S m (delayedOf E (delayOf k))) (sym er ∙ q) ∙ ap (λ (m : Moved). lostMoved l S (At s) m) (sym er′ ∙ p) ∙ ap (λ (n : ℕ). not (eqb n 2)) (sym eb))

@@ -9,7 +9,7 @@ use lib.ListN.{length, getD, set, length-set}
 use lib.Seq.{getD-set-same, getD-set-other}
 use borrow.Author.Tests.{lt-ltb, le-ltb, le-leb, lt-leb, ltb-true, ltb-false, leb-true, leb-false, eqb-true, eqb-false}
 use Rattle.spec_ask.specs.declared.ask_edges.Edge.{Edge}
-use Rattle.spec_ask.specs.ask_edges.Edge.{markBy}
+use Rattle.spec_ask.specs.ask_edges.Edge.{gradeBy}
 use Rattle.spec_ask.specs.ask_delay.Paint.{reach, Filled, metMoved, wholeMoved, Painted}
 
 and-no : (t : Bool) → (t && false) ≡ false
@@ -32,7 +32,7 @@ pub record Going (lo hi v i : ℕ) (l l′ : List ℕ) : Type 0 where
 pub fill-start : (lo hi v : ℕ) (l : List ℕ) → hi ≤ length l → Going lo hi v lo l l
 fill-start lo hi v l h =
     record {
-      filled = record { size = refl; marks = λ j k. sym (ap (λ (t : Bool). cond t v (getD l j 0)) (none j (ltb j lo) refl)) };
+      filled = record { size = refl; grades = λ j k. sym (ap (λ (t : Bool). cond t v (getD l j 0)) (none j (ltb j lo) refl)) };
       low = omega arith;
       high = omega arith;
       room = h;
@@ -53,7 +53,7 @@ module _ (lo hi v i : ℕ) (l l′ : List ℕ) (g : Going lo hi v i l l′) (h :
       ap (λ (n : ℕ). getD (set l′ i v) n 0) q ∙ getD-set-same l′ i v 0 fill-index ∙ sym (ap (λ (t : Bool). cond t v (getD l j 0)) y)
   at j k false e =
       let n : j ≡ i → ⊥ = eqb-false j i e in
-      getD-set-other l′ i j v 0 n ∙ g .filled .marks j k ∙ ap (λ (t : Bool). cond (leb lo j && t) v (getD l j 0)) (same (ltb j i) refl n)
+      getD-set-other l′ i j v 0 n ∙ g .filled .grades j k ∙ ap (λ (t : Bool). cond (leb lo j && t) v (getD l j 0)) (same (ltb j i) refl n)
     where
       same : (t : Bool) → ltb j i ≡ t → (j ≡ i → ⊥) → ltb j i ≡ ltb j (i + 1)
       same true q n = q ∙ sym (lt-ltb j (i + 1) (omega (arith, ltb-true j i q)))
@@ -62,7 +62,7 @@ module _ (lo hi v i : ℕ) (l l′ : List ℕ) (g : Going lo hi v i l l′) (h :
   pub fill-again : Going lo hi v (i + 1) l (set l′ i v)
   fill-again =
       record {
-        filled = record { size = length-set l′ i v ∙ g .filled .size; marks = λ j k. at j k (eqb j i) refl };
+        filled = record { size = length-set l′ i v ∙ g .filled .size; grades = λ j k. at j k (eqb j i) refl };
         low = omega (arith, g .low);
         high = omega arith;
         room = g .room;
@@ -72,7 +72,7 @@ pub fill-end : (lo hi v i : ℕ) (l l′ : List ℕ) → Going lo hi v i l l′ 
 fill-end lo hi v i l l′ g h =
     record {
       size = g .filled .size;
-      marks = λ j k. g .filled .marks j k ∙ ap (λ (t : Bool). cond t v (getD l j 0)) (same j (ltb j hi) (leb lo j) refl refl);
+      grades = λ j k. g .filled .grades j k ∙ ap (λ (t : Bool). cond t v (getD l j 0)) (same j (ltb j hi) (leb lo j) refl refl);
     }
   where
     same : (j : ℕ) (t u : Bool) → ltb j hi ≡ t → leb lo j ≡ u → (leb lo j && ltb j i) ≡ (leb lo j && ltb j hi)
@@ -121,7 +121,7 @@ first-out X S j lo first e h = omega arith
 module _ (lo hi first last S E j old : ℕ) (e : Edge) (h : j < 12001)
     (el : lo ≡ e .from + reach - E) (eh : hi ≡ min 12001 (e .till + reach - S)) (ef : first ≡ max lo (e .low + reach - S)) (ea : last ≡ min hi (e .high + reach - E)) where
   by-tests : (u v w x : Bool) → ltb (S + j) (e .till + reach) ≡ u → leb (e .from + reach) (E + j) ≡ v → leb (e .low + reach) (S + j) ≡ w → ltb (E + j) (e .high + reach) ≡ x
-      → cond (leb first j && ltb j last) 2 (cond (leb lo j && ltb j hi) 1 old) ≡ markBy (u && v) (w && x) old
+      → cond (leb first j && ltb j last) 2 (cond (leb lo j && ltb j hi) 1 old) ≡ gradeBy (u && v) (w && x) old
   by-tests true true w x p q r s = inner w x r s
     where
       a : lo ≤ j
@@ -131,7 +131,7 @@ module _ (lo hi first last S E j old : ℕ) (e : Edge) (h : j < 12001)
       b = hi-in (e .till + reach) S j 12001 hi eh (ltb-true (S + j) (e .till + reach) p) h
 
       inner : (w x : Bool) → leb (e .low + reach) (S + j) ≡ w → ltb (E + j) (e .high + reach) ≡ x
-          → cond (leb first j && ltb j last) 2 (cond (leb lo j && ltb j hi) 1 old) ≡ markBy true (w && x) old
+          → cond (leb first j && ltb j last) 2 (cond (leb lo j && ltb j hi) 1 old) ≡ gradeBy true (w && x) old
       inner true true r s =
           rw (
             le-leb first j (first-in (e .low + reach) S j lo first ef a (leb-true (e .low + reach) (S + j) r)),
@@ -148,8 +148,8 @@ module _ (lo hi first last S E j old : ℕ) (e : Edge) (h : j < 12001)
       let b : hi ≤ j = hi-out (e .till + reach) S j 12001 hi eh (ltb-false (S + j) (e .till + reach) p) in
       rw (le-ltb j last (hi-most (e .high + reach) E j hi last ea b), and-no (leb first j), le-ltb j hi b, and-no (leb lo j))
 
-  mark-is : cond (leb first j && ltb j last) 2 (cond (leb lo j && ltb j hi) 1 old) ≡ markBy (metMoved e S E j) (wholeMoved e S E j) old
-  mark-is = by-tests (ltb (S + j) (e .till + reach)) (leb (e .from + reach) (E + j)) (leb (e .low + reach) (S + j)) (ltb (E + j) (e .high + reach)) refl refl refl refl
+  grade-is : cond (leb first j && ltb j last) 2 (cond (leb lo j && ltb j hi) 1 old) ≡ gradeBy (metMoved e S E j) (wholeMoved e S E j) old
+  grade-is = by-tests (ltb (S + j) (e .till + reach)) (leb (e .from + reach) (E + j)) (leb (e .low + reach) (S + j)) (ltb (E + j) (e .high + reach)) refl refl refl refl
 
 painted : (lo hi first last S E : ℕ) (e : Edge) (l m l′ : List ℕ) → length l ≡ 12001
     → lo ≡ e .from + reach - E → hi ≡ min 12001 (e .till + reach - S) → first ≡ max lo (e .low + reach - S) → last ≡ min hi (e .high + reach - E)
@@ -157,9 +157,9 @@ painted : (lo hi first last S E : ℕ) (e : Edge) (l m l′ : List ℕ) → leng
 painted lo hi first last S E e l m l′ n el eh ef ea f g =
     record {
       size = g .size ∙ f .size;
-      marks = λ j h.
-          g .marks j (omega (arith, f .size)) ∙ ap (λ (o : ℕ). cond (leb first j && ltb j last) 2 o) (f .marks j h)
-          ∙ mark-is lo hi first last S E j (getD l j 0) e (omega arith) el eh ef ea;
+      grades = λ j h.
+          g .grades j (omega (arith, f .size)) ∙ ap (λ (o : ℕ). cond (leb first j && ltb j last) 2 o) (f .grades j h)
+          ∙ grade-is lo hi first last S E j (getD l j 0) e (omega arith) el eh ef ea;
     }
 
 -- ---- the room

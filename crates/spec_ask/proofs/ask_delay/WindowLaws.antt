@@ -18,7 +18,7 @@ use Rattle.spec_map.specs.segment.Segment.{segment, segmentsOf, sourceOf, segme
 use Rattle.spec_map.proofs.segment.SegmentLaws.{segments-cut, segments-short, any-good}
 use Rattle.spec_caption.proofs.caption_fate.FineLaws.{segment-good}
 use Rattle.spec_ask.specs.declared.ask_edges.Edge.{Edge}
-use Rattle.spec_ask.specs.ask_edges.Edge.{edge, edgeAt, edgesOf, edgeWithin, markBy, markThrough}
+use Rattle.spec_ask.specs.ask_edges.Edge.{edge, edgeAt, edgesOf, edgeWithin, gradeBy, gradeThrough}
 use Rattle.spec_ask.proofs.ask_edges.Fine.{edge-empty, edge-fine}
 use Rattle.spec_ask.specs.ask_delay.Paint.{reach, Filled, metMoved, wholeMoved, Painted, Window}
 
@@ -38,10 +38,10 @@ shift-le a b h = go (leb b (a - reach)) refl
     go false e = lt-leb (b + reach) a (omega (arith, leb-false b (a - reach) e))
 
 module _ (e : Edge) (S E j old : ℕ) (hS : reach ≤ S + j) (hE : reach ≤ E + j) where
-  pub moved-mark : markBy (metMoved e S E j) (wholeMoved e S E j) old
-      ≡ markBy (ltb (S + j - reach) (e .till) && leb (e .from) (E + j - reach)) (leb (e .low) (S + j - reach) && ltb (E + j - reach) (e .high)) old
-  moved-mark =
-      ap₂ (λ (u v : Bool). markBy u v old)
+  pub moved-grade : gradeBy (metMoved e S E j) (wholeMoved e S E j) old
+      ≡ gradeBy (ltb (S + j - reach) (e .till) && leb (e .from) (E + j - reach)) (leb (e .low) (S + j - reach) && ltb (E + j - reach) (e .high)) old
+  moved-grade =
+      ap₂ (λ (u v : Bool). gradeBy u v old)
       (ap₂ _&&_ (shift-lt (S + j) (e .till) hS) (shift-le (E + j) (e .from) hE))
       (ap₂ _&&_ (shift-le (S + j) (e .low) hS) (shift-lt (E + j) (e .high) hE))
 
@@ -51,18 +51,18 @@ pos-of zero q = absurd (true≢false q)
 pos-of (suc k) q = omega arith
 
 module _ (kind T : ℕ) (hk : kindBad kind ≡ false) (hT : timescaleBad T ≡ false) where
-  mark-step : (x : Segment) (xs : List Segment) (s e : ℕ) → endBad (sourceOf x) (x .duration) ≡ false
-      → (let g = edgeWithin kind T (sourceOf x) (x .duration) in markBy (ltb s (g .till) && leb (g .from) e) (leb (g .low) s && ltb e (g .high)) (markThrough (edgesOf T (unitsOf kind) xs) s e))
-      ≡ markThrough (edgesOf T (unitsOf kind) (x ∷ xs)) s e
-  unfolding edgesOf markThrough
-  mark-step x xs s e b = go (eqb (x .duration) 0) refl
+  grade-step : (x : Segment) (xs : List Segment) (s e : ℕ) → endBad (sourceOf x) (x .duration) ≡ false
+      → (let g = edgeWithin kind T (sourceOf x) (x .duration) in gradeBy (ltb s (g .till) && leb (g .from) e) (leb (g .low) s && ltb e (g .high)) (gradeThrough (edgesOf T (unitsOf kind) xs) s e))
+      ≡ gradeThrough (edgesOf T (unitsOf kind) (x ∷ xs)) s e
+  unfolding edgesOf gradeThrough
+  grade-step x xs s e b = go (eqb (x .duration) 0) refl
     where
       f : Edge → ℕ
-      f g = markBy (ltb s (g .till) && leb (g .from) e) (leb (g .low) s && ltb e (g .high)) (markThrough (edgesOf T (unitsOf kind) xs) s e)
+      f g = gradeBy (ltb s (g .till) && leb (g .from) e) (leb (g .low) s && ltb e (g .high)) (gradeThrough (edgesOf T (unitsOf kind) xs) s e)
 
       go : (z : Bool) → eqb (x .duration) 0 ≡ z
-          → markBy (ltb s (edgeWithin kind T (sourceOf x) (x .duration) .till) && leb (edgeWithin kind T (sourceOf x) (x .duration) .from) e) (leb (edgeWithin kind T (sourceOf x) (x .duration) .low) s && ltb e (edgeWithin kind T (sourceOf x) (x .duration) .high)) (markThrough (edgesOf T (unitsOf kind) xs) s e)
-          ≡ markThrough (cond z (edgesOf T (unitsOf kind) xs) (edgeAt T (unitsOf kind) (sourceOf x) (x .duration) ∷ edgesOf T (unitsOf kind) xs)) s e
+          → gradeBy (ltb s (edgeWithin kind T (sourceOf x) (x .duration) .till) && leb (edgeWithin kind T (sourceOf x) (x .duration) .from) e) (leb (edgeWithin kind T (sourceOf x) (x .duration) .low) s && ltb e (edgeWithin kind T (sourceOf x) (x .duration) .high)) (gradeThrough (edgesOf T (unitsOf kind) xs) s e)
+          ≡ gradeThrough (cond z (edgesOf T (unitsOf kind) xs) (edgeAt T (unitsOf kind) (sourceOf x) (x .duration) ∷ edgesOf T (unitsOf kind) xs)) s e
       go true q = rw (sym (edge-empty kind T (sourceOf x) (x .duration) (eqb-true (x .duration) 0 q)), le-ltb s 0 (omega arith))
       go false q = rw (edge-fine kind T (sourceOf x) (x .duration) hk hT b (pos-of (x .duration) q))
 
@@ -71,20 +71,20 @@ module _ (kind T : ℕ) (hk : kindBad kind ≡ false) (hT : timescaleBad T ≡ f
   window-next x xs S E l l′ b w p =
       record {
         size = p .size ∙ w .size;
-        marks = λ j h hS hE.
-            p .marks j (omega (arith, w .size))
-            ∙ moved-mark (edgeWithin kind T (sourceOf x) (x .duration)) S E j (getD l j 0) hS hE
-            ∙ ap (λ (o : ℕ). markBy (ltb (S + j - reach) (edgeWithin kind T (sourceOf x) (x .duration) .till) && leb (edgeWithin kind T (sourceOf x) (x .duration) .from) (E + j - reach)) (leb (edgeWithin kind T (sourceOf x) (x .duration) .low) (S + j - reach) && ltb (E + j - reach) (edgeWithin kind T (sourceOf x) (x .duration) .high)) o) (w .marks j h hS hE)
-            ∙ mark-step x xs (S + j - reach) (E + j - reach) b;
+        grades = λ j h hS hE.
+            p .grades j (omega (arith, w .size))
+            ∙ moved-grade (edgeWithin kind T (sourceOf x) (x .duration)) S E j (getD l j 0) hS hE
+            ∙ ap (λ (o : ℕ). gradeBy (ltb (S + j - reach) (edgeWithin kind T (sourceOf x) (x .duration) .till) && leb (edgeWithin kind T (sourceOf x) (x .duration) .from) (E + j - reach)) (leb (edgeWithin kind T (sourceOf x) (x .duration) .low) (S + j - reach) && ltb (E + j - reach) (edgeWithin kind T (sourceOf x) (x .duration) .high)) o) (w .grades j h hS hE)
+            ∙ grade-step x xs (S + j - reach) (E + j - reach) b;
       }
 
 -- nothing painted yet
 pub window-start : (S E : ℕ) (l l′ : List ℕ) → length l ≡ 12001 → Filled 0 12001 0 l l′ → Window [] S E l′
-unfolding markThrough
+unfolding gradeThrough
 window-start S E l l′ n f =
     record {
       size = f .size ∙ n;
-      marks = λ j h hS hE. f .marks j (omega arith) ∙ rw (le-leb 0 j (omega arith), lt-ltb j 12001 h);
+      grades = λ j h hS hE. f .grades j (omega arith) ∙ rw (le-leb 0 j (omega arith), lt-ltb j 12001 h);
     }
 
 -- ---- the edges fit

@@ -7,7 +7,7 @@ use native.Mathlib.Omega.{arith}
 use borrow.Author.Tests.{le-leb, lt-leb, ltb-true, ltb-false, leb-true, leb-false}
 use lib.Dec.{ltb, leb}
 use Rattle.spec_ask.specs.declared.ask_edges.Edge.{Edge}
-use Rattle.spec_ask.specs.ask_edges.Edge.{markBy, markThrough}
+use Rattle.spec_ask.specs.ask_edges.Edge.{gradeBy, gradeThrough}
 use Rattle.spec_ask.specs.ask_edges.Count.{oneKept, countStarts, startsIn, keptFast, EdgesAscend}
 
 pub within-in : (lo hi N : ℕ) → lo ≤ N → N < hi → startsIn lo hi (suc N) ≡ suc (startsIn lo hi N)
@@ -27,14 +27,14 @@ unfolding startsIn
 within-zero lo hi = omega arith
 
 -- a caption that ends before the first segment begins meets none
-pub before-all : (es : List Edge) (p S E : ℕ) → EdgesAscend p es → E < p → markThrough es S E ≡ 0
-unfolding markThrough
+pub before-all : (es : List Edge) (p S E : ℕ) → EdgesAscend p es → E < p → gradeThrough es S E ≡ 0
+unfolding gradeThrough
 before-all [] p S E a h = refl
 before-all (e ∷ es) p S E a h =
     let t : leb (e .from) E ≡ false = lt-leb (e .from) E (omega arith) in
     go (ltb S (e .till)) (leb (e .from) E) t (before-all es (e .till) S E (a .3) (omega arith))
   where
-    go : (x y : Bool) → y ≡ false → markThrough es S E ≡ 0 → markBy (x && y) (leb (e .low) S && ltb E (e .high)) (markThrough es S E) ≡ 0
+    go : (x y : Bool) → y ≡ false → gradeThrough es S E ≡ 0 → gradeBy (x && y) (leb (e .low) S && ltb E (e .high)) (gradeThrough es S E) ≡ 0
     go true y q r = rw q r
     go false y q r = r
 
@@ -44,22 +44,22 @@ more true k = oneKept k
 more false k = 0
 
 stepped : (e : Edge) (es : List Edge) (p L N : ℕ) → EdgesAscend p (e ∷ es)
-    → keptFast es (e .till) L (suc N) ≡ keptFast es (e .till) L N + more (leb (e .till) N) (markThrough es N (N + L))
-    → keptFast (e ∷ es) p L (suc N) ≡ keptFast (e ∷ es) p L N + more (leb p N) (markThrough (e ∷ es) N (N + L))
-unfolding markThrough keptFast
+    → keptFast es (e .till) L (suc N) ≡ keptFast es (e .till) L N + more (leb (e .till) N) (gradeThrough es N (N + L))
+    → keptFast (e ∷ es) p L (suc N) ≡ keptFast (e ∷ es) p L N + more (leb p N) (gradeThrough (e ∷ es) N (N + L))
+unfolding gradeThrough keptFast
 stepped e es p L N a ih = go (ltb N (e .till)) refl
   where
     w : Bool
     w = leb (e .low) N && ltb (N + L) (e .high)
 
-    met : (v : Bool) → oneKept (markBy true v (markThrough es N (N + L))) ≡ 1
+    met : (v : Bool) → oneKept (gradeBy true v (gradeThrough es N (N + L))) ≡ 1
     met true = refl
     met false = refl
 
     -- N is below the end: the later segments count nothing
     inside : N < e .till → (x : Bool) → leb (e .from) (N + L) ≡ x → (y : Bool) → leb p N ≡ y
         → startsIn (max p (e .from - L)) (e .till) (suc N) + keptFast es (e .till) L (suc N)
-        ≡ startsIn (max p (e .from - L)) (e .till) N + keptFast es (e .till) L N + more y (markBy (true && x) w (markThrough es N (N + L)))
+        ≡ startsIn (max p (e .from - L)) (e .till) N + keptFast es (e .till) L N + more y (gradeBy (true && x) w (gradeThrough es N (N + L)))
     inside l true q true r =
         let i : keptFast es (e .till) L (suc N) ≡ keptFast es (e .till) L N = rw (lt-leb (e .till) N l) at ih ∙ omega arith in
         omega (arith, i, met w, within-in (max p (e .from - L)) (e .till) N (omega (arith, leb-true (e .from) (N + L) q, leb-true p N r)) l)
@@ -68,15 +68,15 @@ stepped e es p L N a ih = go (ltb N (e .till)) refl
         omega (arith, i, within-low (max p (e .from - L)) (e .till) N (omega (arith, leb-false p N r)))
     inside l false q y r =
         let i : keptFast es (e .till) L (suc N) ≡ keptFast es (e .till) L N = rw (lt-leb (e .till) N l) at ih ∙ omega arith in
-        let z : markThrough es N (N + L) ≡ 0 = before-all es (e .till) N (N + L) (a .3) (omega (arith, leb-false (e .from) (N + L) q)) in
-        let k : more y (markThrough es N (N + L)) ≡ 0 = none y z in
+        let z : gradeThrough es N (N + L) ≡ 0 = before-all es (e .till) N (N + L) (a .3) (omega (arith, leb-false (e .from) (N + L) q)) in
+        let k : more y (gradeThrough es N (N + L)) ≡ 0 = none y z in
         omega (arith, i, k, within-low (max p (e .from - L)) (e .till) N (omega (arith, leb-false (e .from) (N + L) q)))
       where
-        none : (y : Bool) → markThrough es N (N + L) ≡ 0 → more y (markThrough es N (N + L)) ≡ 0
+        none : (y : Bool) → gradeThrough es N (N + L) ≡ 0 → more y (gradeThrough es N (N + L)) ≡ 0
         none true z = rw z
         none false z = refl
 
-    go : (t : Bool) → ltb N (e .till) ≡ t → keptFast (e ∷ es) p L (suc N) ≡ keptFast (e ∷ es) p L N + more (leb p N) (markThrough (e ∷ es) N (N + L))
+    go : (t : Bool) → ltb N (e .till) ≡ t → keptFast (e ∷ es) p L (suc N) ≡ keptFast (e ∷ es) p L N + more (leb p N) (gradeThrough (e ∷ es) N (N + L))
     go true q = rw q (inside (ltb-true N (e .till) q) (leb (e .from) (N + L)) refl (leb p N) refl)
     go false q =
         let l : e .till ≤ N = ltb-false N (e .till) q in
@@ -84,8 +84,8 @@ stepped e es p L N a ih = go (ltb N (e .till)) refl
         (omega (arith, within-high (max p (e .from - L)) (e .till) N l, rw (le-leb (e .till) N l) at ih))
 
 by-step : (es : List Edge) (p L N : ℕ) → EdgesAscend p es
-    → keptFast es p L (suc N) ≡ keptFast es p L N + more (leb p N) (markThrough es N (N + L))
-unfolding markThrough keptFast
+    → keptFast es p L (suc N) ≡ keptFast es p L N + more (leb p N) (gradeThrough es N (N + L))
+unfolding gradeThrough keptFast
 by-step [] p L N a = nothing (leb p N)
   where
     nothing : (y : Bool) → 0 ≡ 0 + more y 0
@@ -102,5 +102,5 @@ pub kept-fast : (es : List Edge) (L N : ℕ) → EdgesAscend 0 es → keptFast e
 unfolding countStarts
 kept-fast es L zero a = fast-zero es 0 L
 kept-fast es L (suc N) a =
-    let s : keptFast es 0 L (suc N) ≡ keptFast es 0 L N + oneKept (markThrough es N (N + L)) = rw (le-leb 0 N (omega arith)) at (by-step es 0 L N a) in
+    let s : keptFast es 0 L (suc N) ≡ keptFast es 0 L N + oneKept (gradeThrough es N (N + L)) = rw (le-leb 0 N (omega arith)) at (by-step es 0 L N a) in
     omega (arith, s, kept-fast es L N a)

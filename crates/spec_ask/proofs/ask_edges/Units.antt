@@ -15,7 +15,7 @@ use Rattle.spec_caption.specs.caption_fate.Hit.{meetsParts, meets, Found, hit, 
 use Rattle.spec_caption.specs.caption_fate.Lost.{lostRule}
 use Rattle.spec_caption.specs.caption_fate.Decide.{retimedAt, decideHit, decideTicks, decideOf}
 use Rattle.spec_caption.specs.caption_fate.Fates.{shifted, clipped, fateBy, fateOf}
-use Rattle.spec_ask.specs.ask_edges.Edge.{edgeAt, edgesOf, fateMark, markBy, markThrough}
+use Rattle.spec_ask.specs.ask_edges.Edge.{edgeAt, edgesOf, fateGrade, gradeBy, gradeThrough}
 use Rattle.spec_ask.proofs.ask_edges.Reach.{at-least, below}
 
 -- uncut at both ends: whole in the segment
@@ -26,10 +26,10 @@ uncut x y = go (ltb y x) refl
     go true e = lt-leb x y (ltb-true y x e)
     go false e = le-leb x y (ltb-false y x e)
 
-mark-for : (s e : ℕ) (sc ec : Bool) (r : ℕ) → fateMark (cond (sc || ec) (clipped s e) (shifted s e)) ≡ markBy true (not sc && not ec) r
-mark-for s e true ec r = refl
-mark-for s e false true r = refl
-mark-for s e false false r = refl
+grade-for : (s e : ℕ) (sc ec : Bool) (r : ℕ) → fateGrade (cond (sc || ec) (clipped s e) (shifted s e)) ≡ gradeBy true (not sc && not ec) r
+grade-for s e true ec r = refl
+grade-for s e false true r = refl
+grade-for s e false false r = refl
 
 module _ (T U : ℕ) (hT : 0 < T) (hU : 0 < U) (S E : ℕ) where
   abbrev a : ℕ
@@ -55,44 +55,44 @@ module _ (T U : ℕ) (hT : 0 < T) (hU : 0 < U) (S E : ℕ) where
   unfolding meetsParts
   empty-missed q d e = ap (λ (t : Bool). t && (ltb a (q + d) && ltb q b)) (le-ltb 0 d (omega arith))
 
-  abbrev markFound : Found → ℕ
-  markFound f = fateMark (fateBy (decideHit T U a b f))
+  abbrev gradeFound : Found → ℕ
+  gradeFound f = fateGrade (fateBy (decideHit T U a b f))
 
   pos-of : (k : ℕ) → eqb k 0 ≡ false → 0 < k
   pos-of zero q = absurd (true≢false q)
   pos-of (suc k) q = omega arith
 
-  module _ (i : ℕ) (x : Segment) (xs : List Segment) (ih : markFound (findFrom (suc i) xs a b) ≡ markThrough (edgesOf T U xs) S E) where
+  module _ (i : ℕ) (x : Segment) (xs : List Segment) (ih : gradeFound (findFrom (suc i) xs a b) ≡ gradeThrough (edgesOf T U xs) S E) where
     abbrev q : ℕ
     q = sourceOf x
 
     abbrev d : ℕ
     d = x .duration
 
-    by-met : (t : Bool) → markFound (cond t (hit i x xs) (findFrom (suc i) xs a b))
-        ≡ markBy t (leb (edgeAt T U q d .low) S && ltb E (edgeAt T U q d .high)) (markThrough (edgesOf T U xs) S E)
+    by-met : (t : Bool) → gradeFound (cond t (hit i x xs) (findFrom (suc i) xs a b))
+        ≡ gradeBy t (leb (edgeAt T U q d .low) S && ltb E (edgeAt T U q d .high)) (gradeThrough (edgesOf T U xs) S E)
     by-met true =
         let r = retimedAt T U a b (lostRule xs a b) (metOf i x) in
-        mark-for (r .start) (r .stop) (ltb a q) (ltb (q + d) b) (markThrough (edgesOf T U xs) S E)
-        ∙ ap (λ (w : Bool). markBy true w (markThrough (edgesOf T U xs) S E)) (whole-units q d)
+        grade-for (r .start) (r .stop) (ltb a q) (ltb (q + d) b) (gradeThrough (edgesOf T U xs) S E)
+        ∙ ap (λ (w : Bool). gradeBy true w (gradeThrough (edgesOf T U xs) S E)) (whole-units q d)
     by-met false = ih
 
     by-length : (z : Bool) → eqb (x .duration) 0 ≡ z
-        → markFound (cond (meets x a b) (hit i x xs) (findFrom (suc i) xs a b))
-        ≡ markThrough (cond z (edgesOf T U xs) (edgeAt T U q d ∷ edgesOf T U xs)) S E
-    unfolding markThrough
-    by-length true e = ap (λ (t : Bool). markFound (cond t (hit i x xs) (findFrom (suc i) xs a b))) (empty-missed q d (eqb-true d 0 e)) ∙ ih
+        → gradeFound (cond (meets x a b) (hit i x xs) (findFrom (suc i) xs a b))
+        ≡ gradeThrough (cond z (edgesOf T U xs) (edgeAt T U q d ∷ edgesOf T U xs)) S E
+    unfolding gradeThrough
+    by-length true e = ap (λ (t : Bool). gradeFound (cond t (hit i x xs) (findFrom (suc i) xs a b))) (empty-missed q d (eqb-true d 0 e)) ∙ ih
     by-length false e =
         by-met (meets x a b)
-        ∙ ap (λ (t : Bool). markBy t (leb (edgeAt T U q d .low) S && ltb E (edgeAt T U q d .high)) (markThrough (edgesOf T U xs) S E)) (met-units q d (pos-of d e))
+        ∙ ap (λ (t : Bool). gradeBy t (leb (edgeAt T U q d .low) S && ltb E (edgeAt T U q d .high)) (gradeThrough (edgesOf T U xs) S E)) (met-units q d (pos-of d e))
 
-  marks : (i : ℕ) (m : List Segment) → markFound (findFrom i m a b) ≡ markThrough (edgesOf T U m) S E
-  unfolding findFrom edgesOf markThrough
-  marks i [] = refl
-  marks i (x ∷ xs) = by-length i x xs (marks (suc i) xs) (eqb (x .duration) 0) refl
+  grades : (i : ℕ) (m : List Segment) → gradeFound (findFrom i m a b) ≡ gradeThrough (edgesOf T U m) S E
+  unfolding findFrom edgesOf gradeThrough
+  grades i [] = refl
+  grades i (x ∷ xs) = by-length i x xs (grades (suc i) xs) (eqb (x .duration) 0) refl
 
 -- the fate of a caption by the caption rules, as a number
-pub fate-marks : (c : Config) (m : List Segment) → 0 < c .timescale → 0 < unitsOf (c .kind) → (S E : ℕ)
-    → fateMark (fateOf c m S E) ≡ markThrough (edgesOf (c .timescale) (unitsOf (c .kind)) m) S E
+pub fate-grades : (c : Config) (m : List Segment) → 0 < c .timescale → 0 < unitsOf (c .kind) → (S E : ℕ)
+    → fateGrade (fateOf c m S E) ≡ gradeThrough (edgesOf (c .timescale) (unitsOf (c .kind)) m) S E
 unfolding fateOf decideOf decideTicks
-fate-marks c m hT hU S E = marks (c .timescale) (unitsOf (c .kind)) hT hU S E 0 m
+fate-grades c m hT hU S E = grades (c .timescale) (unitsOf (c .kind)) hT hU S E 0 m

@@ -10,7 +10,7 @@ use Rattle.spec_ask.specs.declared.ask_delay.Delay.{Delay}
 use Rattle.spec_ask.specs.ask_delay.Delay.{delayOf}
 use Rattle.spec_ask.specs.ask_delay.Loss.{lossOf, delayNumber}
 use Rattle.spec_ask.specs.ask_delay.Tally.{configWith}
-use Rattle.spec_ask.specs.ask_delay.Answer.{delayAnswer}
+use Rattle.spec_ask.specs.ask_delay.BestDelay.{delayAnswer}
 
 -- the place of a delay in that order, from 0
 abbrev pub placeOf : ℤ → ℕ

@@ -18,10 +18,10 @@ AtMost tries most l = (k : ℕ) → k < tries → getD l k 0 ≤ most
 abbrev pub Zeros : (tries : ℕ) → List ℕ → Type 0
 Zeros tries l = (k : ℕ) → k < tries → getD l k 0 ≡ 0
 
--- one caption, S to E, counted by its marks
-pub record Counted (marks : List ℕ) (S E tries : ℕ) (l l′ : List ℕ) : Type 0 where
+-- one caption, S to E, counted by its grades
+pub record Counted (grades : List ℕ) (S E tries : ℕ) (l l′ : List ℕ) : Type 0 where
   pub size : length l′ ≡ length l
-  pub counts : (k : ℕ) → k < tries → getD l′ k 0 ≡ countLost (lostBy marks S E (delayOf k)) (getD l k 0)
+  pub counts : (k : ℕ) → k < tries → getD l′ k 0 ≡ countLost (lostBy grades S E (delayOf k)) (getD l k 0)
 
 -- all captions counted
 pub record Losses (c : Config) (m : List Segment) (cs : List ℕ) (tries : ℕ) (l : List ℕ) : Type 0 where

@@ -2,7 +2,7 @@
 use mathlib.Core.List.{List, [], _∷_}
 use Prim.Native.Nat.{ℕ, zero, suc, _+_, _-_, _≤_, min, max}
 use Rattle.spec_ask.specs.declared.ask_edges.Edge.{Edge}
-use Rattle.spec_ask.specs.ask_edges.Edge.{markThrough}
+use Rattle.spec_ask.specs.ask_edges.Edge.{gradeThrough}
 
 -- 1 for a caption that is kept, and 1 for one that is shifted
 abbrev pub oneKept : ℕ → ℕ
@@ -17,7 +17,7 @@ oneWhole (suc (suc k)) = 1
 -- start by start
 unfoldable pub countStarts : (ℕ → ℕ) → List Edge → (L N : ℕ) → ℕ
 countStarts one es L zero = 0
-countStarts one es L (suc N) = countStarts one es L N + one (markThrough es N (N + L))
+countStarts one es L (suc N) = countStarts one es L N + one (gradeThrough es N (N + L))
 
 -- the numbers from lo up to hi, hi excluded, that are below N
 unfoldable pub startsIn : (lo hi N : ℕ) → ℕ

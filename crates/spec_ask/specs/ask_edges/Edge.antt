@@ -30,17 +30,17 @@ edgeWithin kind T q d =
     (edge (endWithin kind T (q + d)) (endWithin kind T (q + 1)) (endWithin kind T q) (endWithin kind T (q + d + 1))))
 
 -- ---- fates as numbers: 0 dropped (or passed), 1 clipped, 2 shifted
-abbrev pub fateMark : Fate → ℕ
-fateMark passed = 0
-fateMark dropped = 0
-fateMark (clipped s e) = 1
-fateMark (shifted s e) = 2
+abbrev pub fateGrade : Fate → ℕ
+fateGrade passed = 0
+fateGrade dropped = 0
+fateGrade (clipped s e) = 1
+fateGrade (shifted s e) = 2
 
-abbrev pub markBy : (met whole : Bool) → (others : ℕ) → ℕ
-markBy true true r = 2
-markBy true false r = 1
-markBy false w r = r
+abbrev pub gradeBy : (met whole : Bool) → (others : ℕ) → ℕ
+gradeBy true true r = 2
+gradeBy true false r = 1
+gradeBy false w r = r
 
-unfoldable pub markThrough : List Edge → (S E : ℕ) → ℕ
-markThrough [] S E = 0
-markThrough (e ∷ es) S E = markBy (ltb S (e .till) && leb (e .from) E) (leb (e .low) S && ltb E (e .high)) (markThrough es S E)
+unfoldable pub gradeThrough : List Edge → (S E : ℕ) → ℕ
+gradeThrough [] S E = 0
+gradeThrough (e ∷ es) S E = gradeBy (ltb S (e .till) && leb (e .from) E) (leb (e .low) S && ltb E (e .high)) (gradeThrough es S E)

@@ -65,7 +65,7 @@ met-told t i q o d eq eo ed = rw (eq, eo, ed)
 abbrev pub headOf : List ℕ → Segment
 headOf t = segment (getD t 0 0) (getD t 1 0) (getD t 2 0) (getD t 3 0) (getD t 4 0) (getD t 5 0)
 
-met-is : (i : ℕ) (t : List ℕ) → metAt i t ≡ metOf i (headOf t)
+pub met-is : (i : ℕ) (t : List ℕ) → metAt i t ≡ metOf i (headOf t)
 unfolding metAt
 met-is i t = refl
 
@@ -94,11 +94,11 @@ unfolding findFrom
 hit-none m t i a b inv h = sym (ap hitOf (inv ∙ ap (λ (x : List Segment). findFrom i x a b) (segments-short t h)))
 
 -- ---- the part-lost rule: a segment behind is met where a search there finds one
-abbrev isHit : Hit → Bool
+abbrev pub isHit : Hit → Bool
 isHit Miss = false
 isHit (At z) = true
 
-lost-found : (i : ℕ) (xs : List Segment) (a b : ℕ) → lostLater xs a b ≡ isHit (hitOf (findFrom i xs a b))
+pub lost-found : (i : ℕ) (xs : List Segment) (a b : ℕ) → lostLater xs a b ≡ isHit (hitOf (findFrom i xs a b))
 unfolding lostLater findFrom
 lost-found i [] a b = refl
 lost-found i (x ∷ xs) a b = go (meets x a b) (lost-found (suc i) xs a b)
@@ -123,7 +123,7 @@ pub record Behind (i : ℕ) (t : List ℕ) (z : Met) (f : Found) : Type 0 where
   pub room : 6 * (z .place - i) + 6 ≤ length t
   pub others : behindOf f ≡ segmentsOf (drop (6 * (z .place - i) + 6) t)
 
-no-hit : (z : Met) → Miss ≡ At z → ⊥
+pub no-hit : (z : Met) → Miss ≡ At z → ⊥
 no-hit z p = let w : _≡_ {A = ℕ} 0 1 = ap (λ (h : Hit). elim h [ Miss ↦ 0 | At v ↦ 1 ]) p in omega arith
 
 module _ (a b : ℕ) where

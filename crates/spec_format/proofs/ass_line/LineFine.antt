@@ -25,7 +25,7 @@ use Rattle.spec_format.specs.declared.ass_columns.Columns.{Columns}
 use Rattle.spec_format.specs.ass_columns.Columns.{columnsIn, fields, fieldAt}
 use Rattle.spec_format.specs.ass_columns.Section.{eventsName, bracketed, inside, inSection}
 use Rattle.spec_format.specs.ass_line.Line.{formatWord, dialogueWord, commentWord, LineSays, faulty, says, timesSay, captionSays, wordSays, textSays, lineSays}
-use Rattle.spec_format.specs.ass_line.Answer.{columnsAfter, lineAnswer, lineAnswerIn, lineIn, columnsNext}
+use Rattle.spec_format.specs.ass_line.AssThrough.{columnsAfter, lineAnswer, lineAnswerIn, lineIn, columnsNext}
 
 -- ---- what is known of the cue that line n + 1 says: its line, times below 10,000 hours, and ASS's mark
 pub record Timely (n : ℕ) (q : Cue) : Type 0 where

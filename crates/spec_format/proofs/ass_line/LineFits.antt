@@ -32,7 +32,7 @@ use Rattle.spec_format.specs.ass_columns.Columns.{columnsIn, fields, fie
 use Rattle.spec_format.specs.ass_columns.Section.{eventsName, bracketed, inside, inSection}
 use Rattle.spec_format.specs.ass_write.Frame.{lineFrame}
 use Rattle.spec_format.specs.ass_line.Line.{formatWord, dialogueWord, commentWord, LineSays, faulty, says, lineCue, timesSay, captionSays, wordSays, textSays, lineSays}
-use Rattle.spec_format.specs.ass_line.Answer.{lineAnswerIn, lineIn}
+use Rattle.spec_format.specs.ass_line.AssThrough.{lineAnswerIn, lineIn}
 use Rattle.spec_format.proofs.ass_line.TellLaws.{render-most}
 use Rattle.spec_format.proofs.ass_write.FitLaws.{rest-long, line-most}
 use Rattle.spec_format.proofs.ass_line.SayLaws.{starts-long, parts-room}

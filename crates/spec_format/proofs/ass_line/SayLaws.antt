@@ -30,7 +30,7 @@ use Rattle.spec_format.specs.ass_columns.Columns.{columnsIn, fields, fie
 use Rattle.spec_format.specs.ass_columns.Section.{eventsName, bracketed, inside, inSection}
 use Rattle.spec_format.specs.ass_write.Frame.{lineFrame, frameMost}
 use Rattle.spec_format.specs.ass_line.Line.{formatWord, dialogueWord, commentWord, LineSays, faulty, says, lineCue, timesSay, captionSays, wordSays, textSays, lineSays}
-use Rattle.spec_format.specs.ass_line.Answer.{columnsAfter, lineAnswerIn, lineIn, columnsNext, stayedWith}
+use Rattle.spec_format.specs.ass_line.AssThrough.{columnsAfter, lineAnswerIn, lineIn, columnsNext, stayedWith}
 use Rattle.spec_format.proofs.ass_line.TellLaws.{tells-stayed}
 use Rattle.spec_format.proofs.ass_write.FitLaws.{line-most}
 

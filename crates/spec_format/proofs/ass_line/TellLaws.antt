@@ -22,7 +22,7 @@ use Rattle.spec_format.specs.ass_columns.Columns.{fields, fieldAt}
 use Rattle.spec_format.specs.ass_write.Tags.{tagged}
 use Rattle.spec_format.specs.ass_write.Frame.{lineFrame, framePlaced, frameAfter, frameMost}
 use Rattle.spec_format.specs.ass_line.Line.{lineCue}
-use Rattle.spec_format.specs.ass_line.Answer.{stayedWith}
+use Rattle.spec_format.specs.ass_line.AssThrough.{stayedWith}
 use Rattle.spec_format.proofs.ass_write.WriteLaws.{frame-put}
 
 -- ---- a line that stays

@@ -33,7 +33,7 @@ use Rattle.spec_format.proofs.ass_columns.ColumnLaws.{Apart, format-apa
 use Rattle.spec_format.proofs.ass_columns.FieldLaws.{at-none, fields-most}
 use Rattle.spec_format.proofs.ass_write.FieldBack.{newField, newFields, new-length, new-start, new-end, new-at, new-pieces, written, fields-back, last-back}
 use Rattle.spec_format.specs.ass_line.Line.{formatWord, dialogueWord, commentWord, LineSays, faulty, says, lineCue, timesSay, captionSays, wordSays, textSays, lineSays}
-use Rattle.spec_format.specs.ass_line.Answer.{columnsAfter}
+use Rattle.spec_format.specs.ass_line.AssThrough.{columnsAfter}
 use Rattle.spec_format.proofs.ass_line.SayLaws.{caption-times, caption-columns}
 
 -- ---- a written time: no comma, no `\`, and a digit at its end

@@ -37,7 +37,7 @@ use Rattle.spec_format.specs.block_timing.Style.{endIn, stampsIn, styleO
 use Rattle.spec_format.specs.block_timing.Arrow
 use Rattle.spec_format.specs.block_timing.Arrow.{arrow, afterArrow, timingOf, Timing}
 use Rattle.spec_format.specs.block_cue.Block.{blockFrame, blockCue, bothSay, endText, trailing, timingLineSays, timingSays, blockSays, faulty, says}
-use Rattle.spec_format.specs.block_cue.Answer.{blockAnswerIn, blockIn, timesRead}
+use Rattle.spec_format.specs.block_cue.BlockThrough.{blockAnswerIn, blockIn, timesRead}
 use Rattle.spec_format.specs.block_timing.Place.{timingPlace}
 use Rattle.spec_format.proofs.block_timing.PlaceLaws.{Stands, stands}
 use Rattle.spec_format.proofs.block_cue.WriteLaws.{line-long}

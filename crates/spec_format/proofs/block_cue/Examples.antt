@@ -28,7 +28,7 @@ use Rattle.spec_caption.specs.caption_fate.Told.{Answer, answered, refusal, par
 use Rattle.spec_format.specs.block_timing.Style.{srtEnd, vttEnd, endIn, stampHead, stampIn, stampsIn, styleOf}
 use Rattle.spec_format.specs.block_timing.Arrow.{timingOf, afterArrow}
 use Rattle.spec_format.specs.block_cue.Block.{blockFrame, blockCue, timingLineSays, blockSays, BlockSays, faulty, says}
-use Rattle.spec_format.specs.block_cue.Answer.{blockIn}
+use Rattle.spec_format.specs.block_cue.BlockThrough.{blockIn}
 
 abbrev line : String → List ℕ
 line s = ascii s ++ 10 ∷ []

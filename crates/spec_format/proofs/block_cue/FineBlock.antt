@@ -26,7 +26,7 @@ use Rattle.spec_format.specs.block_timing.Style.{Style, stampsIn, styleO
 use Rattle.spec_format.specs.block_timing.Arrow
 use Rattle.spec_format.specs.block_timing.Arrow.{arrow, timingOf, Timing}
 use Rattle.spec_format.specs.block_cue.Block.{blockFrame, bothSay, endText, trailing, timingLineSays, timingSays, blockSays, BlockSays, faulty, says}
-use Rattle.spec_format.specs.block_cue.Answer.{blockAnswer, blockAnswerIn, blockIn}
+use Rattle.spec_format.specs.block_cue.BlockThrough.{blockAnswer, blockAnswerIn, blockIn}
 
 -- ---- what is known of the cue that a block says: times below 10,000 hours, each with a comma or a point; no tag
 pub record Timely (kind : ℕ) (q : Cue) : Type 0 where

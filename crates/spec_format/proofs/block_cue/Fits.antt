@@ -29,7 +29,7 @@ use Rattle.spec_format.specs.block_timing.Style.{stampsIn, styleOf}
 use Rattle.spec_format.specs.block_timing.Arrow
 use Rattle.spec_format.specs.block_timing.Arrow.{arrow, timingOf, Timing}
 use Rattle.spec_format.specs.block_cue.Block.{blockFrame, blockCue, bothSay, endText, trailing, timingLineSays, timingSays, blockSays, BlockSays, faulty, says}
-use Rattle.spec_format.specs.block_cue.Answer.{blockAnswerIn, blockIn}
+use Rattle.spec_format.specs.block_cue.BlockThrough.{blockAnswerIn, blockIn}
 use Rattle.spec_format.specs.block_timing.Place.{timingPlace}
 use Rattle.spec_format.proofs.block_timing.PlaceLaws.{Placed, timing-placed}
 use Rattle.spec_format.proofs.block_cue.WriteLaws.{kept-length, line-long}

@@ -15,7 +15,7 @@ use Rattle.spec_text.specs.text.Line.{linesOf, textOf, terminatorLength, termin
 use Rattle.spec_caption.specs.caption_time.Kind.{kindBad, unitsOf, markOf}
 use Rattle.spec_caption.specs.caption_stamp.Read.{markIn, timeWith, timeIn}
 use Rattle.spec_caption.specs.caption_fate.Says.{bytes, start, stop, short, stays, passes, cue}
-use Rattle.spec_caption.specs.caption_fate.Mark.{bom}
+use Rattle.spec_caption.specs.caption_fate.Bom.{bom}
 use Rattle.spec_format.specs.ass_columns.Columns.{namesIn, placeIn, columnsIn, fields, fieldAt}
 use Rattle.spec_format.specs.ass_columns.Section.{bracketed, inside}
 use Rattle.spec_format.specs.ass_write.Tags.{holdsAny}

@@ -14,7 +14,7 @@ use Rattle.spec_text.specs.text.Line.{linesOf, textOf, terminatorLength, termin
 use Rattle.spec_caption.specs.caption_time.Kind.{kindBad, unitsOf, markOf}
 use Rattle.spec_caption.specs.caption_stamp.Read.{markIn, timeWith, timeIn}
 use Rattle.spec_caption.specs.caption_fate.Says.{stays, cue}
-use Rattle.spec_caption.specs.caption_fate.Mark.{bom}
+use Rattle.spec_caption.specs.caption_fate.Bom.{bom}
 use Rattle.spec_format.specs.block_timing.Style.{srtEnd, endIn, stampsIn, blankIn}
 use Rattle.spec_format.specs.block_timing.Arrow.{timingOf, afterArrow}
 use Rattle.spec_format.specs.block_cue.Block.{blockFrame, blockCue, timingLineSays, blockSays}

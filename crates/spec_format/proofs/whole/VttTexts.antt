@@ -14,7 +14,7 @@ use Rattle.spec_text.specs.text.Line.{linesOf, textOf, terminatorLength, termin
 use Rattle.spec_caption.specs.caption_time.Kind.{kindBad}
 use Rattle.spec_caption.specs.caption_stamp.Read.{wideBy, wideFrom, vttTime, timeIn}
 use Rattle.spec_caption.specs.caption_fate.Says.{stays, cue}
-use Rattle.spec_caption.specs.caption_fate.Mark.{bom}
+use Rattle.spec_caption.specs.caption_fate.Bom.{bom}
 use Rattle.spec_format.specs.block_timing.Style.{vttEnd, endIn, stampHead, stampIn, stampsIn, blankIn}
 use Rattle.spec_format.specs.block_timing.Arrow.{timingOf, afterArrow}
 use Rattle.spec_format.specs.block_cue.Block.{blockFrame, blockCue, timingLineSays, blockSays}

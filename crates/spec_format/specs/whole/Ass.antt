@@ -4,11 +4,11 @@ use mathlib.Core.List.{List, [], _∷_, _++_}
 use Prim.Native.Nat.{ℕ, suc}
 use Rattle.spec_text.specs.text.Line.{linesOf}
 use Rattle.spec_caption.specs.caption_fate.Says.{Part}
-use Rattle.spec_caption.specs.caption_fate.Mark.{marked, behindMark, markWritten}
+use Rattle.spec_caption.specs.caption_fate.Bom.{startsBom, behindBom, bomWritten}
 use Rattle.spec_format.specs.declared.ass_columns.Columns.{Columns}
 use Rattle.spec_format.specs.ass_columns.Columns.{noColumns}
 use Rattle.spec_format.specs.ass_line.Line.{LineSays, faulty, says, lineSays}
-use Rattle.spec_format.specs.ass_line.Answer.{columnsAfter}
+use Rattle.spec_format.specs.ass_line.AssThrough.{columnsAfter}
 
 -- a line's part, then the lines behind it by the section and columns that it leaves; a bad time ends the text, as the Rust does
 abbrev pub saidThen : LineSays → (Columns → List Part) → List Part
@@ -27,4 +27,4 @@ columnsBehind c n (l ∷ ls) = columnsBehind (columnsAfter c (lineSays c n l)) (
 
 -- a text: a BOM stays, and the lines stand behind it
 unfoldable pub assSaid : List ℕ → List Part
-assSaid text = markWritten (marked text) ++ linesSaid noColumns 0 (linesOf (behindMark text))
+assSaid text = bomWritten (startsBom text) ++ linesSaid noColumns 0 (linesOf (behindBom text))

@@ -5,7 +5,7 @@ use mathlib.Core.List.{List, [], _∷_, _++_, map}
 use Prim.Native.Nat.{ℕ, suc, _+_}
 use Rattle.spec_text.specs.text.Line.{linesOf, lineCount}
 use Rattle.spec_caption.specs.caption_fate.Says.{Part, stays}
-use Rattle.spec_caption.specs.caption_fate.Mark.{marked, behindMark, markWritten}
+use Rattle.spec_caption.specs.caption_fate.Bom.{startsBom, behindBom, bomWritten}
 use Rattle.spec_format.specs.block_timing.Style.{styleOf, blankIn}
 use Rattle.spec_format.specs.block_cue.Block.{BlockSays, faulty, says, blockSays}
 
@@ -53,7 +53,7 @@ blocksSaid kind n (b ∷ bs) = bodySaid kind n (b .body) (map stays (b .blanks) 
 
 -- a text: a BOM stays, and the blocks stand behind it
 abbrev pub textBlocks : List ℕ → List Block
-textBlocks text = blocksOf 1 (linesOf (behindMark text))
+textBlocks text = blocksOf 1 (linesOf (behindBom text))
 
 unfoldable pub srtSaid : List ℕ → List Part
-srtSaid text = markWritten (marked text) ++ blocksSaid 1 0 (textBlocks text)
+srtSaid text = bomWritten (startsBom text) ++ blocksSaid 1 0 (textBlocks text)

@@ -4,7 +4,7 @@ use mathlib.Core.List.{List, [], _∷_, _++_}
 use Prim.Native.Nat.{ℕ}
 use Rattle.spec_text.specs.text.Line.{linesOf}
 use Rattle.spec_caption.specs.caption_fate.Says.{Part, stays}
-use Rattle.spec_caption.specs.caption_fate.Mark.{marked, behindMark, markWritten}
+use Rattle.spec_caption.specs.caption_fate.Bom.{startsBom, behindBom, bomWritten}
 use Rattle.spec_format.specs.whole.Srt.{blocksOf, blocksSaid}
 
 -- the first line, then the blocks behind it; one line came before them
@@ -14,4 +14,4 @@ headSaid (l ∷ ls) = stays l ∷ blocksSaid 2 1 (blocksOf 2 ls)
 
 -- a text: a BOM stays, and the lines stand behind it
 unfoldable pub vttSaid : List ℕ → List Part
-vttSaid text = markWritten (marked text) ++ headSaid (linesOf (behindMark text))
+vttSaid text = bomWritten (startsBom text) ++ headSaid (linesOf (behindBom text))

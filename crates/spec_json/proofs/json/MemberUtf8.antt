@@ -17,7 +17,7 @@ use Rattle.spec_json.specs.json.Value.{scalarWidth, valueWidth, keyWidth
 use Rattle.spec_json.specs.json.Walk.{isOpen}
 use Rattle.spec_json.specs.json.Member.{bare, Member, memberAll, membersOf, valuesOf, single, fieldOf}
 use Rattle.spec_json.proofs.json.ItemLaws.{value-flat, value-scalar}
-use Rattle.spec_json.proofs.json.Utf8Parts.{low-drop, low-past, low-take}
+use Rattle.spec_text.proofs.unicode.Utf8Parts.{low-drop, low-past, low-take}
 use Rattle.spec_json.proofs.json.StringUtf8.{chars-utf8}
 
 -- ---- parts

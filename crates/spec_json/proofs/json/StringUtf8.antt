@@ -17,7 +17,7 @@ use Rattle.spec_text.proofs.unicode.Decoding.{all-taken, only-those}
 use Rattle.spec_json.specs.json.Str.{hexDigit, hexWord, isHigh, isLow, shortEscape, pairFollows, unicodeWidth, unicodePoint, escapeWidth, escapeBytes, charWide, charBytes, charsBytes}
 use Rattle.spec_json.proofs.json.StringLaws.{char-in}
 use Rattle.spec_json.proofs.json.CharsLaws.{bytes-stop, bytes-step}
-use Rattle.spec_json.proofs.json.Utf8Parts.{High, encode-high, low-head, none-utf8, low-past}
+use Rattle.spec_text.proofs.unicode.Utf8Parts.{High, encode-high, low-head, none-utf8, low-past}
 
 -- ---- hexadecimal digits are below 80
 hex-low : (b : ℕ) → hexDigit b < 16 → b < 0x80

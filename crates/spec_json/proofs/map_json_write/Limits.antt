@@ -7,7 +7,7 @@ use Rattle.spec_base.specs.base.Refusal.{_orElse_, faultUnless}
 use Rattle.spec_text.specs.utf8.Utf8.{leadLen, secondLow, secondHigh, tail, widthBy, charWidth, utf8From, utf8}
 use Rattle.spec_caption.specs.caption_time.Convert.{timescaleBad}
 use Rattle.spec_map.specs.segment.Segment.{segmentsOf, anyBad, mapBad}
-use Rattle.spec_json.specs.map_json_write.Answer.{writeNumber}
+use Rattle.spec_json.specs.map_json_write.MapWritten.{writeNumber}
 
 pub write-rows :
     writeNumber [] 1 (replicate 1024 97) (32 ∷ []) 1

@@ -19,8 +19,8 @@ use Rattle.spec_json.specs.json.Num.{digitRun, intWidth, fracWidth, isEx
 use Rattle.spec_json.specs.json.Value.{literalWidth, scalarWidth, keyWidth, memberWidth, rowWidth, rowItems, valueWidth}
 use Rattle.spec_json.specs.json.Member.{bare, elementsOf, membersOf, valuesOf, fieldOf}
 use Rattle.spec_json.specs.map_json_write.Reads.{segmentSaid, segmentFrom, segmentsSaid, segmentsFrom, shallow, pathSaid, fieldsSaid, isMapText, mapSaid}
-use Rattle.spec_json.specs.map_json_write.Answer.{whenDone}
-use Rattle.spec_json.specs.map_json_read.Answer.{readNumber, valueWhenDone}
+use Rattle.spec_json.specs.map_json_write.MapWritten.{whenDone}
+use Rattle.spec_json.specs.map_json_read.MapRead.{readNumber, valueWhenDone}
 
 -- a text with this timescale and these segments
 abbrev text : (timescale segments : String) → List ℕ

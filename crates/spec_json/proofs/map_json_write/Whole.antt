@@ -16,7 +16,7 @@ use Rattle.spec_map.proofs.segment.SegmentLaws.{end-good}
 use Rattle.spec_json.specs.map_json_write.Names.{mostPath, mostWord}
 use Rattle.spec_json.specs.map_json_write.Text.{mapText}
 use Rattle.spec_json.specs.map_json_write.Reads.{Said, isMapText, mapSaid}
-use Rattle.spec_json.specs.map_json_write.Answer.{Back, RoundTrip}
+use Rattle.spec_json.specs.map_json_write.MapWritten.{Back, RoundTrip}
 use Rattle.spec_json.proofs.map_json_write.Back.{Narrow, AllNarrow, is-map, said-is}
 use Rattle.spec_json.proofs.map_json_write.Clean.{text-utf8}
 

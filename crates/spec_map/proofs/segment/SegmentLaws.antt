@@ -80,21 +80,21 @@ module _ (a d e f : ℕ) (sa : a < 2 ^ 64) (sd : d < 2 ^ 64) (pe : e ≡ (a + d)
   past-small = omega arith
 
 -- a sum of three, then two more: 0 where each is
-frame-tells : (a : ℕ) → ltb 0 (a / 4294967296) ≡ ltb mostFrame a
+pub frame-tells : (a : ℕ) → ltb 0 (a / 4294967296) ≡ ltb mostFrame a
 frame-tells a = go (ltb mostFrame a) refl
   where
     go : (t : Bool) → ltb mostFrame a ≡ t → ltb 0 (a / 4294967296) ≡ t
     go true q = lt-ltb 0 (a / 4294967296) (omega (arith, ltb-true mostFrame a q))
     go false q = le-ltb 0 (a / 4294967296) (omega (arith, ltb-false mostFrame a q))
 
-sum-tells : (x y : ℕ) → ltb 0 (x + y) ≡ cond (ltb 0 x) true (ltb 0 y)
+pub sum-tells : (x y : ℕ) → ltb 0 (x + y) ≡ cond (ltb 0 x) true (ltb 0 y)
 sum-tells x y = go (ltb 0 x) refl
   where
     go : (t : Bool) → ltb 0 x ≡ t → ltb 0 (x + y) ≡ cond t true (ltb 0 y)
     go true q = lt-ltb 0 (x + y) (omega (arith, ltb-true 0 x q))
     go false q = let z : x + y ≡ y = omega (arith, ltb-false 0 x q) in ap (λ (k : ℕ). ltb 0 k) z
 
-or-or : (s t u : Bool) → cond (cond s true t) true u ≡ cond s true (cond t true u)
+pub or-or : (s t u : Bool) → cond (cond s true t) true u ≡ cond s true (cond t true u)
 or-or true t u = refl
 or-or false t u = refl
 

@@ -18,7 +18,7 @@ use Rattle.spec_parking.proofs.parked_blocks.Bytes.{sum-past, sum-withi
 pub side-by-side : (n m k : ℕ) (l : List ℕ) → take n (drop k l) ++ take m (drop (k + n) l) ≡ take (n + m) (drop k l)
 side-by-side n m k l = sym (take-add n m (drop k l) ∙ ap (λ (x : List ℕ). take n (drop k l) ++ take m x) (drop-drop n k l))
 
-part-4 : (l : List ℕ) → 4 ≤ length l → take 4 l ≡ getD l 0 0 ∷ getD l 1 0 ∷ getD l 2 0 ∷ getD l 3 0 ∷ []
+pub part-4 : (l : List ℕ) → 4 ≤ length l → take 4 l ≡ getD l 0 0 ∷ getD l 1 0 ∷ getD l 2 0 ∷ getD l 3 0 ∷ []
 part-4 [] h = absurd (omega arith)
 part-4 (a ∷ []) h = absurd (omega arith)
 part-4 (a ∷ b ∷ []) h = absurd (omega arith)
@@ -30,6 +30,20 @@ pub zero-list : (l : List ℕ) → allZero l ≡ true → l ≡ replicate (lengt
 unfolding allZero
 zero-list [] h = refl
 zero-list (b ∷ l) h = ap₂ (λ (x : ℕ) (y : List ℕ). x ∷ y) (eqb-true b 0 (and-left (eqb b 0) (allZero l) h)) (zero-list l (and-right (eqb b 0) (allZero l) h))
+
+-- a block's words, counted in the row and in the block
+pub block-sum : (s : List ℕ) (b : ℕ) → 512 * b + 512 ≤ length s → sumWords s (128 * b) 127 ≡ sumWords (take 508 (drop (512 * b) s)) 0 127
+block-sum s b size =
+    let D = drop (512 * b) s in
+    let long : length (take 508 D) ≡ 508 = length-take-le 508 D (omega (arith, length-drop (512 * b) s, size)) in
+    let begun : length (take (512 * b) s) ≡ 512 * b = length-take-le (512 * b) s (omega (arith, size)) in
+    let four-times : length (take (512 * b) s) ≡ 4 * (128 * b) = omega (arith, begun) in
+    let z : 128 * b + 0 ≡ 128 * b = omega arith in
+    sym
+    (sym (sum-within (take 508 D) (drop 508 D) 127 (omega (arith, long)))
+    ∙ ap (λ (l : List ℕ). sumWords l 0 127) (take-append-drop 508 D)
+    ∙ sym (sum-past (take (512 * b) s) D (128 * b) 0 127 four-times)
+    ∙ ap₂ (λ (l : List ℕ) (k : ℕ). sumWords l k 127) (take-append-drop (512 * b) s) z)
 
 -- ---- words
 four : (a b c d : ℕ) → a < 256 → b < 256 → c < 256 → d < 256 → wordBytes (a + 256 * b + 65536 * c + 16777216 * d) ≡ a ∷ b ∷ c ∷ d ∷ []
@@ -122,15 +136,7 @@ module _ (s : List ℕ) (small : (j : ℕ) → getD s j 0 < 256) where
 
     total : sumWords (take 508 D) 0 127 ≡ sumWords s (128 * b) 127
     unfolding D
-    total =
-        let long : length (take 508 D) ≡ 508 = length-take-le 508 D (omega (arith, length-drop (512 * b) s, size)) in
-        let begun : length (take (512 * b) s) ≡ 512 * b = length-take-le (512 * b) s (omega (arith, size)) in
-        let four-times : length (take (512 * b) s) ≡ 4 * (128 * b) = omega (arith, begun) in
-        let z : 128 * b + 0 ≡ 128 * b = omega arith in
-        sym (sum-within (take 508 D) (drop 508 D) 127 (omega (arith, long)))
-        ∙ ap (λ (l : List ℕ). sumWords l 0 127) (take-append-drop 508 D)
-        ∙ sym (sum-past (take (512 * b) s) D (128 * b) 0 127 four-times)
-        ∙ ap₂ (λ (l : List ℕ) (k : ℕ). sumWords l k 127) (take-append-drop (512 * b) s) z
+    total = sym (block-sum s b size)
 
     last : wordBytes (sumWords (wordBytes b ++ body) 0 127 % 2 ^ 32) ≡ take 4 (drop (512 * b + 508) s)
     last =

@@ -4,7 +4,7 @@ use mathlib.Core.Path.{_≡_, refl, ap, sym, _∙_}
 use mathlib.Core.Bool.{Bool, true, false, _&&_, cond}
 use mathlib.Core.List.{List, [], _∷_, _++_, append-nil, append-assoc}
 use lib.Dec.{eqb, leb}
-use lib.ListN.{length, getD, take, drop, length-append, length-take, length-drop, drop-of-length-le, take-append-drop}
+use lib.ListN.{length, getD, take, drop, length-append, length-drop, drop-of-length-le}
 use lib.Seq.{drop-cons, length-take-le}
 use native.Mathlib.Omega.{arith}
 use borrow.Author.Tests.{eq-eqb, ne-eqb, eqb-true, eqb-false, le-leb, lt-leb}
@@ -14,35 +14,38 @@ use Rattle.spec_base.proofs.base.PutLaws.{put-nil, then-placed}
 use Rattle.spec_sheet.specs.checked_blocks.Block.{blockHolds}
 use Rattle.spec_parking.specs.parked_blocks.Sealed.{sealedLength, bodyLength, roomLength, allHold, bodies, roomOf, allZero, isRow, unsealed}
 
--- ---- all blocks
-hold-part : (s : List ℕ) (b : ℕ) → b < 18 → allHold s b (18 - b) ≡ (blockHolds s b && allHold s (b + 1) (18 - (b + 1)))
+-- ---- the first n blocks
+hold-part : (s : List ℕ) (b n : ℕ) → b < n → allHold s b (n - b) ≡ (blockHolds s b && allHold s (b + 1) (n - (b + 1)))
 unfolding allHold
-hold-part s b h =
-    let z : 18 - b ≡ suc (18 - (b + 1)) = omega arith in
+hold-part s b n h =
+    let z : n - b ≡ suc (n - (b + 1)) = omega arith in
     let y : suc b ≡ b + 1 = omega arith in
-    ap (allHold s b) z ∙ ap (λ (i : ℕ). blockHolds s b && allHold s i (18 - (b + 1))) y
+    ap (allHold s b) z ∙ ap (λ (i : ℕ). blockHolds s b && allHold s i (n - (b + 1))) y
 
-pub hold-step : (s : List ℕ) (b : ℕ) (t : Bool) → b < 18 → t ≡ blockHolds s b → t ≡ true → allHold s b (18 - b) ≡ allHold s 0 18
-    → allHold s (b + 1) (18 - (b + 1)) ≡ allHold s 0 18
-hold-step s b t h e f inv = ap (λ (u : Bool). u && allHold s (b + 1) (18 - (b + 1))) (sym f ∙ e) ∙ sym (hold-part s b h) ∙ inv
+module _ (s : List ℕ) (b n : ℕ) (inv : allHold s b (n - b) ≡ allHold s 0 n) where
+  pub hold-step : (t : Bool) → b < n → t ≡ blockHolds s b → t ≡ true → allHold s (b + 1) (n - (b + 1)) ≡ allHold s 0 n
+  hold-step t h e f = ap (λ (u : Bool). u && allHold s (b + 1) (n - (b + 1))) (sym f ∙ e) ∙ sym (hold-part s b n h) ∙ inv
 
-pub hold-no : (s : List ℕ) (b : ℕ) (t : Bool) → b < 18 → t ≡ blockHolds s b → t ≡ false → allHold s b (18 - b) ≡ allHold s 0 18 → false ≡ allHold s 0 18
-hold-no s b t h e f inv = ap (λ (u : Bool). u && allHold s (b + 1) (18 - (b + 1))) (sym f ∙ e) ∙ sym (hold-part s b h) ∙ inv
+  pub hold-no : (t : Bool) → b < n → t ≡ blockHolds s b → t ≡ false → false ≡ allHold s 0 n
+  hold-no t h e f = ap (λ (u : Bool). u && allHold s (b + 1) (n - (b + 1))) (sym f ∙ e) ∙ sym (hold-part s b n h) ∙ inv
 
-pub hold-all : (s : List ℕ) (b : ℕ) → b ≤ 18 → 18 ≤ b → allHold s b (18 - b) ≡ allHold s 0 18 → true ≡ allHold s 0 18
-unfolding allHold
-hold-all s b h k inv = let z : 0 ≡ 18 - b = omega arith in ap (allHold s b) z ∙ inv
+  pub hold-all : n ≤ b → true ≡ allHold s 0 n
+  unfolding allHold
+  hold-all k = let z : 0 ≡ n - b = omega arith in ap (allHold s b) z ∙ inv
+
+pub hold-start : (s : List ℕ) (n : ℕ) → allHold s 0 (n - 0) ≡ allHold s 0 n
+hold-start s n = let z : n - 0 ≡ n = omega arith in ap (allHold s 0) z
 
 -- ---- zeros, by the largest byte
-and-assoc : (a b c : Bool) → (a && (b && c)) ≡ ((a && b) && c)
+pub and-assoc : (a b c : Bool) → (a && (b && c)) ≡ ((a && b) && c)
 and-assoc true b c = refl
 and-assoc false b c = refl
 
-and-false : (a : Bool) → (a && false) ≡ false
+pub and-false : (a : Bool) → (a && false) ≡ false
 and-false true = refl
 and-false false = refl
 
-and-true : (a : Bool) → (a && true) ≡ a
+pub and-true : (a : Bool) → (a && true) ≡ a
 and-true true = refl
 and-true false = refl
 
@@ -82,7 +85,7 @@ bodies-snoc s b (suc n) =
     ap (λ (l : List ℕ). v ++ l) (bodies-snoc s (suc b) n) ∙ sym (append-assoc v (bodies s (suc b) n) (take bodyLength (drop (512 * (suc b + n) + 4) s)))
     ∙ ap (λ (i : ℕ). (v ++ bodies s (suc b) n) ++ take bodyLength (drop (512 * i + 4) s)) z
 
-bodies-length : (s : List ℕ) (b n : ℕ) → 512 * (b + n) ≤ length s → length (bodies s b n) ≡ bodyLength * n
+pub bodies-length : (s : List ℕ) (b n : ℕ) → 512 * (b + n) ≤ length s → length (bodies s b n) ≡ bodyLength * n
 unfolding bodies
 bodies-length s b zero h = refl
 bodies-length s b (suc n) h =
@@ -97,7 +100,7 @@ pub room-none : (s l : List ℕ) → l ≡ put (bodies s 1 0) l
 unfolding bodies
 room-none s l = sym (put-nil l)
 
-module _ (s l xs ys p : List ℕ) (n at next : ℕ) (e : length s ≡ sealedLength) (f : roomLength ≤ length l) (h : n < 17) (a : at ≡ bodyLength * n)
+module _ (s l xs ys p : List ℕ) (k n at next : ℕ) (e : length s ≡ sealedLength) (few : k ≤ 17) (f : roomLength ≤ length l) (h : n < k) (a : at ≡ bodyLength * n)
     (x : xs ≡ put (bodies s 1 n) l) (q : p ≡ take bodyLength (drop (512 * (n + 1) + 4) s)) (en : next ≡ placeAfter at p xs) (ey : ys ≡ placedAt at p xs) where
   so-far : length (bodies s 1 n) ≡ bodyLength * n
   so-far = bodies-length s 1 n (omega arith)
@@ -120,8 +123,8 @@ module _ (s l xs ys p : List ℕ) (n at next : ℕ) (e : length s ≡ sealedLeng
   pub room-next : next ≡ bodyLength * (n + 1)
   room-next = omega (arith, both .1, length-append (bodies s 1 n) p, so-far, part-length)
 
-pub room-all : (s l xs : List ℕ) (n : ℕ) → n ≤ 17 → 17 ≤ n → xs ≡ put (bodies s 1 n) l → xs ≡ put (roomOf s) l
-room-all s l xs n h k x = let z : n ≡ 17 = omega arith in x ∙ ap (λ (i : ℕ). put (bodies s 1 i) l) z
+pub room-all : (s l xs : List ℕ) (k n : ℕ) → n ≤ k → k ≤ n → xs ≡ put (bodies s 1 n) l → xs ≡ put (bodies s 1 k) l
+room-all s l xs k n h g x = let z : n ≡ k = omega arith in x ∙ ap (λ (i : ℕ). put (bodies s 1 i) l) z
 
 -- ---- a row of blocks
 pub row-short : (s : List ℕ) → (length s ≡ sealedLength → ⊥) → false ≡ isRow s

@@ -1,7 +1,9 @@
 -- Laws of the blocks' writers.
 use Prim.Native.Nat.{ℕ, zero, suc, _+_, _-_, _*_, _/_, _%_, _^_, _≤_, _<_}
 use mathlib.Core.Path.{_≡_, refl, ap, ap₂, sym, _∙_}
+use mathlib.Core.Bool.{_&&_, cond}
 use mathlib.Core.List.{List, [], _∷_, _++_, append-assoc, append-nil}
+use lib.Dec.{leb}
 use lib.ListN.{length, getD, set, take, drop, replicate, length-append, length-take, length-drop, length-replicate, drop-of-length-le}
 use lib.Seq.{take-suc, drop-drop, length-take-le, take-all, getD-append-add}
 use borrow.Author.Tests.{le-leb, lt-leb}
@@ -11,6 +13,7 @@ use Rattle.spec_base.specs.base.Put.{put, putAt, placedAt, placeAfter}
 use Rattle.spec_base.proofs.base.PutLaws.{put-snoc, put-nil, putAt-nil, putAt-zero, length-put, then-put, then-placed, put-back}
 use Rattle.spec_sheet.specs.checked_blocks.Block.{wordAt, sumWords}
 use Rattle.spec_parking.specs.parked_blocks.Sealed.{sealedLength, bodyLength, roomLength, wordBytes, wordsBytes, sealed, sealedAll, filled, rowOf, rowIn}
+use Rattle.spec_parking.specs.parked_blocks.First.{blocksFor, firstBlocks, firstIn}
 use Rattle.spec_parking.proofs.parked_blocks.Bytes.{sum-within, words-append, bytes-length, words-length, sealed-length, all-length}
 
 -- ---- one more element behind a piece
@@ -106,7 +109,7 @@ unfolding wordAt
 zero-word p k i h =
     omega (arith, zero-behind p k (4 * i) h, zero-behind p k (4 * i + 1) (omega arith), zero-behind p k (4 * i + 2) (omega arith), zero-behind p k (4 * i + 3) (omega arith))
 
-zero-sum : (p : List ℕ) (k m n : ℕ) → length p ≤ 4 * m → sumWords (p ++ replicate k 0) 0 (m + n) ≡ sumWords (p ++ replicate k 0) 0 m
+pub zero-sum : (p : List ℕ) (k m n : ℕ) → length p ≤ 4 * m → sumWords (p ++ replicate k 0) 0 (m + n) ≡ sumWords (p ++ replicate k 0) 0 m
 unfolding sumWords
 zero-sum p k m zero h = let z : m + 0 ≡ m = omega arith in ap (sumWords (p ++ replicate k 0) 0) z
 zero-sum p k m (suc n) h =
@@ -184,12 +187,12 @@ pub part-is : (held x r : List ℕ) (n : ℕ) → x ≡ drop (bodyLength * n) he
 part-is held x r n e f = f ∙ ap (take bodyLength) e
 
 -- ---- zeros behind a list, cut
-take-zeros : (n k : ℕ) → n ≤ k → take n (replicate {A = ℕ} k 0) ≡ replicate n 0
+pub take-zeros : (n k : ℕ) → n ≤ k → take n (replicate {A = ℕ} k 0) ≡ replicate n 0
 take-zeros zero k h = refl
 take-zeros (suc n) zero h = absurd (omega arith)
 take-zeros (suc n) (suc k) h = ap (λ (l : List ℕ). 0 ∷ l) (take-zeros n k (omega arith))
 
-drop-zeros : (n k : ℕ) → drop n (replicate {A = ℕ} k 0) ≡ replicate (k - n) 0
+pub drop-zeros : (n k : ℕ) → drop n (replicate {A = ℕ} k 0) ≡ replicate (k - n) 0
 drop-zeros zero k = let z : k ≡ k - 0 = omega arith in ap (λ (i : ℕ). replicate i 0) z
 drop-zeros (suc n) zero = let z : 0 ≡ 0 - suc n = omega arith in ap (λ (i : ℕ). replicate i 0) z
 drop-zeros (suc n) (suc k) = let z : k - n ≡ suc k - suc n = omega arith in drop-zeros n k ∙ ap (λ (i : ℕ). replicate i 0) z
@@ -201,7 +204,7 @@ take-filled (suc n) k (x ∷ l) h =
     let z : n - length (take n l) ≡ suc n - suc (length (take n l)) = omega arith in
     ap (λ (y : List ℕ). x ∷ y) (take-filled n k l (omega arith) ∙ ap (λ (i : ℕ). take n l ++ replicate i 0) z)
 
-drop-filled : (n k : ℕ) (l : List ℕ) → drop n (l ++ replicate k 0) ≡ drop n l ++ replicate (k - (n - length l)) 0
+pub drop-filled : (n k : ℕ) (l : List ℕ) → drop n (l ++ replicate k 0) ≡ drop n l ++ replicate (k - (n - length l)) 0
 drop-filled zero k l = let z : k ≡ k - (0 - length l) = omega arith in ap (λ (i : ℕ). l ++ replicate i 0) z
 drop-filled (suc n) k [] = let z : k - suc n ≡ k - (suc n - 0) = omega arith in drop-zeros (suc n) k ∙ ap (λ (i : ℕ). replicate i 0) z
 drop-filled (suc n) k (x ∷ l) =
@@ -229,7 +232,7 @@ all-snoc b (suc n) l =
     ∙ ap₂ (λ (i : ℕ) (y : List ℕ). (v ++ sealedAll (suc b) n (drop bodyLength l)) ++ sealed i (take bodyLength y)) z
     (drop-drop (bodyLength * n) bodyLength l ∙ ap (λ (i : ℕ). drop i l) m)
 
-filled-size : (n : ℕ) (l : List ℕ) → length l ≤ n → length (filled n l) ≡ n
+pub filled-size : (n : ℕ) (l : List ℕ) → length l ≤ n → length (filled n l) ≡ n
 filled-size n l h = omega (arith, length-append l (replicate (n - length l) 0), length-replicate {A = ℕ} (n - length l) 0)
 
 pub held-none : (held l : List ℕ) → l ≡ put (sealedAll 1 0 (filled roomLength held)) l
@@ -244,45 +247,72 @@ held-snoc n held h k =
     let s : n + 1 ≡ suc n = omega arith in
     ap (λ (i : ℕ). sealedAll 1 i L) s ∙ all-snoc 1 n L ∙ ap₂ (λ (i : ℕ) (y : List ℕ). sealedAll 1 n L ++ sealed i y) z (filled-part n held h k)
 
-pub held-more : (held l xs ys part : List ℕ) (n : ℕ) → length held ≤ roomLength → n < 17 → xs ≡ put (sealedAll 1 n (filled roomLength held)) l
+pub held-more : (held l xs ys part : List ℕ) (k n : ℕ) → length held ≤ roomLength → k ≤ 17 → n < k → xs ≡ put (sealedAll 1 n (filled roomLength held)) l
     → part ≡ take bodyLength (drop (bodyLength * n) held) → ys ≡ putAt (512 * n) (sealed (n + 1) (filled bodyLength part)) xs
     → ys ≡ put (sealedAll 1 (n + 1) (filled roomLength held)) l
-held-more held l xs ys part n h k e p f =
+held-more held l xs ys part k n h few less e p f =
     let L = filled roomLength held in
     let size : 512 * n ≡ length (sealedAll 1 n L) = sym (all-length 1 n L (omega (arith, filled-size roomLength held h))) in
     then-put (512 * n) (sealedAll 1 n L) (sealed (n + 1) (filled bodyLength part)) l xs ys e size f
-    ∙ ap (λ (v : List ℕ). put v l) (ap (λ (v : List ℕ). sealedAll 1 n L ++ sealed (n + 1) (filled bodyLength v)) p ∙ sym (held-snoc n held h k))
+    ∙ ap (λ (v : List ℕ). put v l) (ap (λ (v : List ℕ). sealedAll 1 n L ++ sealed (n + 1) (filled bodyLength v)) p ∙ sym (held-snoc n held h (omega arith)))
 
-pub held-all : (held l xs : List ℕ) (n : ℕ) → n ≤ 17 → 17 ≤ n → xs ≡ put (sealedAll 1 n (filled roomLength held)) l → xs ≡ put (sealedAll 1 17 (filled roomLength held)) l
-held-all held l xs n h k e = let z : n ≡ 17 = omega arith in e ∙ ap (λ (i : ℕ). put (sealedAll 1 i (filled roomLength held)) l) z
+pub held-all : (held l xs : List ℕ) (k n : ℕ) → n ≤ k → k ≤ n → xs ≡ put (sealedAll 1 n (filled roomLength held)) l → xs ≡ put (sealedAll 1 k (filled roomLength held)) l
+held-all held l xs k n h g e = let z : n ≡ k = omega arith in e ∙ ap (λ (i : ℕ). put (sealedAll 1 i (filled roomLength held)) l) z
 
--- ---- all of it
-pub all-made : (head held l xs ys : List ℕ) → length head ≤ bodyLength → xs ≡ put (sealed 0 (filled bodyLength head)) l
-    → ys ≡ put (sealedAll 1 17 (filled roomLength held)) (take (length xs - 512) (drop 512 xs))
-    → take 512 xs ++ (ys ++ drop (length xs - 512) (drop 512 xs)) ≡ put (rowOf head held) l
-unfolding rowOf
-all-made head held l xs ys h e f =
-    put-back 512 (sealed 0 (filled bodyLength head)) (sealedAll 1 17 (filled roomLength held)) l xs ys e (sym (sealed-length 0 (filled bodyLength head) (filled-size bodyLength head h))) f
+-- ---- block 0 and k more
+pub first-made : (k : ℕ) (head held l xs ys : List ℕ) → length head ≤ bodyLength → xs ≡ put (sealed 0 (filled bodyLength head)) l
+    → ys ≡ put (sealedAll 1 k (filled roomLength held)) (take (length xs - 512) (drop 512 xs))
+    → take 512 xs ++ (ys ++ drop (length xs - 512) (drop 512 xs)) ≡ put (firstBlocks k head held) l
+unfolding firstBlocks
+first-made k head held l xs ys h e f =
+    put-back 512 (sealed 0 (filled bodyLength head)) (sealedAll 1 k (filled roomLength held)) l xs ys e (sym (sealed-length 0 (filled bodyLength head) (filled-size bodyLength head h))) f
 
-module _ (out head held : List ℕ) where
-  abbrev Row : ℕ → List ℕ
-  Row n = rowIn n head held
+module _ (out head held : List ℕ) (n : ℕ) where
+  abbrev First : List ℕ
+  First = firstIn (length out) n head held
 
-  pub seal-short : length out < sealedLength → out ≡ put (Row (length out)) out
-  unfolding rowIn
+  pub seal-short : length out < sealedLength → out ≡ put First out
+  unfolding firstIn
   seal-short h = rw (lt-leb sealedLength (length out) h) (sym (put-nil out))
 
-  pub seal-head : sealedLength ≤ length out → bodyLength < length head → out ≡ put (Row (length out)) out
-  unfolding rowIn
-  seal-head h k = rw (le-leb sealedLength (length out) h, lt-leb (length head) bodyLength k) (sym (put-nil out))
+  module _ (h : sealedLength ≤ length out) where
+    pub seal-head : bodyLength < length head → out ≡ put First out
+    unfolding firstIn
+    seal-head k = rw (le-leb sealedLength (length out) h, lt-leb (length head) bodyLength k) (sym (put-nil out))
 
-  pub seal-held : sealedLength ≤ length out → length head ≤ bodyLength → roomLength < length held → out ≡ put (Row (length out)) out
-  unfolding rowIn
-  seal-held h k m = rw (le-leb sealedLength (length out) h, le-leb (length head) bodyLength k, lt-leb (length held) roomLength m) (sym (put-nil out))
+    module _ (k : length head ≤ bodyLength) where
+      pub seal-held : roomLength < length held → out ≡ put First out
+      unfolding firstIn
+      seal-held m = rw (le-leb sealedLength (length out) h, le-leb (length head) bodyLength k, lt-leb (length held) roomLength m) (sym (put-nil out))
 
-  pub seal-all : (xs : List ℕ) → sealedLength ≤ length out → length head ≤ bodyLength → length held ≤ roomLength → xs ≡ put (rowOf head held) out → xs ≡ put (Row (length out)) out
-  unfolding rowIn
-  seal-all xs h k m e = rw (le-leb sealedLength (length out) h, le-leb (length head) bodyLength k, le-leb (length held) roomLength m) e
+      pub seal-all : (xs : List ℕ) (j : ℕ) → length held ≤ roomLength → j ≡ blocksFor n → xs ≡ put (firstBlocks j head held) out → xs ≡ put First out
+      unfolding firstIn
+      seal-all xs j m e f =
+          rw (le-leb sealedLength (length out) h, le-leb (length head) bodyLength k, le-leb (length held) roomLength m)
+          (f ∙ ap (λ (i : ℕ). put (firstBlocks i head held) out) e)
+
+-- all 18
+pub row-first : (head held : List ℕ) → firstBlocks 17 head held ≡ rowOf head held
+unfolding firstBlocks rowOf
+row-first head held = refl
+
+pub seal-row : (out xs head held : List ℕ) → xs ≡ put (firstIn (length out) roomLength head held) out → xs ≡ put (rowIn (length out) head held) out
+unfolding firstIn rowIn blocksFor
+seal-row out xs head held e =
+    e ∙ ap (λ (v : List ℕ). put (cond (leb sealedLength (length out) && (leb (length head) bodyLength && leb (length held) roomLength)) v []) out) (row-first head held)
+
+-- ---- how many blocks bytes take
+pub blocks-all : (n : ℕ) → roomLength ≤ n → 17 ≡ blocksFor n
+unfolding blocksFor
+blocks-all n h = omega arith
+
+pub blocks-some : (n : ℕ) → n < roomLength → (n + 503) / 504 ≡ blocksFor n
+unfolding blocksFor
+blocks-some n h = omega arith
+
+pub blocks-few : (n k : ℕ) → k ≡ blocksFor n → k ≤ 17
+unfolding blocksFor
+blocks-few n k e = omega arith
 
 -- ---- the bytes of 16 words
 pub sixteen : (words bytes : List ℕ) → length words ≡ 16 → bytes ≡ put (wordsBytes words) (replicate 64 0) → bytes ≡ wordsBytes words

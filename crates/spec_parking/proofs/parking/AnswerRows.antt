@@ -14,7 +14,7 @@ use Rattle.spec_session.specs.declared.session_state.Session.{Session}
 use Rattle.spec_session.specs.session_state.View.{heldOf, foreignOf}
 use Rattle.spec_parking.specs.parked_blocks.Sealed.{wordBytes, wordsBytes, isRow, bodies, allZero}
 use Rattle.spec_parking.specs.parking.Parked.{unusedZero, isParked, sessionIn}
-use Rattle.spec_parking.specs.parking.Answer.{parkNumber, takeNumber, whenDone}
+use Rattle.spec_parking.specs.parking.Parkings.{parkNumber, takeNumber, whenDone}
 
 -- a session of this kind that has just been opened
 abbrev opened : (kind : ℕ) → Session

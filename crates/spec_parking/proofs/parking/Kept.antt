@@ -29,7 +29,7 @@ use Rattle.spec_session.specs.session_state.View.{heldOf, view, foreignOf, padd
 use Rattle.spec_session.proofs.session_state.ViewLaws.{held-length, held-plain, held-padded, foreign-view, native-view, native-room}
 use Rattle.spec_parking.specs.parked_blocks.Sealed.{sealedLength, filled}
 use Rattle.spec_parking.specs.parking.Parked.{flag, headWords, keptBytes, parkedOf, isParked, sessionIn, remembered}
-use Rattle.spec_parking.specs.parking.Answer.{Mark, takeNumber, ParkedAgain}
+use Rattle.spec_parking.specs.parking.Parkings.{Mark, takeNumber, ParkedAgain}
 use Rattle.spec_parking.proofs.parked_blocks.Bytes.{Words}
 use Rattle.spec_parking.proofs.parking.Again.{session-is, parked-sound, whole-length}
 

@@ -20,7 +20,7 @@ use Rattle.spec_parking.proofs.parked_blocks.Bytes.{word-past, word-wit
 use Rattle.spec_parking.proofs.parked_blocks.ReadLaws.{room-length, row-length}
 use Rattle.spec_parking.proofs.parked_blocks.Again.{side-by-side, zero-list, wordsFrom, words-part, row-again}
 use Rattle.spec_parking.specs.parking.Parked.{flag, headWords, keptBytes, parkedOf, isMark, isFlag, unusedZero, isParked, sessionIn}
-use Rattle.spec_parking.specs.parking.Answer.{takeNumber, OnlyParked}
+use Rattle.spec_parking.specs.parking.Parkings.{takeNumber, OnlyParked}
 
 -- ---- flags
 flag-word : (w : ℕ) → isFlag w ≡ true → flag (eqb w 1) ≡ w

@@ -1,11 +1,11 @@
 -- Laws of the functions that read a parked session.
-use Prim.Native.Nat.{ℕ, _+_, _≤_}
+use Prim.Native.Nat.{ℕ, _≤_}
 use mathlib.Core.Path.{_≡_, refl, ap, ap₂, sym, _∙_}
 use mathlib.Core.Bool.{Bool, true, false, _&&_, _||_, cond}
 use mathlib.Core.List.{List, [], _++_, append-nil}
 use lib.Dec.{eqb}
-use lib.ListN.{length, take, drop, replicate, length-replicate, drop-of-length-le}
-use lib.Seq.{length-take-le}
+use lib.ListN.{length, take, drop, replicate, length-replicate, drop-of-length-le, take-append-drop}
+use lib.Seq.{length-take-le, take-all}
 use native.Mathlib.Omega.{arith}
 use borrow.Author.Tests.{eq-eqb, ne-eqb}
 use Rattle.spec_base.specs.base.Limits.{mostHeld}
@@ -20,6 +20,7 @@ use Rattle.spec_session.specs.session_counts.Session.{isOutcome}
 use Rattle.spec_session.specs.declared.session_state.Session.{Session}
 use Rattle.spec_parking.specs.parked_blocks.Sealed.{roomLength, roomOf, allZero, isRow, unsealed}
 use Rattle.spec_parking.proofs.parked_blocks.ReadLaws.{room-length, row-length}
+use Rattle.spec_parking.proofs.parked_blocks.FirstLaws.{zero-behind}
 use Rattle.spec_parking.specs.parking.Parked.{isMark, isFlag, unusedZero, isParked, sessionIn}
 
 -- ---- the room of a row
@@ -39,6 +40,20 @@ module _ (s room : List ℕ) (r : Bool) (e : r ≡ unsealed s (length (replicate
 
   pub room-long : room ≡ put (cond r (roomOf s) []) (replicate roomLength 0) → mostHeld ≤ length room
   room-long g = omega (arith, ap length (row-room g), room-length s (row-length s (isRow s) refl row-true))
+
+-- all of it
+pub whole-shows : (s room : List ℕ) → room ≡ roomOf s → room ≡ take (length room) (roomOf s)
+whole-shows s room e = e ∙ sym (take-all (length room) (roomOf s) (omega (arith, ap length e)))
+
+pub whole-rest : (s room : List ℕ) → room ≡ roomOf s → allZero (drop (length room) (roomOf s)) ≡ true
+unfolding allZero
+whole-rest s room e = let past : length (roomOf s) ≤ length room = omega (arith, ap length e) in ap allZero (drop-of-length-le (roomOf s) past)
+
+-- bytes that are the start of the room, with nothing but zeros in the rest of it
+part-zero : (s room : List ℕ) → room ≡ take (length room) (roomOf s) → allZero (drop (length room) (roomOf s)) ≡ true → (n : ℕ) → allZero (drop n room) ≡ allZero (drop n (roomOf s))
+part-zero s room e f n =
+    sym (zero-behind n room (drop (length room) (roomOf s)) f)
+    ∙ ap (λ (l : List ℕ). allZero (drop n l)) (ap (λ (l : List ℕ). l ++ drop (length room) (roomOf s)) e ∙ take-append-drop (length room) (roomOf s))
 
 -- ---- the words
 pub mark-1 : (k : ℕ) → k ≡ 1 → true ≡ isMark k
@@ -112,18 +127,18 @@ module _ (s x p : List ℕ) (t : Bool) (e : x ≡ drop 68 s) (f : p ≡ take 440
   unfolding unusedZero
   used k = ap (λ (u : Bool). u && Behind) (sym (cut-zero 440 68 s x p t true e f g k))
 
-  pub unused-live : t ≡ true → (room q : List ℕ) (m n : ℕ) (r : Bool) → m ≡ wordAt s 4 → m ≡ 0 → n ≡ wordAt s 16 → room ≡ roomOf s → q ≡ drop n room → r ≡ allZero q → r ≡ unusedZero s
-  unused-live k room q m n r a z b c d v =
-      v ∙ ap allZero (d ∙ ap₂ (λ (i : ℕ) (l : List ℕ). drop i l) b c)
-      ∙ ap (λ (u : Bool). cond u (allZero (drop (wordAt s 16) (roomOf s))) (eqb (wordAt s 7) 0 && (allZero (take 20 (drop 48 s)) && allZero (roomOf s)))) (sym (eq-eqb (wordAt s 4) 0 (sym a ∙ z)))
-      ∙ used k
+  module _ (k : t ≡ true) (room : List ℕ) (m : ℕ) (r : Bool) (a : m ≡ wordAt s 4) (shows : room ≡ take (length room) (roomOf s)) (rest : allZero (drop (length room) (roomOf s)) ≡ true) where
+    pub unused-live : (q : List ℕ) (n : ℕ) → m ≡ 0 → n ≡ wordAt s 16 → q ≡ drop n room → r ≡ allZero q → r ≡ unusedZero s
+    unused-live q n z b d v =
+        v ∙ ap allZero (d ∙ ap (λ (i : ℕ). drop i room) b) ∙ part-zero s room shows rest (wordAt s 16)
+        ∙ ap (λ (u : Bool). cond u (allZero (drop (wordAt s 16) (roomOf s))) (eqb (wordAt s 7) 0 && (allZero (take 20 (drop 48 s)) && allZero (roomOf s)))) (sym (eq-eqb (wordAt s 4) 0 (sym a ∙ z)))
+        ∙ used k
 
-  pub unused-ended : t ≡ true → (room : List ℕ) (m : ℕ) (r : Bool) → m ≡ wordAt s 4 → (m ≡ 0 → ⊥) → room ≡ roomOf s
-      → r ≡ (eqb (wordAt s 7) 0 && (allZero (take 20 (drop 48 s)) && allZero room)) → r ≡ unusedZero s
-  unused-ended k room m r a z c v =
-      v ∙ ap (λ (l : List ℕ). eqb (wordAt s 7) 0 && (allZero (take 20 (drop 48 s)) && allZero l)) c
-      ∙ ap (λ (u : Bool). cond u (allZero (drop (wordAt s 16) (roomOf s))) (eqb (wordAt s 7) 0 && (allZero (take 20 (drop 48 s)) && allZero (roomOf s)))) (sym (ne-eqb (wordAt s 4) 0 (λ q. z (a ∙ q))))
-      ∙ used k
+    pub unused-ended : (m ≡ 0 → ⊥) → r ≡ (eqb (wordAt s 7) 0 && (allZero (take 20 (drop 48 s)) && allZero room)) → r ≡ unusedZero s
+    unused-ended z v =
+        v ∙ ap (λ (x : Bool). eqb (wordAt s 7) 0 && (allZero (take 20 (drop 48 s)) && x)) (part-zero s room shows rest 0)
+        ∙ ap (λ (u : Bool). cond u (allZero (drop (wordAt s 16) (roomOf s))) (eqb (wordAt s 7) 0 && (allZero (take 20 (drop 48 s)) && allZero (roomOf s)))) (sym (ne-eqb (wordAt s 4) 0 (λ q. z (a ∙ q))))
+        ∙ used k
 
 -- ---- all tests
 and-move : (a b c d u : Bool) → (a && (b && (c && (d && u)))) ≡ ((a && (b && (c && d))) && u)

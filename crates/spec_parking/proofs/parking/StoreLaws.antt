@@ -13,9 +13,11 @@ use Rattle.spec_base.specs.base.Refusal.{_orElse_, faultUnless}
 use Rattle.spec_base.specs.base.Put.{put}
 use Rattle.spec_base.proofs.base.PutLaws.{put-nil}
 use Rattle.spec_session.specs.declared.session_state.Session.{Session}
+use Rattle.spec_session.specs.declared.session_state.Head.{Head}
 use Rattle.spec_session.specs.session_state.View.{heldOf, foreignOf}
 use Rattle.spec_parking.specs.parking.Parked.{flag, headWords, keptBytes, parkedOf}
-use Rattle.spec_parking.specs.parking.Answer.{parkNumber, Parks, Stores}
+use Rattle.spec_parking.specs.parking.Head.{headNumbers, bareOf, headBytes}
+use Rattle.spec_parking.specs.parking.Parkings.{parkNumber, Parks, Stores}
 use Rattle.spec_parking.specs.parked_blocks.Sealed.{sealedLength, bodyLength, roomLength, wordBytes, wordsBytes, sealed, sealedAll, filled, rowOf, rowIn}
 use Rattle.spec_parking.proofs.parked_blocks.Bytes.{words-append}
 
@@ -72,73 +74,78 @@ row-zeros head part z h =
     ap (λ (l : List ℕ). sealed 0 (filled bodyLength head) ++ l) (room-zeros part z (roomLength - length (part ++ replicate z 0)) (roomLength - length part) _ m (omega arith))
 
 -- ---- the words
-module _ (s : Session) where
+module _ (h : Head) where
   -- words 1 to 16, given whether it has ended and its word for Events
-  abbrev Head : Bool → ℕ → List ℕ
-  Head t ev =
-      2 ∷ s .config .kind ∷ s .config .timescale ∷ flag t ∷ s .outcome ∷ s .taken ∷ cond t 0 (s .lines) ∷
-      s .counts .shifted ∷ s .counts .clipped ∷ s .counts .dropped ∷ s .counts .passed ∷
-      cond t 0 ev ∷ cond t 0 (s .columns .columns) ∷ cond t 0 (s .columns .start) ∷ cond t 0 (s .columns .«end») ∷ cond t 0 (s .«held_len») ∷ []
+  abbrev Words : Bool → ℕ → List ℕ
+  Words t ev =
+      2 ∷ h .config .kind ∷ h .config .timescale ∷ flag t ∷ h .outcome ∷ h .taken ∷ cond t 0 (h .lines) ∷
+      h .counts .shifted ∷ h .counts .clipped ∷ h .counts .dropped ∷ h .counts .passed ∷
+      cond t 0 ev ∷ cond t 0 (h .columns .columns) ∷ cond t 0 (h .columns .start) ∷ cond t 0 (h .columns .«end») ∷ cond t 0 (h .«held_len») ∷ []
 
-  head-is : (t : Bool) → s .ended ≡ t → Head t (flag (s .columns .events)) ≡ headWords 2 s
+  words-are : (t : Bool) → h .ended ≡ t → Words t (flag (h .columns .events)) ≡ headWords 2 (bareOf h)
   unfolding headWords
-  head-is t e = ap (λ (u : Bool). Head u (flag (s .columns .events))) (sym e)
+  words-are t e = ap (λ (u : Bool). Words u (flag (h .columns .events))) (sym e)
 
   low : (n m : ℕ) → m ≡ n % 2 ^ 32 → wordBytes m ≡ wordBytes n
   low n m e = ap wordBytes e ∙ low-bytes n
 
-  pub live-head : (ev w a b n : ℕ) → s .ended ≡ false → ev ≡ flag (s .columns .events) → w ≡ s .columns .columns % 2 ^ 32
-      → a ≡ s .columns .start % 2 ^ 32 → b ≡ s .columns .«end» % 2 ^ 32 → n ≡ s .«held_len» % 2 ^ 32
-      → wordsBytes (2 ∷ s .config .kind ∷ s .config .timescale ∷ 0 ∷ s .outcome ∷ s .taken ∷ s .lines ∷ s .counts .shifted ∷ s .counts .clipped ∷ s .counts .dropped ∷ s .counts .passed ∷ ev ∷ w ∷ a ∷ b ∷ n ∷ [])
-      ≡ wordsBytes (headWords 2 s)
+  pub live-head : (ev w a b n : ℕ) → h .ended ≡ false → ev ≡ flag (h .columns .events) → w ≡ h .columns .columns % 2 ^ 32
+      → a ≡ h .columns .start % 2 ^ 32 → b ≡ h .columns .«end» % 2 ^ 32 → n ≡ h .«held_len» % 2 ^ 32
+      → wordsBytes (2 ∷ h .config .kind ∷ h .config .timescale ∷ 0 ∷ h .outcome ∷ h .taken ∷ h .lines ∷ h .counts .shifted ∷ h .counts .clipped ∷ h .counts .dropped ∷ h .counts .passed ∷ ev ∷ w ∷ a ∷ b ∷ n ∷ [])
+      ≡ headBytes h
   unfolding wordsBytes
   live-head ev w a b n e p q r t u =
-      let w′ = low (s .columns .columns) w q in
-      let a′ = low (s .columns .start) a r in
-      let b′ = low (s .columns .«end») b t in
-      let n′ = low (s .«held_len») n u in
-      let first : List ℕ = 2 ∷ s .config .kind ∷ s .config .timescale ∷ 0 ∷ s .outcome ∷ s .taken ∷ s .lines ∷ s .counts .shifted ∷ s .counts .clipped ∷ s .counts .dropped ∷ s .counts .passed ∷ [] in
-      let same : wordsBytes (ev ∷ w ∷ a ∷ b ∷ n ∷ []) ≡ wordsBytes (flag (s .columns .events) ∷ s .columns .columns ∷ s .columns .start ∷ s .columns .«end» ∷ s .«held_len» ∷ []) =
+      let w′ = low (h .columns .columns) w q in
+      let a′ = low (h .columns .start) a r in
+      let b′ = low (h .columns .«end») b t in
+      let n′ = low (h .«held_len») n u in
+      let first : List ℕ = 2 ∷ h .config .kind ∷ h .config .timescale ∷ 0 ∷ h .outcome ∷ h .taken ∷ h .lines ∷ h .counts .shifted ∷ h .counts .clipped ∷ h .counts .dropped ∷ h .counts .passed ∷ [] in
+      let same : wordsBytes (ev ∷ w ∷ a ∷ b ∷ n ∷ []) ≡ wordsBytes (flag (h .columns .events) ∷ h .columns .columns ∷ h .columns .start ∷ h .columns .«end» ∷ h .«held_len» ∷ []) =
       λ i. wordBytes (p i) ++ (w′ i ++ (a′ i ++ (b′ i ++ (n′ i ++ [])))) in
       words-append first (ev ∷ w ∷ a ∷ b ∷ n ∷ [])
       ∙ ap (λ (l : List ℕ). wordsBytes first ++ l) same
-      ∙ sym (words-append first (flag (s .columns .events) ∷ s .columns .columns ∷ s .columns .start ∷ s .columns .«end» ∷ s .«held_len» ∷ []))
-      ∙ ap wordsBytes (head-is false e)
+      ∙ sym (words-append first (flag (h .columns .events) ∷ h .columns .columns ∷ h .columns .start ∷ h .columns .«end» ∷ h .«held_len» ∷ []))
+      ∙ ap wordsBytes (words-are false e)
 
-  pub ended-head : s .ended ≡ true
-      → 2 ∷ s .config .kind ∷ s .config .timescale ∷ 1 ∷ s .outcome ∷ s .taken ∷ 0 ∷ s .counts .shifted ∷ s .counts .clipped ∷ s .counts .dropped ∷ s .counts .passed ∷ 0 ∷ 0 ∷ 0 ∷ 0 ∷ 0 ∷ [] ≡ headWords 2 s
-  ended-head e = head-is true e
+  pub ended-head : h .ended ≡ true
+      → 2 ∷ h .config .kind ∷ h .config .timescale ∷ 1 ∷ h .outcome ∷ h .taken ∷ 0 ∷ h .counts .shifted ∷ h .counts .clipped ∷ h .counts .dropped ∷ h .counts .passed ∷ 0 ∷ 0 ∷ 0 ∷ 0 ∷ 0 ∷ [] ≡ headWords 2 (bareOf h)
+  ended-head e = words-are true e
 
-  head-length : length (wordsBytes (headWords 2 s)) ≡ 64
+  pub head-length : length (headBytes h) ≡ 64
   unfolding headWords wordsBytes wordBytes
   head-length = refl
 
-  head-64 : (head : List ℕ) → head ≡ wordsBytes (headWords 2 s) → length head ≤ bodyLength
-  head-64 head e = omega (arith, ap length e, head-length)
+  pub number-bytes : (words head : List ℕ) → wordsBytes words ≡ headBytes h → head ≡ wordsBytes words → head ≡ headBytes h
+  number-bytes words head e f = f ∙ e
 
-  pub head-bytes : (words head : List ℕ) → wordsBytes words ≡ wordsBytes (headWords 2 s) → head ≡ wordsBytes words → head ≡ wordsBytes (headWords 2 s)
-  head-bytes words head e f = f ∙ e
-
-  pub words-bytes : (words : List ℕ) → words ≡ headWords 2 s → wordsBytes words ≡ wordsBytes (headWords 2 s)
+  pub words-bytes : (words : List ℕ) → words ≡ headWords 2 (bareOf h) → wordsBytes words ≡ headBytes h
   words-bytes words e = ap wordsBytes e
 
-  -- ---- the bytes
-  module _ (size : length (s .held) ≡ mostHeld) where
-    pub row-is : (n : ℕ) (head part : List ℕ) → n ≡ cond (s .ended) 0 (s .«held_len») → part ≡ take n (s .held) → rowOf head part ≡ rowOf head (keptBytes s)
-    unfolding keptBytes heldOf
-    row-is n head part e p = ap (rowOf head) (p ∙ ap (λ (i : ℕ). take i (s .held)) e) ∙ go (s .ended)
-      where
-        go : (t : Bool) → rowOf head (take (cond t 0 (s .«held_len»)) (s .held)) ≡ rowOf head (cond t [] (heldOf (s .«held_len») (s .held)))
-        go true = refl
-        go false = sym (row-zeros head (take (s .«held_len») (s .held)) (s .«held_len» - length (s .held)) (omega (arith, length-take (s .«held_len») (s .held))))
+-- ---- the bytes
+pub same-words : (s : Session) → headBytes (headNumbers s) ≡ wordsBytes (headWords 2 s)
+unfolding headWords
+same-words s = refl
 
-    pub stored-is : (n : ℕ) (part head l out : List ℕ) → sealedLength ≤ length l → n ≡ cond (s .ended) 0 (s .«held_len») → part ≡ take n (s .held) → head ≡ wordsBytes (headWords 2 s)
-        → out ≡ put (rowIn (length l) head part) l → out ≡ put (parkedOf 2 s) l
-    unfolding parkedOf rowIn
-    stored-is n part head l out r e p h o =
-        let small : length part ≤ roomLength = omega (arith, ap length p, length-take n (s .held)) in
-        o ∙ (λ i. put (cond (le-leb sealedLength (length l) r i && (le-leb (length head) bodyLength (head-64 head h) i && le-leb (length part) roomLength small i)) (rowOf head part) []) l)
-        ∙ ap (λ (x : List ℕ). put x l) (row-is n head part e p ∙ ap (λ (x : List ℕ). rowOf x (keptBytes s)) h)
+pub head-bytes : (s : Session) (h : Head) (head : List ℕ) → h ≡ headNumbers s → head ≡ headBytes h → head ≡ wordsBytes (headWords 2 s)
+head-bytes s h head e f = f ∙ ap headBytes e ∙ same-words s
+
+module _ (s : Session) (size : length (s .held) ≡ mostHeld) where
+  row-is : (n : ℕ) (head part : List ℕ) → n ≡ cond (s .ended) 0 (s .«held_len») → part ≡ take n (s .held) → rowOf head part ≡ rowOf head (keptBytes s)
+  unfolding keptBytes heldOf
+  row-is n head part e p = ap (rowOf head) (p ∙ ap (λ (i : ℕ). take i (s .held)) e) ∙ go (s .ended)
+    where
+      go : (t : Bool) → rowOf head (take (cond t 0 (s .«held_len»)) (s .held)) ≡ rowOf head (cond t [] (heldOf (s .«held_len») (s .held)))
+      go true = refl
+      go false = sym (row-zeros head (take (s .«held_len») (s .held)) (s .«held_len» - length (s .held)) (omega (arith, length-take (s .«held_len») (s .held))))
+
+  pub stored-is : (n : ℕ) (part head l out : List ℕ) → sealedLength ≤ length l → n ≡ cond (s .ended) 0 (s .«held_len») → part ≡ take n (s .held) → head ≡ wordsBytes (headWords 2 s)
+      → out ≡ put (rowIn (length l) head part) l → out ≡ put (parkedOf 2 s) l
+  unfolding parkedOf rowIn
+  stored-is n part head l out r e p w o =
+      let small : length part ≤ roomLength = omega (arith, ap length p, length-take n (s .held)) in
+      let short : length head ≤ bodyLength = omega (arith, ap length w, head-length (headNumbers s), ap length (same-words s)) in
+      o ∙ (λ i. put (cond (le-leb sealedLength (length l) r i && (le-leb (length head) bodyLength short i && le-leb (length part) roomLength small i)) (rowOf head part) []) l)
+      ∙ ap (λ (x : List ℕ). put x l) (row-is n head part e p ∙ ap (λ (x : List ℕ). rowOf x (keptBytes s)) w)
 
 -- ---- the number
 pub park-17 : (s : Session) (n : ℕ) (t : Bool) → t ≡ foreignOf s → t ≡ true → 17 ≡ parkNumber s n

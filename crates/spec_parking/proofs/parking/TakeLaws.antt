@@ -16,7 +16,7 @@ use Rattle.spec_session.specs.session_state.View.{padded, stored, foreignOf}
 use Rattle.spec_parking.specs.parked_blocks.Sealed.{roomLength, isRow, unsealed}
 use Rattle.spec_parking.specs.declared.parking.TakenUp.{TakenUp}
 use Rattle.spec_parking.specs.parking.Parked.{isParked, sessionIn}
-use Rattle.spec_parking.specs.parking.Answer.{takeNumber, TakesUp}
+use Rattle.spec_parking.specs.parking.Parkings.{takeNumber, TakesUp}
 
 pub none-is : _≡_ {A = Session} (record {
   config = record { kind = 0; timescale = 1 };

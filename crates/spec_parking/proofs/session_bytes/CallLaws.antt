@@ -22,13 +22,13 @@ use Rattle.spec_session.specs.declared.session_state.Session.{Session}
 use Rattle.spec_session.specs.session_state.View.{view, stored}
 use Rattle.spec_session.specs.declared.session.Fed.{Fed}
 use Rattle.spec_session.specs.declared.session.Opened.{Opened}
-use Rattle.spec_session.specs.session.Answer.{feedCall, openOf, answerOf, nextOf, Answered, OpenAnswered}
+use Rattle.spec_session.specs.session.SessionCalls.{feedCall, openOf, answerOf, nextOf, Answered, OpenAnswered}
 use Rattle.spec_parking.specs.parked_blocks.Sealed.{sealedLength, isRow, allHold}
 use Rattle.spec_parking.specs.declared.parking.TakenUp.{TakenUp}
 use Rattle.spec_parking.specs.parking.Parked.{parkedOf, isParked, sessionIn}
-use Rattle.spec_parking.specs.parking.Answer.{takeNumber, whenDone, keepNumber, Stores, TakesUp}
+use Rattle.spec_parking.specs.parking.Parkings.{takeNumber, whenDone, keepNumber, Stores, TakesUp}
 use Rattle.spec_parking.specs.declared.session_bytes.Told.{Told}
-use Rattle.spec_parking.specs.session_bytes.Answer.{openNumber, openBytes, refuses, callNumber, emptyPiece, bytesAfter, textOut, placesIn, keptNext, Called, EmptyStays}
+use Rattle.spec_parking.specs.session_bytes.ByteCalls.{openNumber, openBytes, refuses, callNumber, emptyPiece, bytesAfter, textOut, placesIn, keptNext, Called, EmptyStays}
 use Rattle.spec_parking.proofs.session_bytes.NumberLaws.{take-refuses, taken-parked, refuses-between}
 
 -- ---- open
@@ -69,7 +69,7 @@ none-put t v l e = sym (ap (λ (u : Bool). put (cond u [] v) l) e ∙ put-nil l)
 
 module _ (b : List ℕ) (x : Call) where
   -- refused, nothing is written and the bytes stay
-  refused-is : (r : Told) (out places : List ℕ) → r .number ≡ callNumber b x → r .written ≡ 0 → r .warned ≡ 0 → refuses (callNumber b x) ≡ true → Called x r b b out out places places
+  pub refused-is : (r : Told) (out places : List ℕ) → r .number ≡ callNumber b x → r .written ≡ 0 → r .warned ≡ 0 → refuses (callNumber b x) ≡ true → Called x r b b out out places places
   unfolding bytesAfter textOut placesIn
   refused-is r out places n w v t =
       record {

@@ -11,9 +11,9 @@ use Rattle.spec_base.specs.base.Refusal.{_orElse_, faultUnless}
 use Rattle.spec_base.proofs.base.Laws.{and-left, and-right}
 use Rattle.spec_session.specs.session_state.View.{foreignOf}
 use Rattle.spec_parking.specs.parking.Parked.{isParked, sessionIn}
-use Rattle.spec_parking.specs.parking.Answer.{takeNumber}
+use Rattle.spec_parking.specs.parking.Parkings.{takeNumber}
 use Rattle.spec_session.proofs.session_counts.Numbers.{OfCall}
-use Rattle.spec_parking.specs.session_bytes.Answer.{refuses, toldIn}
+use Rattle.spec_parking.specs.session_bytes.ByteCalls.{refuses, toldIn}
 
 pub refuses-27 : (k : ℕ) → k ≡ 27 → true ≡ refuses k
 unfolding refuses

@@ -2,8 +2,8 @@
 use mathlib.Core.Path.{_≡_, refl}
 use mathlib.Core.Bool.{Bool, true, false}
 use mathlib.Core.List.{List, [], _∷_, map}
-use Rattle.spec_session.specs.session.Answer.{feedCall, finishCall}
-use Rattle.spec_parking.specs.session_bytes.Answer.{refuses, emptyPiece, toldIn}
+use Rattle.spec_session.specs.session.SessionCalls.{feedCall, finishCall}
+use Rattle.spec_parking.specs.session_bytes.ByteCalls.{refuses, emptyPiece, toldIn}
 
 pub refuses-rows : map refuses (0 ∷ 14 ∷ 15 ∷ 16 ∷ 17 ∷ 18 ∷ 19 ∷ 20 ∷ 21 ∷ 22 ∷ 24 ∷ 26 ∷ 27 ∷ 28 ∷ [])
     ≡ false ∷ false ∷ true ∷ true ∷ true ∷ true ∷ false ∷ false ∷ false ∷ false ∷ false ∷ false ∷ true ∷ false ∷ []

@@ -14,14 +14,14 @@ use Rattle.spec_caption.specs.declared.caption_stamp.Time.{Time}
 use Rattle.spec_caption.specs.declared.caption_stamp.Time.the-variants.{At, Bad}
 use Rattle.spec_caption.specs.caption_stamp.Read.{timeIn}
 use Rattle.spec_caption.specs.caption_fate.Says.{unplaced, short, reasonNumber, Cue, Part, stays, passes, cue, Fault, longLine, notUtf8, longBlock, badTime, badHeader, faultNumber}
-use Rattle.spec_caption.specs.caption_fate.Mark.{behindMark}
+use Rattle.spec_caption.specs.caption_fate.Bom.{behindBom}
 use Rattle.spec_format.specs.declared.ass_columns.Columns.{Columns}
 use Rattle.spec_format.specs.ass_columns.Columns.{columnsIn, fields, fieldAt}
 use Rattle.spec_format.specs.ass_columns.Section.{eventsName, bracketed, inside, inSection}
 use Rattle.spec_format.specs.ass_line.Line.{formatWord, dialogueWord, commentWord, LineSays, faulty, says, timesSay, captionSays, wordSays, textSays, lineSays}
-use Rattle.spec_format.specs.ass_line.Answer.{columnsAfter}
+use Rattle.spec_format.specs.ass_line.AssThrough.{columnsAfter}
 use Rattle.spec_session.specs.session_counts.Reader.{Reading, fails, _⊕_}
-use Rattle.promise.specs.Plain.{markLength, lineFault, unlessFault, lineThen, assRead}
+use Rattle.promise.specs.Plain.{bomLength, lineFault, unlessFault, lineThen, assRead}
 use Rattle.promise.proofs.LinesCut.{many-append, concat-append}
 use Rattle.spec_runs.specs.declared.caption_rows.Said.{Said}
 use Rattle.spec_runs.specs.caption_rows.Said.{wordsLength, atFault, captionSaid, partSaid, lineSaid}
@@ -113,14 +113,14 @@ line-on c n l = go (bracketed (trim (textOf l))) (c .events)
     go false false = tt
 
 -- ---- its row: the line begins at byte i of the text
-module _ (text : List ℕ) (done : List (List ℕ)) (l : List ℕ) (ls : List (List ℕ)) (e : linesOf (behindMark text) ≡ done ++ (l ∷ ls)) where
-  at-is : lineAt text (suc (lineCount done)) ≡ markLength text + length (concat done)
-  at-is = ap (λ (x : List (List ℕ)). markLength text + length (concat (linesBefore (suc (lineCount done)) x))) e ∙ ap (λ (x : List (List ℕ)). markLength text + length (concat x)) (before-lines done (l ∷ ls))
+module _ (text : List ℕ) (done : List (List ℕ)) (l : List ℕ) (ls : List (List ℕ)) (e : linesOf (behindBom text) ≡ done ++ (l ∷ ls)) where
+  at-is : lineAt text (suc (lineCount done)) ≡ bomLength text + length (concat done)
+  at-is = ap (λ (x : List (List ℕ)). bomLength text + length (concat (linesBefore (suc (lineCount done)) x))) e ∙ ap (λ (x : List (List ℕ)). bomLength text + length (concat x)) (before-lines done (l ∷ ls))
 
-  this-is : lineOf (suc (lineCount done)) (linesOf (behindMark text)) ≡ l
+  this-is : lineOf (suc (lineCount done)) (linesOf (behindBom text)) ≡ l
   this-is = ap (lineOf (suc (lineCount done))) e ∙ line-of done l ls
 
-  part-row : (i : ℕ) (p : Part) → i ≡ markLength text + length (concat done) → PartOn (suc (lineCount done)) l p
+  part-row : (i : ℕ) (p : Part) → i ≡ bomLength text + length (concat done) → PartOn (suc (lineCount done)) l p
       → (partSaid 0 i (length (textOf l)) p .number ≡ 0) × (rowsSaid (partSaid 0 i (length (textOf l)) p) ≡ captionRow 0 text p)
   unfolding wordsAt
   part-row i (stays x) ei h = (refl, refl)
@@ -129,7 +129,7 @@ module _ (text : List ℕ) (done : List (List ℕ)) (l : List ℕ) (ls : List (L
       (refl, ap₂ (λ (a : ℕ) (b : List ℕ). m ∷ reasonNumber r ∷ 0 ∷ 0 ∷ a ∷ length (textOf b) ∷ []) w (sym (h .1)))
   part-row i (cue q) ei h =
       let w : i ≡ lineAt text (q .line) = ei ∙ sym at-is ∙ ap (lineAt text) (sym h) in
-      let v : l ≡ lineOf (q .line) (linesOf (behindMark text)) = sym this-is ∙ ap (λ (k : ℕ). lineOf k (linesOf (behindMark text))) (sym h) in
+      let v : l ≡ lineOf (q .line) (linesOf (behindBom text)) = sym this-is ∙ ap (λ (k : ℕ). lineOf k (linesOf (behindBom text))) (sym h) in
       (refl, ap₂ (λ (a : ℕ) (b : List ℕ). q .line ∷ 0 ∷ q .start ∷ q .stop ∷ (a + (length (textOf b) - wordsLength 0 q)) ∷ wordsLength 0 q ∷ []) w v)
 
 pub ass-clause : (x : ℕ) (c : Columns) (n i : ℕ) (y : List ℕ) (ls : List (List ℕ)) → assWalk x c n i (y ∷ ls) ≡ (assTurn x c n i y then assWalk 0 (assNext x c n y) (suc n) (i + length y) ls)
@@ -156,7 +156,7 @@ pub next-good : (x : ℕ) (c : Columns) (n : ℕ) (l : List ℕ) → lineFault x
 unfolding assNext
 next-good x c n l e = rw e
 
-pub ass-agree : (text : List ℕ) (ls done : List (List ℕ)) (x : ℕ) (c : Columns) (n i : ℕ) → linesOf (behindMark text) ≡ done ++ ls → n ≡ lineCount done → i ≡ markLength text + length (concat done)
+pub ass-agree : (text : List ℕ) (ls done : List (List ℕ)) (x : ℕ) (c : Columns) (n i : ℕ) → linesOf (behindBom text) ≡ done ++ ls → n ≡ lineCount done → i ≡ bomLength text + length (concat done)
     → Agree 0 text (assWalk x c n i ls) (assRead (fails 0) x c n ls)
 ass-agree text [] done x c n i e en ei = none-none text x c n i
 ass-agree text (l ∷ ls) done x c n i e en ei =
@@ -164,13 +164,13 @@ ass-agree text (l ∷ ls) done x c n i e en ei =
     (subst (λ (w : Walk). Agree 0 text w (unlessFault (lineFault x l) (lineThen (lineSays c n l) (λ d. assRead (fails 0) 0 d (suc n) ls)))) (sym (ass-clause x c n i l ls))
     (go (lineFault x l) refl (λ d. ass-agree text ls (done ++ (l ∷ [])) 0 d (suc n) (i + length l) more counted placed)))
   where
-    more : linesOf (behindMark text) ≡ (done ++ (l ∷ [])) ++ ls
+    more : linesOf (behindBom text) ≡ (done ++ (l ∷ [])) ++ ls
     more = e ∙ sym (append-assoc done (l ∷ []) ls)
 
     counted : suc n ≡ lineCount (done ++ (l ∷ []))
     counted = let z = many-append done (l ∷ []) in omega (arith, z, en)
 
-    placed : i + length l ≡ markLength text + length (concat (done ++ (l ∷ [])))
+    placed : i + length l ≡ bomLength text + length (concat (done ++ (l ∷ [])))
     placed =
         let z : length (concat (done ++ (l ∷ []))) ≡ length (concat done) + length (l ++ []) = ap length (concat-append done (l ∷ [])) ∙ length-append (concat done) (l ++ []) in
         let y : length (l ++ []) ≡ length l = ap length (append-nil l) in

@@ -15,7 +15,7 @@ use Rattle.spec_text.specs.text.Line.{linesOf, concat, lineCount, textOf, termi
 use Rattle.spec_caption.specs.declared.caption_stamp.Time.{Time}
 use Rattle.spec_caption.specs.declared.caption_stamp.Time.the-variants.{At, Bad}
 use Rattle.spec_caption.specs.caption_fate.Says.{Piece, Cue, Part, stays, passes, cue, notUtf8, badTime, faultNumber}
-use Rattle.spec_caption.specs.caption_fate.Mark.{behindMark}
+use Rattle.spec_caption.specs.caption_fate.Bom.{behindBom}
 use Rattle.spec_format.specs.block_timing.Style.{Style, styleOf, stampsIn, blankIn}
 use Rattle.spec_format.specs.block_timing.Header.{headerDue}
 use Rattle.spec_format.specs.block_timing.Arrow.{arrow, Timing, untimed, timed, later, timingOf}
@@ -23,7 +23,7 @@ use Rattle.spec_format.specs.block_cue.Block.{BlockSays, faulty as blockFaulty,
 use Rattle.spec_session.specs.session_counts.Machine.{Machine, Says, faulty, says}
 use Rattle.spec_session.specs.session_counts.Reader.{Reading, reading, fails, _⊕_, readLine, readClose}
 use Rattle.spec_session.specs.kinds.Takes.{State, blankState, withBlock, ofBlock, closes, adds, blockTakes, takes, blockEnds, ends, machineOf}
-use Rattle.promise.specs.Plain.{markLength, lineFault}
+use Rattle.promise.specs.Plain.{bomLength, lineFault}
 use Rattle.promise.proofs.Bare.{endOf, readAll}
 use Rattle.promise.proofs.PlainBlocks.{due-past}
 use Rattle.promise.proofs.LinesCut.{Cut, cut-tail, cut-behind, cut-before, cut-lines, many-append, concat-append}
@@ -66,7 +66,7 @@ module _ (j : ℕ) (text : List ℕ) where
   agree-stays w r l a = record { fault = a .fault; rows = a .rows }
 
   -- ---- a closed block of the lines ks, behind the lines `done`; i is where it begins
-  module _ (done ks rest : List (List ℕ)) (e : linesOf (behindMark text) ≡ done ++ (ks ++ rest)) (i : ℕ) (ei : i ≡ markLength text + length (concat done)) where
+  module _ (done ks rest : List (List ℕ)) (e : linesOf (behindBom text) ≡ done ++ (ks ++ rest)) (i : ℕ) (ei : i ≡ bomLength text + length (concat done)) where
     words-place : (b : List (List ℕ)) (l : List ℕ) (a : List (List ℕ)) → ks ≡ b ++ (l ∷ a)
         → i + (length (concat ks) - length (concat a)) ≡ lineAt text (suc (suc (lineCount done) + lineCount b))
     words-place b l a ek =
@@ -76,15 +76,15 @@ module _ (j : ℕ) (text : List ℕ) where
         ∙ sym (append-assoc done (b ++ (l ∷ [])) (a ++ rest)) in
         let many : suc (suc (lineCount done) + lineCount b) ≡ suc (lineCount front) =
         let p = many-append done (b ++ (l ∷ [])) in let q = many-append b (l ∷ []) in omega (arith, p, q) in
-        let before : linesBefore (suc (suc (lineCount done) + lineCount b)) (linesOf (behindMark text)) ≡ front =
+        let before : linesBefore (suc (suc (lineCount done) + lineCount b)) (linesOf (behindBom text)) ≡ front =
         ap₂ (λ (k : ℕ) (x : List (List ℕ)). linesBefore k x) many (e ∙ whole) ∙ before-lines front (a ++ rest) in
         let n1 : length (concat front) ≡ length (concat done) + length (concat (b ++ (l ∷ []))) = ap length (concat-append done (b ++ (l ∷ []))) ∙ length-append (concat done) (concat (b ++ (l ∷ []))) in
         let n2 : length (concat (b ++ (l ∷ []))) ≡ length (concat b) + length (l ++ []) = ap length (concat-append b (l ∷ [])) ∙ length-append (concat b) (l ++ []) in
         let n3 : length (l ++ []) ≡ length l = ap length (append-nil l) in
         let n4 : length (concat ks) ≡ length (concat b) + length (l ++ concat a) = ap (λ (x : List (List ℕ)). length (concat x)) ek ∙ ap length (concat-append b (l ∷ a)) ∙ length-append (concat b) (l ++ concat a) in
         let n5 : length (l ++ concat a) ≡ length l + length (concat a) = length-append l (concat a) in
-        let n6 : i + (length (concat ks) - length (concat a)) ≡ markLength text + length (concat front) = omega (arith, n1, n2, n3, n4, n5, ei) in
-        n6 ∙ ap (λ (x : List (List ℕ)). markLength text + length (concat x)) (sym before)
+        let n6 : i + (length (concat ks) - length (concat a)) ≡ bomLength text + length (concat front) = omega (arith, n1, n2, n3, n4, n5, ei) in
+        n6 ∙ ap (λ (x : List (List ℕ)). bomLength text + length (concat x)) (sym before)
 
     module _ (s : State) (more : List Part) (w : Walk) (after : State → Reading) (h : Agrees w (more ⊕ after (withBlock [] s))) where
       abbrev F : ℕ
@@ -156,7 +156,7 @@ module _ (j : ℕ) (text : List ℕ) where
   walk-end x i f b n = refl
 
   -- the block closed, whatever its lines
-  shut : (done ks rest : List (List ℕ)) → linesOf (behindMark text) ≡ done ++ (ks ++ rest) → Cut ks → (i n : ℕ) → i ≡ markLength text + length (concat done) → n ≡ lineCount done + lineCount ks
+  shut : (done ks rest : List (List ℕ)) → linesOf (behindBom text) ≡ done ++ (ks ++ rest) → Cut ks → (i n : ℕ) → i ≡ bomLength text + length (concat done) → n ≡ lineCount done + lineCount ks
       → (s : State) (more : List Part) (w : Walk) (after : State → Reading) → Agrees w (more ⊕ after (withBlock [] s))
       → Agrees (blockSaid (suc j) (suc (lineCount done)) i (concat ks) then w) (readLine M true (closes (styleOf (suc j)) s n ks more) after)
   shut done [] rest e c i n ei en s more w after h =
@@ -173,7 +173,7 @@ module _ (j : ℕ) (text : List ℕ) where
   abbrev at : List (List ℕ) → State
   at ks = withBlock ks blankState
 
-  pub block-agree : (ls done ks : List (List ℕ)) (x i n : ℕ) → linesOf (behindMark text) ≡ done ++ (ks ++ ls) → Cut (ks ++ ls) → i ≡ markLength text + length (concat done) → n ≡ lineCount done + lineCount ks
+  pub block-agree : (ls done ks : List (List ℕ)) (x i n : ℕ) → linesOf (behindBom text) ≡ done ++ (ks ++ ls) → Cut (ks ++ ls) → i ≡ bomLength text + length (concat done) → n ≡ lineCount done + lineCount ks
       → headerDue (suc j) n ks ≡ false → Agrees (blockWalk (suc j) x i (lineCount done) (concat ks) n ls) (readAll M true x ls [] (at ks) n)
   block-agree [] done ks x i n e c ei en d =
       subst (λ (w : Walk). Agrees w (readClose M (ends (suc j) (at ks) n))) (sym (walk-end x i (lineCount done) (concat ks) n))
@@ -183,7 +183,7 @@ module _ (j : ℕ) (text : List ℕ) where
   block-agree (l ∷ ls) done ks x i n e c ei en d =
       let after : State → Reading = λ t. readAll M true 0 ls [] t (suc n) in
       let front : List (List ℕ) = done ++ (ks ++ (l ∷ [])) in
-      let e1 : linesOf (behindMark text) ≡ front ++ ([] ++ ls) =
+      let e1 : linesOf (behindBom text) ≡ front ++ ([] ++ ls) =
       e ∙ ap (λ (q : List (List ℕ)). done ++ q) (sym (append-assoc ks (l ∷ []) ls)) ∙ sym (append-assoc done (ks ++ (l ∷ [])) ls) in
       let c1 : Cut ls = cut-tail l ls (cut-behind ks (l ∷ ls) c) in
       let m1 = concat-append done (ks ++ (l ∷ [])) in
@@ -193,13 +193,13 @@ module _ (j : ℕ) (text : List ℕ) where
       let m5 : length (l ++ []) ≡ length l = ap length (append-nil l) in
       let k1 = many-append done (ks ++ (l ∷ [])) in
       let k2 = many-append ks (l ∷ []) in
-      let i1 : i + length (concat ks) + length l ≡ markLength text + length (concat front) = omega (arith, m3, m4, m5, ei) in
+      let i1 : i + length (concat ks) + length l ≡ bomLength text + length (concat front) = omega (arith, m3, m4, m5, ei) in
       let n1 : suc n ≡ lineCount front + lineCount [] = omega (arith, k1, k2, en) in
       let n2 : lineCount front ≡ suc n = omega (arith, k1, k2, en) in
       let a1 : Agrees (blockWalk (suc j) 0 (i + length (concat ks) + length l) (suc n) [] (suc n) ls) (after (at [])) =
       subst (λ (f : ℕ). Agrees (blockWalk (suc j) 0 (i + length (concat ks) + length l) f [] (suc n) ls) (after (at []))) n2
       (block-agree ls front [] 0 (i + length (concat ks) + length l) (suc n) e1 c1 i1 n1 (due-past (suc j) n [])) in
-      let e2 : linesOf (behindMark text) ≡ done ++ ((ks ++ (l ∷ [])) ++ ls) = e ∙ ap (λ (q : List (List ℕ)). done ++ q) (sym (append-assoc ks (l ∷ []) ls)) in
+      let e2 : linesOf (behindBom text) ≡ done ++ ((ks ++ (l ∷ [])) ++ ls) = e ∙ ap (λ (q : List (List ℕ)). done ++ q) (sym (append-assoc ks (l ∷ []) ls)) in
       let c2 : Cut ((ks ++ (l ∷ [])) ++ ls) = subst Cut (sym (append-assoc ks (l ∷ []) ls)) c in
       let n3 : suc n ≡ lineCount done + lineCount (ks ++ (l ∷ [])) = omega (arith, k2, en) in
       let b2 : concat (ks ++ (l ∷ [])) ≡ concat ks ++ l = m2 ∙ ap (λ (q : List ℕ). concat ks ++ q) (append-nil l) in

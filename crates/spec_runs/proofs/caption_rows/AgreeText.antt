@@ -11,13 +11,13 @@ use Rattle.spec_text.specs.text.Line.{linesOf}
 use Rattle.spec_caption.specs.caption_time.Kind.{kindBad}
 use Rattle.spec_caption.proofs.caption_time.Limits.{by-kind}
 use Rattle.spec_caption.specs.caption_fate.Says.{Part, stays}
-use Rattle.spec_caption.specs.caption_fate.Mark.{marked, behindMark, markWritten}
+use Rattle.spec_caption.specs.caption_fate.Bom.{startsBom, behindBom, bomWritten}
 use Rattle.spec_format.specs.ass_columns.Columns.{noColumns}
 use Rattle.spec_format.specs.block_timing.Header.{headerDue}
 use Rattle.spec_format.specs.whole.Srt.{blocksOf}
 use Rattle.spec_session.specs.session_counts.Reader.{Reading, fails, _⊕_}
 use Rattle.spec_session.specs.kinds.Takes.{machineOf, blankState}
-use Rattle.promise.specs.Plain.{markLength, unlessFault, headFault, assRead, blocksRead, vttRead, linesSay, linesRead, opened, plainRead}
+use Rattle.promise.specs.Plain.{bomLength, unlessFault, headFault, assRead, blocksRead, vttRead, linesSay, linesRead, opened, plainRead}
 use Rattle.promise.proofs.Bare.{readAll}
 use Rattle.promise.proofs.PlainBlocks.{due-past, block-lines}
 use Rattle.promise.proofs.LinesCut.{Cut, cut-tail, text-cut}
@@ -27,12 +27,12 @@ use Rattle.spec_runs.specs.caption_rows.Walk.{Walk, stopped, _then_, ass
 use Rattle.spec_runs.proofs.caption_rows.AgreeAss.{Agree, agree-fails, agree-part, ass-agree}
 use Rattle.spec_runs.proofs.caption_rows.AgreeBlocks.{block-agree}
 
-module _ (text : List ℕ) (c : Cut (linesOf (behindMark text))) where
+module _ (text : List ℕ) (c : Cut (linesOf (behindBom text))) where
   abbrev L : List (List ℕ)
-  L = linesOf (behindMark text)
+  L = linesOf (behindBom text)
 
   abbrev m : ℕ
-  m = markLength text
+  m = bomLength text
 
   from-mark : m ≡ m + 0
   from-mark = omega arith
@@ -76,22 +76,22 @@ module _ (text : List ℕ) (c : Cut (linesOf (behindMark text))) where
       go (suc k) q =
           subst (λ (s : Said). Agree 2 text (s then blockWalk 2 0 (m + length l) 1 [] 1 ls) (fails (suc k))) (sym (head-bad m l k q)) (agree-fails 2 text (suc k) 1)
 
-  with-mark : (kind : ℕ) (b : Bool) (w : Walk) (r : Reading) → Agree kind text w r → Agree kind text w (markWritten b ⊕ r)
+  with-mark : (kind : ℕ) (b : Bool) (w : Walk) (r : Reading) → Agree kind text w r → Agree kind text w (bomWritten b ⊕ r)
   with-mark kind true w r a = record { fault = a .fault; rows = a .rows }
   with-mark kind false w r a = record { fault = a .fault; rows = a .rows }
 
   plain-0 : Agree 0 text (walkOf 0 text) (plainRead 0 true text)
   unfolding walkOf walkBehind plainRead linesSay
-  plain-0 = with-mark 0 (marked text && opened 0 true m L) (assWalk m noColumns 0 m L) (assRead (fails 0) m noColumns 0 L) ass-text
+  plain-0 = with-mark 0 (startsBom text && opened 0 true m L) (assWalk m noColumns 0 m L) (assRead (fails 0) m noColumns 0 L) ass-text
 
   plain-1 : Agree 1 text (walkOf 1 text) (plainRead 1 true text)
   unfolding walkOf walkBehind plainRead linesSay
-  plain-1 = with-mark 1 (marked text && opened 1 true m L) (blockWalk 1 m m 0 [] 0 L) (blocksRead 1 true (fails 0) m 0 (blocksOf 1 L)) srt-text
+  plain-1 = with-mark 1 (startsBom text && opened 1 true m L) (blockWalk 1 m m 0 [] 0 L) (blocksRead 1 true (fails 0) m 0 (blocksOf 1 L)) srt-text
 
   plain-2 : Agree 2 text (walkOf 2 text) (plainRead 2 true text)
   unfolding walkOf walkBehind plainRead linesSay
-  plain-2 = with-mark 2 (marked text && opened 2 true m L) (vttWalk m m L) (vttRead true (fails 0) m L) (vtt-lines L refl)
+  plain-2 = with-mark 2 (startsBom text && opened 2 true m L) (vttWalk m m L) (vttRead true (fails 0) m L) (vtt-lines L refl)
 
 pub walk-plain : (kind : ℕ) (text : List ℕ) → kindBad kind ≡ false → Agree kind text (walkOf kind text) (plainRead kind true text)
 walk-plain kind text k =
-    let c = text-cut true (behindMark text) in by-kind (λ i. Agree i text (walkOf i text) (plainRead i true text)) (plain-0 text c) (plain-1 text c) (plain-2 text c) kind k
+    let c = text-cut true (behindBom text) in by-kind (λ i. Agree i text (walkOf i text) (plainRead i true text)) (plain-0 text c) (plain-1 text c) (plain-2 text c) kind k

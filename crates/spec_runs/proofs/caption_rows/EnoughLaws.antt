@@ -16,7 +16,7 @@ use Rattle.spec_caption.specs.declared.caption_stamp.Time.{Time}
 use Rattle.spec_caption.specs.declared.caption_stamp.Time.the-variants.{At, Bad}
 use Rattle.spec_caption.specs.caption_stamp.Read.{timeIn}
 use Rattle.spec_caption.specs.caption_fate.Says.{stays}
-use Rattle.spec_caption.specs.caption_fate.Mark.{marked, behindMark}
+use Rattle.spec_caption.specs.caption_fate.Bom.{startsBom, behindBom}
 use Rattle.spec_format.specs.declared.ass_columns.Columns.{Columns}
 use Rattle.spec_format.specs.ass_columns.Columns.{noColumns, columnsIn}
 use Rattle.spec_format.specs.ass_columns.Section.{eventsName, bracketed, inside, inSection}
@@ -28,7 +28,7 @@ use Rattle.spec_format.specs.block_timing.Place.{timingPlace}
 use Rattle.spec_format.proofs.block_timing.PlaceLaws.{Placed, timing-placed}
 use Rattle.spec_format.specs.block_cue.Block.{bothSay, blockFrame, endText, trailing, timingLineSays, timingSays, blockSays}
 use Rattle.spec_format.proofs.block_cue.WriteLaws.{line-long}
-use Rattle.promise.specs.Plain.{markLength, lineFault, headFault}
+use Rattle.promise.specs.Plain.{bomLength, lineFault, headFault}
 use Rattle.spec_runs.specs.declared.caption_rows.Said.{Said}
 use Rattle.spec_runs.specs.declared.caption_rows.Walked.{Walked}
 use Rattle.spec_runs.specs.caption_rows.Said.{atFault, quiet, lineSaid, heldSaid, blockSaid}
@@ -186,8 +186,8 @@ behind-within kind x ls = go (eqb kind 0) (eqb kind 2)
     go false true = vtt-within x x ls
     go false false = block-within kind x x 0 [] 0 ls (length (concat ls)) (omega arith)
 
-behind-short : (text : List ℕ) → length (behindMark text) ≤ length text
-behind-short text = go (marked text)
+behind-short : (text : List ℕ) → length (behindBom text) ≤ length text
+behind-short text = go (startsBom text)
   where
     go : (t : Bool) → length (cond t (drop 3 text) text) ≤ length text
     go true = omega (arith, length-drop 3 text)
@@ -196,9 +196,9 @@ behind-short text = go (marked text)
 pub walk-within : (kind : ℕ) (text : List ℕ) → Within (length text) (walkOf kind text)
 unfolding walkOf
 walk-within kind text =
-    let L = linesOf (behindMark text) in
-    let w = behind-within kind (markLength text) L in
-    let e : length (concat L) ≡ length (behindMark text) = ap length (lines-joined (behindMark text)) in
+    let L = linesOf (behindBom text) in
+    let w = behind-within kind (bomLength text) L in
+    let e : length (concat L) ≡ length (behindBom text) = ap length (lines-joined (behindBom text)) in
     record { captions = w .captions; rows = w .rows; bytes = let b = w .bytes in omega (arith, b, e, behind-short text) }
 
 -- ---- lent places

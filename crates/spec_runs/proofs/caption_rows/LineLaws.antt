@@ -21,7 +21,7 @@ use Rattle.spec_format.specs.ass_columns.Section.{eventsName, bracketed, inside
 use Rattle.spec_format.proofs.ass_columns.FieldLaws.{fields-most}
 use Rattle.spec_format.specs.ass_write.Frame.{pieceAt, fieldPieces, lineFrame}
 use Rattle.spec_format.specs.ass_line.Line.{formatWord, dialogueWord, commentWord, LineSays, says, lineCue, timesSay, captionSays, wordSays, textSays, lineSays}
-use Rattle.spec_format.specs.ass_line.Answer.{columnsAfter}
+use Rattle.spec_format.specs.ass_line.AssThrough.{columnsAfter}
 use Rattle.spec_format.proofs.ass_line.SayLaws.{caption-start, caption-end, caption-few, caption-times, caption-columns}
 use Rattle.spec_runs.specs.declared.caption_rows.Said.{Said}
 use Rattle.spec_runs.specs.caption_rows.Said.{pieceLength, fieldLength, wordsLength, atFault, quiet, captionSaid, partSaid, lineSaid, lastWords}

@@ -15,12 +15,12 @@ use Rattle.spec_text.specs.utf8.Utf8.{utf8}
 use Rattle.spec_text.specs.text.Line.{textOf, terminatorOf}
 use Rattle.spec_text.proofs.text.LineLaws.{text-terminator}
 use Rattle.spec_text.specs.pattern.Find.{starts}
-use Rattle.spec_caption.specs.caption_fate.Mark.{bom}
+use Rattle.spec_caption.specs.caption_fate.Bom.{bom}
 use Rattle.spec_format.specs.declared.ass_columns.Columns.{Columns}
 use Rattle.spec_format.specs.ass_line.Line.{lineSays}
-use Rattle.spec_format.specs.ass_line.Answer.{columnsAfter}
+use Rattle.spec_format.specs.ass_line.AssThrough.{columnsAfter}
 use Rattle.spec_format.specs.block_timing.Style.{blankIn}
-use Rattle.promise.specs.Plain.{markLength, lineFault}
+use Rattle.promise.specs.Plain.{bomLength, lineFault}
 use Rattle.spec_runs.specs.declared.caption_rows.Said.{Said}
 use Rattle.spec_runs.specs.caption_rows.Said.{atFault, quiet, lineSaid, blockSaid}
 use Rattle.spec_runs.specs.caption_rows.Walk.{assTurn, assNext, blockTurn, blockFrom, blockFirst}
@@ -39,10 +39,10 @@ unfolding lineFault _orElse_ faultUnless
 fault-none x l b h e f = rw (le-leb (x + length l) mostLine h, sym e ∙ f)
 
 -- ---- the BOM
-pub mark-yes : (t : List ℕ) (b : Bool) → b ≡ starts bom t → b ≡ true → 3 ≡ markLength t
+pub mark-yes : (t : List ℕ) (b : Bool) → b ≡ starts bom t → b ≡ true → 3 ≡ bomLength t
 mark-yes t b e f = ap (λ (x : Bool). cond x 3 0) (sym f ∙ e)
 
-pub mark-no : (t : List ℕ) (b : Bool) → b ≡ starts bom t → b ≡ false → 0 ≡ markLength t
+pub mark-no : (t : List ℕ) (b : Bool) → b ≡ starts bom t → b ≡ false → 0 ≡ bomLength t
 mark-no t b e f = ap (λ (x : Bool). cond x 3 0) (sym f ∙ e)
 
 -- ---- an ASS line

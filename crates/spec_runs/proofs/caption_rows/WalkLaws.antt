@@ -15,7 +15,7 @@ use Rattle.spec_base.specs.base.Put.{placedAt, placeAfter}
 use Rattle.spec_base.proofs.base.PutLaws.{put-nil}
 use Rattle.spec_base.proofs.base.RefusalLaws.{else-found}
 use Rattle.spec_text.specs.pattern.Find.{starts}
-use Rattle.spec_caption.specs.caption_fate.Mark.{bom, behindMark}
+use Rattle.spec_caption.specs.caption_fate.Bom.{bom, behindBom}
 use Rattle.spec_format.proofs.ass_line.SayLaws.{starts-long}
 use Rattle.spec_format.specs.block_timing.Header.{isHeader}
 use Rattle.promise.proofs.PlainVtt.{header-headed}
@@ -24,7 +24,7 @@ use Rattle.spec_text.proofs.text.LineLaws.{line-some, line-le, lines-cut, lines
 use Rattle.spec_format.specs.declared.ass_columns.Columns.{Columns}
 use Rattle.spec_format.specs.ass_columns.Columns.{noColumns}
 use Rattle.spec_format.specs.block_timing.Style.{blankIn}
-use Rattle.promise.specs.Plain.{markLength, lineFault, headed, headFault}
+use Rattle.promise.specs.Plain.{bomLength, lineFault, headed, headFault}
 use Rattle.spec_runs.specs.declared.caption_rows.Said.{Said}
 use Rattle.spec_runs.specs.declared.caption_rows.Walked.{Walked}
 use Rattle.spec_runs.specs.caption_rows.Said.{atFault, quiet, blockSaid}
@@ -421,28 +421,28 @@ pub header-past : (text : List ℕ) (x : ℕ) (y : List ℕ) → x < length text
 header-past text x y h ey = omega (arith, cut text x y h ey .some)
 
 -- ---- a text of a kind
-pub mark-in : (text : List ℕ) (m : ℕ) → m ≡ markLength text → m ≤ length text
+pub mark-in : (text : List ℕ) (m : ℕ) → m ≡ bomLength text → m ≤ length text
 mark-in text m e = go (starts bom text) refl (e)
   where
     go : (t : Bool) → starts bom text ≡ t → m ≡ cond t 3 0 → m ≤ length text
     go true q f = omega (arith, starts-long bom text q)
     go false q f = omega arith
 
-pub mark-small : (text : List ℕ) (m : ℕ) → m ≡ markLength text → m ≤ 3
+pub mark-small : (text : List ℕ) (m : ℕ) → m ≡ bomLength text → m ≤ 3
 mark-small text m e = go (starts bom text) e
   where
     go : (t : Bool) → m ≡ cond t 3 0 → m ≤ 3
     go true f = omega arith
     go false f = omega arith
 
-behind-is : (text : List ℕ) (m : ℕ) → m ≡ markLength text → behindMark text ≡ drop m text
+behind-is : (text : List ℕ) (m : ℕ) → m ≡ bomLength text → behindBom text ≡ drop m text
 behind-is text m e = go (starts bom text) ∙ ap (λ (k : ℕ). drop k text) (sym e)
   where
     go : (t : Bool) → cond t (drop 3 text) text ≡ drop (cond t 3 0) text
     go true = refl
     go false = refl
 
-module _ (kind : ℕ) (text : List ℕ) (m : ℕ) (em : m ≡ markLength text) (r : Walked) (l l′ : List ℕ) where
+module _ (kind : ℕ) (text : List ℕ) (m : ℕ) (em : m ≡ bomLength text) (r : Walked) (l l′ : List ℕ) where
   walk-is : walkOf kind text ≡ walkBehind kind m (linesOf (drop m text))
   unfolding walkOf
   walk-is = ap₂ (λ (k : ℕ) (t : List ℕ). walkBehind kind k (linesOf t)) (sym em) (behind-is text m em)

@@ -17,13 +17,13 @@ use Rattle.spec_caption.specs.declared.caption_stamp.Time.{Time}
 use Rattle.spec_caption.specs.declared.caption_stamp.Time.the-variants.{At, Bad}
 use Rattle.spec_caption.specs.caption_stamp.Read.{timeIn}
 use Rattle.spec_caption.specs.caption_fate.Says.{unplaced, short, Part, stays, passes, cue, Fault, longLine, notUtf8, longBlock, badTime, badHeader, faultNumber}
-use Rattle.spec_caption.specs.caption_fate.Mark.{behindMark}
+use Rattle.spec_caption.specs.caption_fate.Bom.{behindBom}
 use Rattle.spec_format.specs.declared.ass_columns.Columns.{Columns}
 use Rattle.spec_format.specs.ass_columns.Columns.{columnsIn, fields, fieldAt, noColumns}
 use Rattle.spec_format.specs.ass_columns.Section.{eventsName, bracketed, inside, inSection}
 use Rattle.spec_format.proofs.ass_columns.FieldLaws.{fields-most}
 use Rattle.spec_format.specs.ass_line.Line.{formatWord, dialogueWord, commentWord, LineSays, faulty, says, timesSay, captionSays, wordSays, textSays, lineSays}
-use Rattle.spec_format.specs.ass_line.Answer.{columnsAfter}
+use Rattle.spec_format.specs.ass_line.AssThrough.{columnsAfter}
 use Rattle.spec_format.specs.whole.Ass.{columnsBehind}
 use Rattle.promise.specs.Plain.{lineFault}
 use Rattle.promise.proofs.LinesCut.{many-append, concat-append}
@@ -181,7 +181,7 @@ stand-less kind text a b (n ∷ []) h r = r
 stand-less kind text a b [] h r = tt
 
 -- ---- the row of a line
-module _ (text : List ℕ) (done : List (List ℕ)) (l : List ℕ) (ls : List (List ℕ)) (e : linesOf (behindMark text) ≡ done ++ (l ∷ ls)) (c : Columns) (ec : c ≡ columnsBehind noColumns 0 done) (i : ℕ)
+module _ (text : List ℕ) (done : List (List ℕ)) (l : List ℕ) (ls : List (List ℕ)) (e : linesOf (behindBom text) ≡ done ++ (l ∷ ls)) (c : Columns) (ec : c ≡ columnsBehind noColumns 0 done) (i : ℕ)
     (ei : i ≡ byteBehind text done) where
   -- words at the end of its text
   end-bytes : (front words : List ℕ) (k : ℕ) → textOf l ≡ front ++ words → k ≡ length words → bytesAt (i + (length (textOf l) - k)) k text ≡ words
@@ -249,13 +249,13 @@ part-then i k (stays x) w = refl
 part-then i k (passes r m x) w = refl
 part-then i k (cue q) w = refl
 
-pub ass-rows : (text : List ℕ) (ls done : List (List ℕ)) (x : ℕ) (c : Columns) (n i : ℕ) → linesOf (behindMark text) ≡ done ++ ls → n ≡ lineCount done → i ≡ byteBehind text done → c ≡ columnsBehind noColumns 0 done
+pub ass-rows : (text : List ℕ) (ls done : List (List ℕ)) (x : ℕ) (c : Columns) (n i : ℕ) → linesOf (behindBom text) ≡ done ++ ls → n ≡ lineCount done → i ≡ byteBehind text done → c ≡ columnsBehind noColumns 0 done
     → RowsStand 0 text n (assWalk x c n i ls .rows)
 ass-rows text [] done x c n i e en ei ec = subst (λ (w : Walk). RowsStand 0 text n (w .rows)) (sym (walk-none x c n i)) tt
 ass-rows text (l ∷ ls) done x c n i e en ei ec =
     subst (λ (w : Walk). RowsStand 0 text n (w .rows)) (sym (ass-clause x c n i l ls)) (go (lineFault x l) refl (λ d q. ass-rows text ls (done ++ (l ∷ [])) 0 d (suc n) (i + length l) more counted placed q))
   where
-    more : linesOf (behindMark text) ≡ (done ++ (l ∷ [])) ++ ls
+    more : linesOf (behindBom text) ≡ (done ++ (l ∷ [])) ++ ls
     more = e ∙ sym (append-assoc done (l ∷ []) ls)
 
     counted : suc n ≡ lineCount (done ++ (l ∷ []))

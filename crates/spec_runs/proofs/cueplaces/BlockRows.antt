@@ -12,7 +12,7 @@ use Rattle.spec_text.specs.pattern.Find.{upTo}
 use Rattle.spec_text.specs.text.Line.{linesOf, concat, lineCount, textOf, terminatorOf}
 use Rattle.spec_caption.specs.declared.caption_stamp.Time.{Time}
 use Rattle.spec_caption.specs.declared.caption_stamp.Time.the-variants.{At, Bad}
-use Rattle.spec_caption.specs.caption_fate.Mark.{behindMark}
+use Rattle.spec_caption.specs.caption_fate.Bom.{behindBom}
 use Rattle.spec_format.specs.block_timing.Style.{styleOf, stampsIn, blankIn}
 use Rattle.spec_format.specs.block_timing.Arrow.{arrow, Timing, untimed, timed, timingOf}
 use Rattle.spec_format.specs.block_cue.Block.{blockFrame, bothSay, endText, trailing, timingLineSays}
@@ -32,13 +32,13 @@ use Rattle.spec_runs.proofs.cueplaces.AssRows.{stand-less}
 
 module _ (j : ℕ) (text : List ℕ) where
   abbrev L : List (List ℕ)
-  L = linesOf (behindMark text)
+  L = linesOf (behindBom text)
 
   not-ass : eqb (suc j) 0 ≡ false
   not-ass = ne-eqb (suc j) 0 (λ q. omega arith)
 
   -- ---- a closed block of the lines ks, behind the lines `done`; i is where it begins, and the rows of w come behind it
-  module _ (done ks rest : List (List ℕ)) (e : linesOf (behindMark text) ≡ done ++ (ks ++ rest)) (c : Cut ks) (filled : noneBlank (suc j) ks ≡ true) (opens : endsBlank (suc j) (drop (headLines (suc j)) done) ≡ true) (closes : blankNext (suc j) rest ≡ true) (i : ℕ) (ei : i ≡ byteBehind text done) (w : Walk)
+  module _ (done ks rest : List (List ℕ)) (e : linesOf (behindBom text) ≡ done ++ (ks ++ rest)) (c : Cut ks) (filled : noneBlank (suc j) ks ≡ true) (opens : endsBlank (suc j) (drop (headLines (suc j)) done) ≡ true) (closes : blankNext (suc j) rest ≡ true) (i : ℕ) (ei : i ≡ byteBehind text done) (w : Walk)
       (r : RowsStand (suc j) text (lineCount done + lineCount ks) (w .rows)) where
     abbrev F : ℕ
     F = suc (lineCount done)

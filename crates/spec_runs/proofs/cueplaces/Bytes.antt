@@ -8,25 +8,25 @@ use lib.ListN.{length, take, drop, length-append}
 use lib.Seq.{drop-append-seam, take-append-seam, drop-drop}
 use Rattle.spec_text.specs.text.Line.{linesOf, concat}
 use Rattle.spec_text.proofs.text.LineLaws.{lines-joined}
-use Rattle.spec_caption.specs.caption_fate.Mark.{marked, behindMark}
-use Rattle.promise.specs.Plain.{markLength}
+use Rattle.spec_caption.specs.caption_fate.Bom.{startsBom, behindBom}
+use Rattle.promise.specs.Plain.{bomLength}
 use Rattle.promise.proofs.LinesCut.{concat-append}
 use Rattle.spec_runs.specs.cueplaces.Rows.{bytesAt, byteBehind}
 
 -- behind the BOM
-behind-mark : (text : List ℕ) → drop (markLength text) text ≡ behindMark text
-behind-mark text = go (marked text)
+behind-mark : (text : List ℕ) → drop (bomLength text) text ≡ behindBom text
+behind-mark text = go (startsBom text)
   where
     go : (b : Bool) → drop (cond b 3 0) text ≡ cond b (drop 3 text) text
     go true = refl
     go false = refl
 
-module _ (text : List ℕ) (before rest : List (List ℕ)) (e : linesOf (behindMark text) ≡ before ++ rest) where
+module _ (text : List ℕ) (before rest : List (List ℕ)) (e : linesOf (behindBom text) ≡ before ++ rest) where
   -- behind some lines stand the others
   pub bytes-behind : drop (byteBehind text before) text ≡ concat rest
   bytes-behind =
-      sym (drop-drop (length (concat before)) (markLength text) text)
-      ∙ ap (drop (length (concat before))) (behind-mark text ∙ sym (lines-joined (behindMark text)) ∙ ap concat e ∙ concat-append before rest)
+      sym (drop-drop (length (concat before)) (bomLength text) text)
+      ∙ ap (drop (length (concat before))) (behind-mark text ∙ sym (lines-joined (behindBom text)) ∙ ap concat e ∙ concat-append before rest)
       ∙ drop-append-seam (concat before) (concat rest)
 
   -- k bytes that stand j bytes further on

@@ -15,10 +15,10 @@ use Rattle.spec_text.specs.text.Line.{linesOf, concat, lineCount, textOf}
 use Rattle.spec_text.proofs.text.LineLaws.{lines-joined}
 use Rattle.spec_caption.specs.caption_time.Kind.{kindBad}
 use Rattle.spec_caption.proofs.caption_time.Limits.{by-kind}
-use Rattle.spec_caption.specs.caption_fate.Mark.{bom, marked, behindMark}
+use Rattle.spec_caption.specs.caption_fate.Bom.{bom, startsBom, behindBom}
 use Rattle.spec_format.specs.ass_columns.Columns.{noColumns}
 use Rattle.spec_session.specs.session_counts.Machine.{hasBom}
-use Rattle.promise.specs.Plain.{markLength, lineFault, headed, headFault}
+use Rattle.promise.specs.Plain.{bomLength, lineFault, headed, headFault}
 use Rattle.promise.proofs.Bare.{no-bom-part}
 use Rattle.promise.proofs.LinesCut.{Cut, cut-tail, cut-before, cut-lines, text-cut, concat-append}
 use Rattle.spec_runs.specs.caption_rows.Said.{atFault, quiet}
@@ -205,10 +205,10 @@ behind-lined kind x L g c = by-kind (λ i. Lined (walkBehind i x) L i) (zero-lin
 -- ---- the first lines of a text, as the walk sees them
 module _ (kind : ℕ) (text : List ℕ) (n : ℕ) where
   abbrev lines : List (List ℕ)
-  lines = linesOf (behindMark text)
+  lines = linesOf (behindBom text)
 
   front-cut : Cut (take n lines)
-  front-cut = cut-before (take n lines) (drop n lines) (subst Cut (sym (take-append-drop n lines)) (text-cut true (behindMark text)))
+  front-cut = cut-before (take n lines) (drop n lines) (subst Cut (sym (take-append-drop n lines)) (text-cut true (behindBom text)))
 
   front-lines : linesOf (concat (take n lines)) ≡ take n lines
   front-lines = cut-lines (take n lines) front-cut
@@ -218,21 +218,21 @@ module _ (kind : ℕ) (text : List ℕ) (n : ℕ) where
   unfolding walkOf starts
   marked-walk y = refl
 
-  bare-walk : (y : List ℕ) → marked y ≡ false → walkOf kind y ≡ walkBehind kind 0 (linesOf y)
+  bare-walk : (y : List ℕ) → startsBom y ≡ false → walkOf kind y ≡ walkBehind kind 0 (linesOf y)
   unfolding walkOf
   bare-walk y e = rw e
 
-  bare-front : marked text ≡ false → marked (concat (take n lines)) ≡ false
+  bare-front : startsBom text ≡ false → startsBom (concat (take n lines)) ≡ false
   unfolding hasBom
   bare-front e =
       no-bom-part (concat (take n lines)) (concat (drop n lines))
-      (ap marked
-      (sym (concat-append (take n lines) (drop n lines)) ∙ ap concat (take-append-drop n lines) ∙ lines-joined (behindMark text) ∙ ap (λ (b : Bool). cond b (drop 3 text) text) e) ∙ e)
+      (ap startsBom
+      (sym (concat-append (take n lines) (drop n lines)) ∙ ap concat (take-append-drop n lines) ∙ lines-joined (behindBom text) ∙ ap (λ (b : Bool). cond b (drop 3 text) text) e) ∙ e)
 
-  front-walk : walkOf kind (firstLines n text) ≡ walkBehind kind (markLength text) (take n lines)
-  front-walk = go (marked text) refl
+  front-walk : walkOf kind (firstLines n text) ≡ walkBehind kind (bomLength text) (take n lines)
+  front-walk = go (startsBom text) refl
     where
-      go : (b : Bool) → marked text ≡ b → walkOf kind (firstLines n text) ≡ walkBehind kind (markLength text) (take n lines)
+      go : (b : Bool) → startsBom text ≡ b → walkOf kind (firstLines n text) ≡ walkBehind kind (bomLength text) (take n lines)
       go true e =
           ap (λ (b : Bool). walkOf kind (cond b bom [] ++ concat (take n lines))) e ∙ marked-walk (concat (take n lines)) ∙ ap (walkBehind kind 3) front-lines
           ∙ ap (λ (b : Bool). walkBehind kind (cond b 3 0) (take n lines)) (sym e)
@@ -240,15 +240,15 @@ module _ (kind : ℕ) (text : List ℕ) (n : ℕ) where
           ap (λ (b : Bool). walkOf kind (cond b bom [] ++ concat (take n lines))) e ∙ bare-walk (concat (take n lines)) (bare-front e) ∙ ap (walkBehind kind 0) front-lines
           ∙ ap (λ (b : Bool). walkBehind kind (cond b 3 0) (take n lines)) (sym e)
 
-  front-fault : kindBad kind ≡ false → textFault kind (firstLines n text) ≡ walkBehind kind (markLength text) (take n lines) .fault
+  front-fault : kindBad kind ≡ false → textFault kind (firstLines n text) ≡ walkBehind kind (bomLength text) (take n lines) .fault
   front-fault g = sym (walk-plain kind (firstLines n text) g .fault) ∙ ap (λ (w : Walk). w .fault) front-walk
 
 module _ (kind : ℕ) (text : List ℕ) (g : kindBad kind ≡ false) where
   abbrev F : List (List ℕ) → Walk
-  F = walkBehind kind (markLength text)
+  F = walkBehind kind (bomLength text)
 
   abbrev L : List (List ℕ)
-  L = linesOf (behindMark text)
+  L = linesOf (behindBom text)
 
   whole-is : walkOf kind text ≡ F L
   unfolding walkOf
@@ -281,4 +281,4 @@ module _ (kind : ℕ) (text : List ℕ) (g : kindBad kind ≡ false) where
 pub fault-line : FaultLineTold
 fault-line kind text g =
     subst (λ (w : Walk). FaultLine kind text (w .line)) (sym (whole-is kind text g))
-    (of-line kind text g (behind-lined kind (markLength text) (linesOf (behindMark text)) g (text-cut true (behindMark text))))
+    (of-line kind text g (behind-lined kind (bomLength text) (linesOf (behindBom text)) g (text-cut true (behindBom text))))

@@ -12,11 +12,11 @@ use Rattle.spec_caption.specs.caption_time.Kind.{kindBad}
 use Rattle.spec_map.specs.segment.Segment.{flatOf}
 use Rattle.spec_map.specs.segmap.Map.{mapOf}
 use Rattle.spec_map.proofs.segmap.Built.{map-front}
-use Rattle.spec_session.specs.session.Answer.{openOf}
+use Rattle.spec_session.specs.session.SessionCalls.{openOf}
 use Rattle.spec_parking.specs.parked_blocks.Sealed.{sealedLength}
-use Rattle.spec_parking.specs.parking.Answer.{keepNumber}
+use Rattle.spec_parking.specs.parking.Parkings.{keepNumber}
 use Rattle.promise.proofs.TheDemand.{built-opens}
-use Rattle.spec_parking.specs.session_bytes.Answer.{openNumber}
+use Rattle.spec_parking.specs.session_bytes.ByteCalls.{openNumber}
 use Rattle.spec_runs.specs.keptruns.Claims.{ChainHolds, KeptChain}
 use Rattle.spec_runs.proofs.keptruns.Runs.{kept-promise}
 

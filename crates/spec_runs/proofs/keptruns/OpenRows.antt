@@ -8,10 +8,10 @@ use Rattle.spec_caption.specs.caption_time.Kind.{kindBad}
 use Rattle.spec_caption.specs.caption_time.Convert.{timescaleBad}
 use Rattle.spec_map.specs.segment.Segment.{segmentsOf, anyBad, mapBad}
 use Rattle.spec_session.specs.session_state.View.{stored}
-use Rattle.spec_session.specs.session.Answer.{openOf}
+use Rattle.spec_session.specs.session.SessionCalls.{openOf}
 use Rattle.spec_parking.specs.parked_blocks.Sealed.{wordBytes, wordsBytes, sealed, rowOf}
 use Rattle.spec_parking.specs.parking.Parked.{headWords, parkedOf}
-use Rattle.spec_parking.specs.session_bytes.Answer.{openNumber, openBytes}
+use Rattle.spec_parking.specs.session_bytes.ByteCalls.{openNumber, openBytes}
 
 -- open's own numbers come before 16 for the bytes; 9,216 are enough
 pub number-rows : openNumber 2 0 [] 0 ∷ openNumber 3 1 [] 9216 ∷ openNumber 2 1 [] 9215 ∷ openNumber 2 1 [] 9216 ∷ [] ≡ 15 ∷ 16 ∷ 16 ∷ 0 ∷ []

@@ -19,10 +19,10 @@ use Rattle.spec_session.specs.declared.session_state.Session.{Session}
 use Rattle.spec_session.specs.session_state.View.{view, stored, foreignOf}
 use Rattle.spec_session.specs.declared.session.Fed.{Fed}
 use Rattle.spec_session.specs.declared.session.Opened.{Opened}
-use Rattle.spec_session.specs.session.Answer.{feedCall, finishCall, answerOf, nextOf, Answered, openOf, OpenAnswered}
+use Rattle.spec_session.specs.session.SessionCalls.{feedCall, finishCall, answerOf, nextOf, Answered, openOf, OpenAnswered}
 use Rattle.spec_parking.specs.parked_blocks.Sealed.{sealedLength}
 use Rattle.spec_parking.specs.parking.Parked.{parkedOf, sessionIn}
-use Rattle.spec_parking.specs.parking.Answer.{whenDone, keepNumber}
+use Rattle.spec_parking.specs.parking.Parkings.{whenDone, keepNumber}
 use Rattle.spec_parking.proofs.parking.Kept.{parked-length}
 use Rattle.promise.specs.Demand.{Demand}
 use Rattle.promise.specs.Promise.{configOf}
@@ -30,7 +30,7 @@ use Rattle.promise.specs.Runs.{Made, fed, finished, callsOf, Ran, warningsIn, o
 use Rattle.promise.proofs.TheDemand.{demand-opened}
 use Rattle.spec_runs.proofs.parkruns.Walk.{At, at-native, at-next}
 use Rattle.spec_runs.proofs.parkruns.Two.{sound, at-open}
-use Rattle.spec_parking.specs.session_bytes.Answer.{openNumber, openBytes, refuses, toldIn}
+use Rattle.spec_parking.specs.session_bytes.ByteCalls.{openNumber, openBytes, refuses, toldIn}
 use Rattle.spec_runs.specs.keptruns.Kept.{Left, KeptCall, keptCallOf, keptCalls, leftBy, Leaves, KeptMet, KeptRan, textLeft, warningsLeft, keptOutcome}
 use Rattle.spec_runs.specs.keptruns.Kept as kept
 use Rattle.spec_runs.specs.keptruns.Claims.{firstBytes, KeptPromise}

@@ -19,12 +19,12 @@ use Rattle.spec_session.proofs.session_counts.Numbers.{OfText, OfCall, accepted
 use Rattle.spec_session.specs.kinds.Kit.{kit}
 use Rattle.spec_session.specs.declared.session_state.Session.{Session}
 use Rattle.spec_session.specs.session_state.View.{view, foreignOf}
-use Rattle.spec_session.specs.session.Answer.{answerOf, nextOf, sessionGate, nextBy}
+use Rattle.spec_session.specs.session.SessionCalls.{answerOf, nextOf, sessionGate, nextBy}
 use Rattle.spec_session.proofs.session.CallLaws.{answer-by}
 use Rattle.spec_parking.specs.parking.Parked.{parkedOf, sessionIn}
-use Rattle.spec_parking.specs.parking.Answer.{takeNumber}
+use Rattle.spec_parking.specs.parking.Parkings.{takeNumber}
 use Rattle.spec_parking.proofs.parking.Kept.{parked-again, parked-length}
-use Rattle.spec_parking.specs.session_bytes.Answer.{refuses, callNumber, emptyPiece, bytesAfter, textOut, placesIn}
+use Rattle.spec_parking.specs.session_bytes.ByteCalls.{refuses, callNumber, emptyPiece, bytesAfter, textOut, placesIn}
 use Rattle.spec_parking.proofs.session_bytes.NumberLaws.{refuses-between}
 use Rattle.spec_runs.proofs.parkruns.Tidy.{Tidy}
 

@@ -19,7 +19,7 @@ use Rattle.spec_map.specs.segment.Segment.{segmentsOf, flatOf, mapBad}
 use Rattle.spec_session.specs.session_counts.Session.{gate, openBy}
 use Rattle.spec_session.specs.kinds.Kit.{kit}
 use Rattle.spec_session.specs.declared.session.Opened.{Opened}
-use Rattle.spec_session.specs.session.Answer.{OpenAnswered, openOf}
+use Rattle.spec_session.specs.session.SessionCalls.{OpenAnswered, openOf}
 use Rattle.promise.specs.Promise.{configOf}
 use Rattle.promise.proofs.TheDemand.{demand-opened}
 use Rattle.spec_json.specs.declared.map_json_write.Wrote.{Wrote}
@@ -27,8 +27,8 @@ use Rattle.spec_json.specs.declared.map_json_read.Taken.{Taken}
 use Rattle.spec_json.specs.map_json_write.Names.{mostPath}
 use Rattle.spec_json.specs.map_json_write.Text.{mapText}
 use Rattle.spec_json.specs.map_json_write.Reads.{isMapText, mapSaid}
-use Rattle.spec_json.specs.map_json_write.Answer.{writeNumber, whenDone, Writes, Back}
-use Rattle.spec_json.specs.map_json_read.Answer.{readNumber, valueWhenDone, Reads}
+use Rattle.spec_json.specs.map_json_write.MapWritten.{writeNumber, whenDone, Writes, Back}
+use Rattle.spec_json.specs.map_json_read.MapRead.{readNumber, valueWhenDone, Reads}
 use Rattle.spec_json.proofs.map_json_write.Whole.{round-trip}
 use Rattle.spec_runs.specs.mapback.Claims.{Opens, ReadOpens, Returned, WrittenBack}
 

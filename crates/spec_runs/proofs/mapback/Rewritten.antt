@@ -18,7 +18,7 @@ use Rattle.spec_json.specs.json.Member.{Member, bare, fieldOf}
 use Rattle.spec_json.proofs.json.MemberUtf8.{part-whole, bare-in, field-in, string-utf8}
 use Rattle.spec_json.specs.map_json_write.Names.{timescaleName, rateNumName, rateDenName, inputName, mostPath}
 use Rattle.spec_json.specs.map_json_write.Reads.{short, fields, pathSaid, fieldsSaid, isMapText, mapSaid}
-use Rattle.spec_json.specs.map_json_write.Answer.{writeNumber}
+use Rattle.spec_json.specs.map_json_write.MapWritten.{writeNumber}
 use Rattle.spec_runs.specs.mapback.Claims.{ReadWritten}
 use Rattle.spec_runs.proofs.mapback.Opened.{fine, done-value, taken-back}
 

@@ -32,7 +32,7 @@ use Rattle.spec_session.specs.session_state.View.{view, stored}
 use Rattle.spec_session.specs.session_lines.Done.{Wrote}
 use Rattle.spec_session.specs.declared.session.Fed.{Fed}
 use Rattle.spec_session.specs.declared.session.Opened as opening
-use Rattle.spec_session.specs.session.Answer.{feedCall, finishCall, answerOf, openOf, Answered, OpenAnswered}
+use Rattle.spec_session.specs.session.SessionCalls.{feedCall, finishCall, answerOf, openOf, Answered, OpenAnswered}
 use Rattle.spec_session.proofs.session.StandLaws.{lent, back, wrote-more}
 use Rattle.promise.specs.Plain.{plainRead}
 use Rattle.promise.specs.Promise.{configOf}

@@ -1,11 +1,11 @@
--- The loop over the pieces of a text: its turn, and both of its ends.
+-- Where pieces end; a text that has been fed, and its finish.
 use mathlib.Core.Path.{_≡_, refl, sym, ap, subst, _∙_}
 use mathlib.Core.Bool.{Bool, true, false, cond}
 use mathlib.Core.List.{List, [], _++_}
 use Prim.Native.Nat.{ℕ, _+_, _-_, _*_, _≤_, _<_}
 use native.Mathlib.Omega.{arith}
 use lib.Dec.{ltb}
-use lib.ListN.{length, take, drop, length-take, length-drop, length-append, take-append-drop}
+use lib.ListN.{length, take, drop, length-take, length-drop, length-append}
 use lib.Seq.{take-add, take-all}
 use borrow.Author.Tests.{ltb-true, ltb-false, lt-ltb, le-ltb}
 use Rattle.spec_base.specs.base.Limits.{mostTaken, leastOutput, leastPlaces}
@@ -14,6 +14,7 @@ use Rattle.spec_base.proofs.base.PutLaws.{put-nil, length-put, length-tail}
 use Rattle.spec_caption.specs.declared.caption_fate.Config.{Config}
 use Rattle.spec_caption.specs.caption_fate.Says.{Part}
 use Rattle.spec_caption.specs.caption_fate.Emit.{emitsOf, outputOf, warningsOf, placesOf}
+use Rattle.spec_session.specs.declared.session_counts.Counts.{Counts}
 use Rattle.spec_session.specs.session_counts.Counts.{countsOf}
 use Rattle.spec_session.specs.session_counts.Reader.{Reading, reading}
 use Rattle.spec_session.specs.session_counts.Session.{Call, emitted}
@@ -23,14 +24,14 @@ use Rattle.spec_session.specs.declared.session_state.Session.{Session}
 use Rattle.spec_session.specs.session_state.View.{view}
 use Rattle.spec_session.specs.session_lines.Done.{Wrote}
 use Rattle.spec_session.specs.declared.session.Fed.{Fed}
-use Rattle.spec_session.specs.session.Answer.{feedCall, finishCall, answerOf, Answered}
+use Rattle.spec_session.specs.session.SessionCalls.{finishCall, answerOf, Answered}
 use Rattle.spec_session.proofs.session.StandLaws.{lent, back}
 use Rattle.promise.specs.Plain.{plainRead}
 use Rattle.promise.specs.Promise.{configOf}
 use Rattle.spec_runs.specs.declared.one_call.Ran.{Ran}
 use Rattle.spec_runs.specs.one_call.Text.{outputFor, placesFor, emitsFor}
 use Rattle.spec_runs.specs.one_call.Ran.{pieceEnd, RanText}
-use Rattle.spec_runs.proofs.one_call.StandLaws.{Stands, Over, stands-room, partsBehind, led-turn, led-fault, led-end, wrote-behind, over-plain}
+use Rattle.spec_runs.proofs.one_call.StandLaws.{Stands, Over, stands-room, partsBehind, led-end, wrote-behind, over-plain}
 
 -- ---- where a piece ends
 pub end-last : (i n : ℕ) → n < i + 1024 → n ≡ pieceEnd i n
@@ -103,7 +104,7 @@ back-length a l y h e =
     let q = length-append y (drop (length l - a) (drop a l)) in
     omega (arith, p, q, length-take a l, length-drop (length l - a) (drop a l), length-drop a l, length-tail a l)
 
--- ---- a turn
+-- ---- a call more
 module _ (c : Config) (m text : List ℕ) (i : ℕ) (s : Session) (o w : ℕ) (out₀ out places₀ places : List ℕ) (A : At c m text i s o w out₀ out places₀ places) where
   pub few : (o ≤ 3 * length text) × (3 * w ≤ length text)
   few =
@@ -147,46 +148,6 @@ module _ (c : Config) (m text : List ℕ) (i : ℕ) (s : Session) (o w : ℕ) (o
       let q : length z ≡ length (lent w places) = ap length (a .warnings) ∙ length-put _ (lent w places) (omega (arith, f .places, enough-places)) in
       (back-length o out y (omega (arith, at-room .0)) p ∙ out-long, back-length w places z (omega (arith, at-room .1)) q ∙ places-long)
 
-  module _ (e : ℕ) (E : Ends i e (length text)) where
-    abbrev piece : List ℕ
-    piece = take (e - i) (drop i text)
-
-    abbrev X : Call
-    X = feedCall m piece (length (lent o out)) (length (lent w places))
-
-    module _ (r : Fed) (y z : List ℕ) (a : Answered s X r (lent o out) y (lent w places) z) where
-      pub at-turn : r .number ≡ 0 → At c m text e (r .session) (o + r .written) (w + r .warned) out₀ (back o out y) places₀ (back w places z)
-      at-turn n =
-          record {
-            opens = A .opens;
-            within = E .hi;
-            short = A .short;
-            output = A .output;
-            warned = A .warned;
-            stands =
-                subst (λ (t : List ℕ). Stands c m (A .opens) t (r .session) (o + r .written) (w + r .warned) out₀ (back o out y) places₀ (back w places z)) (front-is text i e E)
-                (record {
-                  parts = partsBehind c m (A .opens) (take i text) s (A .stands .parts) (A .stands .led) X refl;
-                  led =
-                      led-turn c m (A .opens) (take i text) s (A .stands .parts) (A .stands .led) piece (piece-short text i e E) (piece-taken text i e E (A .short))
-                      (length (lent o out)) (length (lent w places)) enough enough-places r (lent o out) y (lent w places) z a n;
-                  wrote = wrote-behind c m (A .opens) (take i text) s o w out₀ out places₀ places (A .stands) X refl r y z a;
-                });
-          }
-
-      pub at-fault : (r .number ≡ 0 → ⊥) → Ended c m text (r .number) (r .session) (o + r .written) (w + r .warned) out₀ (back o out y) places₀ (back w places z)
-      at-fault f =
-          record {
-            opens = A .opens;
-            parts = partsBehind c m (A .opens) (take i text) s (A .stands .parts) (A .stands .led) X refl;
-            over =
-                subst (λ (t : List ℕ). Over c m (A .opens) t (r .number) (r .session) (partsBehind c m (A .opens) (take i text) s (A .stands .parts) (A .stands .led) X refl))
-                (ap (λ (t : List ℕ). t ++ drop e text) (front-is text i e E) ∙ take-append-drop e text)
-                (led-fault c m (A .opens) (take i text) s (A .stands .parts) (A .stands .led) piece (piece-short text i e E) (piece-taken text i e E (A .short))
-                (length (lent o out)) (length (lent w places)) enough enough-places r (lent o out) y (lent w places) z a (drop e text) f);
-            wrote = wrote-behind c m (A .opens) (take i text) s o w out₀ out places₀ places (A .stands) X refl r y z a;
-          }
-
   -- ---- the end of the text
   pub at-end : length text ≤ i → (r : Fed) (y z : List ℕ) → Answered s (finishCall m (length (lent o out)) (length (lent w places))) r (lent o out) y (lent w places) z
       → Ended c m text (r .number) (r .session) (o + r .written) (w + r .warned) out₀ (back o out y) places₀ (back w places z)
@@ -202,43 +163,39 @@ module _ (c : Config) (m text : List ℕ) (i : ℕ) (s : Session) (o w : ℕ) (o
         wrote = wrote-behind c m (A .opens) (take i text) s o w out₀ out places₀ places (A .stands) x refl r y z a;
       }
 
--- ---- as the code has it: the loop's last call, then what is handed out
-abbrev Hands : Ran → (number written warned : ℕ) → Session → Type 0
-Hands r k o w s = (r .number ≡ k) × (r .written ≡ o) × (r .warned ≡ w) × (r .counts ≡ s .counts)
+-- ---- as the code has it: the last call, then what is handed out
+abbrev pub Hands : Ran → (number written warned : ℕ) → Counts → Type 0
+Hands r k o w t = (r .number ≡ k) × (r .written ≡ o) × (r .warned ≡ w) × (r .counts ≡ t)
 
-module _ (c : Config) (m text : List ℕ) (k : ℕ) (s : Session) (o w : ℕ) (out₀ out places₀ places : List ℕ) (v : Ended (configOf (c .kind) (c .timescale)) m text k s o w out₀ out places₀ places) where
-  plain : plainRead (c .kind) true text ≡ reading k (v .parts)
-  plain = over-plain (configOf (c .kind) (c .timescale)) m (v .opens) text k s (v .parts) (v .over)
+-- what is read of the text stands in the output and the places
+module _ (c : Config) (m text : List ℕ) (k : ℕ) (ps : List Part) (plain : plainRead (c .kind) true text ≡ reading k ps) where
+  abbrev own : Config
+  own = configOf (c .kind) (c .timescale)
 
-  parts-are : v .parts ≡ plainRead (c .kind) true text .parts
+  parts-are : ps ≡ plainRead (c .kind) true text .parts
   parts-are = sym (ap (λ (r : Reading). r .parts) plain)
 
-  ended-ran : (r : Ran) → Hands r k o w s → RanText c m text r out₀ out places₀ places
+  pub read-ran : (o w : ℕ) (out₀ out places₀ places : List ℕ) → Wrote own m ps o w out₀ out places₀ places → (t : Counts) → t ≡ countsOf (emitted own m ps)
+      → (r : Ran) → Hands r k o w t → RanText c m text r out₀ out places₀ places
   unfolding emitsFor
-  ended-ran r e =
-      let C = configOf (c .kind) (c .timescale) in
-      let W = v .wrote in
+  read-ran o w out₀ out places₀ places W t n r e =
       record {
         number = e .0 ∙ sym (ap (λ (x : Reading). x .fault) plain);
-        written = e .1 ∙ W .written ∙ ap (λ (ps : List Part). length (outputOf (emitted C m ps))) parts-are;
-        warned = e .2 ∙ W .warned ∙ ap (λ (ps : List Part). length (placesOf (warningsOf (emitted C m ps)))) parts-are;
-        counts = e .3 ∙ v .over .counts ∙ ap (λ (ps : List Part). countsOf (emitted C m ps)) parts-are;
-        output = W .text ∙ ap (λ (ps : List Part). put (outputOf (emitted C m ps)) out₀) parts-are;
-        warnings = W .warnings ∙ ap (λ (ps : List Part). put (placesOf (warningsOf (emitted C m ps))) places₀) parts-are;
+        written = e .1 ∙ W .written ∙ ap (λ (x : List Part). length (outputOf (emitted own m x))) parts-are;
+        warned = e .2 ∙ W .warned ∙ ap (λ (x : List Part). length (placesOf (warningsOf (emitted own m x)))) parts-are;
+        counts = e .3 ∙ n ∙ ap (λ (x : List Part). countsOf (emitted own m x)) parts-are;
+        output = W .text ∙ ap (λ (x : List Part). put (outputOf (emitted own m x)) out₀) parts-are;
+        warnings = W .warnings ∙ ap (λ (x : List Part). put (placesOf (warningsOf (emitted own m x))) places₀) parts-are;
       }
 
-module _ (b : Session) (m text : List ℕ) (i : ℕ) (s : Session) (o w : ℕ) (out₀ out places₀ places : List ℕ) (A : At (ownOf b) m text i s o w out₀ out places₀ places) where
-  pub text-fault : (e : ℕ) → e ≡ pieceEnd i (length text) → i < length text
-      → (f : Fed) (y z : List ℕ) → Answered s (feedCall m (take (e - i) (drop i text)) (length (lent o out)) (length (lent w places))) f (lent o out) y (lent w places) z
-      → (f .number ≡ 0 → ⊥) → (r : Ran) → Hands r (f .number) (o + f .written) (w + f .warned) (f .session)
-      → RanText (b .config) m text r out₀ (back o out y) places₀ (back w places z)
-  text-fault e p h f y z a n r q =
-      let E = end-of i (length text) e p h in
-      ended-ran (b .config) m text (f .number) (f .session) (o + f .written) (w + f .warned) out₀ (back o out y) places₀ (back w places z)
-      (at-fault (ownOf b) m text i s o w out₀ out places₀ places A e E f y z a n) r q
+ended-ran : (c : Config) (m text : List ℕ) (k : ℕ) (s : Session) (o w : ℕ) (out₀ out places₀ places : List ℕ)
+    → Ended (configOf (c .kind) (c .timescale)) m text k s o w out₀ out places₀ places → (r : Ran) → Hands r k o w (s .counts) → RanText c m text r out₀ out places₀ places
+ended-ran c m text k s o w out₀ out places₀ places v r e =
+    read-ran c m text k (v .parts) (over-plain (configOf (c .kind) (c .timescale)) m (v .opens) text k s (v .parts) (v .over)) o w out₀ out places₀ places (v .wrote) (s .counts) (v .over .counts) r e
 
+module _ (b : Session) (m text : List ℕ) (i : ℕ) (s : Session) (o w : ℕ) (out₀ out places₀ places : List ℕ) (A : At (ownOf b) m text i s o w out₀ out places₀ places) where
   pub text-end : (i < length text → ⊥) → (f : Fed) (y z : List ℕ) → Answered s (finishCall m (length (lent o out)) (length (lent w places))) f (lent o out) y (lent w places) z
-      → (r : Ran) → Hands r (f .number) (o + f .written) (w + f .warned) (f .session)
+      → (r : Ran) → Hands r (f .number) (o + f .written) (w + f .warned) (f .session .counts)
       → RanText (b .config) m text r out₀ (back o out y) places₀ (back w places z)
   text-end n f y z a r q =
       ended-ran (b .config) m text (f .number) (f .session) (o + f .written) (w + f .warned) out₀ (back o out y) places₀ (back w places z)

@@ -27,7 +27,7 @@ use Rattle.spec_session.specs.kinds.Kit.{kit}
 use Rattle.spec_session.specs.declared.session_state.Session.{Session}
 use Rattle.spec_session.specs.session_state.View.{stored}
 use Rattle.spec_session.specs.declared.session.Opened as opening
-use Rattle.spec_session.specs.session.Answer.{openOf, OpenAnswered}
+use Rattle.spec_session.specs.session.SessionCalls.{openOf, OpenAnswered}
 use Rattle.promise.specs.Plain.{plainRead}
 use Rattle.promise.specs.Promise.{configOf}
 use Rattle.spec_runs.specs.declared.one_call.Ran.{Ran}

@@ -23,7 +23,7 @@ use Rattle.spec_session.proofs.session_counts.Numbers.{Opened}
 use Rattle.spec_session.specs.kinds.Kit.{kit}
 use Rattle.spec_session.specs.declared.session_state.Session.{Session}
 use Rattle.spec_session.specs.session_state.View.{view}
-use Rattle.spec_session.specs.session.Answer.{feedCall, finishCall, answerOf, nextOf}
+use Rattle.spec_session.specs.session.SessionCalls.{feedCall, finishCall, answerOf, nextOf}
 use Rattle.spec_parking.specs.parking.Parked.{parkedOf}
 use Rattle.spec_parking.proofs.parking.Kept.{parked-again}
 use Rattle.promise.specs.Demand.{Demand}

@@ -25,7 +25,7 @@ use Rattle.spec_session.specs.kinds.Takes.{State, machineOf}
 use Rattle.spec_session.specs.kinds.Kit.{kit, said}
 use Rattle.spec_session.proofs.kinds.KindLaws.{lawful}
 use Rattle.spec_session.specs.session.Stand.{partsIn}
-use Rattle.spec_session.specs.session.Answer.{gateNumber}
+use Rattle.spec_session.specs.session.SessionCalls.{gateNumber}
 use Rattle.spec_session.proofs.session.CallLaws.{gate-passed}
 use Rattle.promise.specs.Plain.{plainRead}
 use Rattle.promise.specs.Demand.{saidIn}

@@ -16,7 +16,7 @@ use Rattle.spec_session.specs.kinds.Kit.{kit}
 use Rattle.spec_session.specs.declared.session_state.Session.{Session}
 use Rattle.spec_session.specs.session_state.View.{heldOf, view, padded, stored}
 use Rattle.spec_session.proofs.session_state.ViewLaws.{held-padded}
-use Rattle.spec_session.specs.session.Answer.{sessionGate, nextBy, nextOf}
+use Rattle.spec_session.specs.session.SessionCalls.{sessionGate, nextBy, nextOf}
 use Rattle.spec_parking.specs.parked_blocks.Sealed.{filled}
 use Rattle.spec_parking.specs.parking.Parked.{keptBytes, remembered}
 use Rattle.promise.proofs.RunLaws.{Whole, next-small, next-is}

@@ -13,7 +13,7 @@ use Rattle.spec_session.specs.kinds.Kit.{kit}
 use Rattle.spec_session.specs.declared.session_state.Session.{Session}
 use Rattle.spec_session.specs.session_state.View.{view, stored}
 use Rattle.spec_session.specs.declared.session.Opened as calling
-use Rattle.spec_session.specs.session.Answer.{OpenAnswered}
+use Rattle.spec_session.specs.session.SessionCalls.{OpenAnswered}
 use Rattle.promise.specs.Demand.{Demand}
 use Rattle.promise.specs.Promise.{configOf}
 use Rattle.promise.specs.Runs.{Made, callsOf, Ran, outcome}

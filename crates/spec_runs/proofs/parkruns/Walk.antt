@@ -22,11 +22,11 @@ use Rattle.spec_session.proofs.kinds.KindLaws.{lawful}
 use Rattle.spec_session.specs.declared.session_state.Session.{Session}
 use Rattle.spec_session.specs.session_state.View.{view, stored, foreignOf}
 use Rattle.spec_session.proofs.session_state.ViewLaws.{foreign-view}
-use Rattle.spec_session.specs.session.Answer.{nextOf}
+use Rattle.spec_session.specs.session.SessionCalls.{nextOf}
 use Rattle.spec_parking.specs.declared.parking.TakenUp.{TakenUp}
 use Rattle.spec_parking.specs.parked_blocks.Sealed.{sealedLength}
 use Rattle.spec_parking.specs.parking.Parked.{parkedOf, sessionIn}
-use Rattle.spec_parking.specs.parking.Answer.{parkNumber, whenDone, Parks, TakesUp, Kept}
+use Rattle.spec_parking.specs.parking.Parkings.{parkNumber, whenDone, Parks, TakesUp, Kept}
 use Rattle.spec_parking.proofs.parking.Kept.{parked-again, parked-length}
 use Rattle.promise.specs.Runs.{Made, callsOf, Met, Ran, writtenBy, warnedBy, outcome}
 use Rattle.promise.proofs.RunLaws.{Whole, next-whole, next-view}

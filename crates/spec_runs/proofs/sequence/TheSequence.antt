@@ -22,7 +22,7 @@ use Rattle.spec_session.specs.session_counts.Session.{openSession}
 use Rattle.spec_session.proofs.session_counts.Numbers.{opened}
 use Rattle.spec_session.specs.kinds.Kit.{kit}
 use Rattle.spec_session.specs.declared.session.Opened.{Opened}
-use Rattle.spec_session.specs.session.Answer.{OpenAnswered, openOf}
+use Rattle.spec_session.specs.session.SessionCalls.{OpenAnswered, openOf}
 use Rattle.promise.specs.Demand.{saidIn}
 use Rattle.promise.specs.Runs.{callsOf}
 use Rattle.promise.specs.Promise.{configOf}

@@ -12,8 +12,8 @@ use Rattle.spec_base.specs.base.Put.{put}
 use Rattle.spec_text.specs.text.Line.{linesOf, concat, textOf}
 use Rattle.spec_caption.specs.caption_time.Kind.{kindBad}
 use Rattle.spec_caption.specs.caption_fate.Says.{reasonNumber, Cue, Part, stays, passes, cue, captionsIn}
-use Rattle.spec_caption.specs.caption_fate.Mark.{behindMark}
-use Rattle.promise.specs.Plain.{markLength, plainRead}
+use Rattle.spec_caption.specs.caption_fate.Bom.{behindBom}
+use Rattle.promise.specs.Plain.{bomLength, plainRead}
 use Rattle.spec_runs.specs.caption_rows.Said.{wordsLength}
 use Rattle.spec_runs.specs.caption_rows.Walk.{walkOf}
 
@@ -32,12 +32,12 @@ lineOf (suc (suc n)) (l ∷ ls) = lineOf (suc n) ls
 
 -- the byte of the text at which a line begins
 abbrev pub lineAt : (text : List ℕ) → (line : ℕ) → ℕ
-lineAt t n = markLength t + length (concat (linesBefore n (linesOf (behindMark t))))
+lineAt t n = bomLength t + length (concat (linesBefore n (linesOf (behindBom t))))
 
 -- ---- where the words of a caption stand: in ASS at the end of its line, before the terminator; in SRT and WebVTT from the line behind the timing line on
 unfoldable pub wordsAt : (kind : ℕ) → (text : List ℕ) → Cue → ℕ
 wordsAt kind t q =
-    cond (eqb kind 0) (lineAt t (q .line) + (length (textOf (lineOf (q .line) (linesOf (behindMark t)))) - wordsLength kind q)) (lineAt t (suc (q .line)))
+    cond (eqb kind 0) (lineAt t (q .line) + (length (textOf (lineOf (q .line) (linesOf (behindBom t)))) - wordsLength kind q)) (lineAt t (suc (q .line)))
 
 -- ---- a row: line; 0, or warning 1 or 2 with which the caption passes; start, end; where the words stand and how many bytes they are. One that passes has
 -- no times, and its whole line as words

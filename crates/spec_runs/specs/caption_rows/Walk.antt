@@ -9,13 +9,13 @@ use lib.ListN.{length, take, drop}
 use Rattle.spec_base.specs.base.Limits.{mostBlock}
 use Rattle.spec_base.specs.base.Put.{put}
 use Rattle.spec_text.specs.text.Line.{lineLength, linesOf, textOf}
-use Rattle.spec_caption.specs.caption_fate.Mark.{behindMark}
+use Rattle.spec_caption.specs.caption_fate.Bom.{behindBom}
 use Rattle.spec_format.specs.declared.ass_columns.Columns.{Columns}
 use Rattle.spec_format.specs.ass_columns.Columns.{noColumns}
 use Rattle.spec_format.specs.ass_line.Line.{lineSays}
-use Rattle.spec_format.specs.ass_line.Answer.{columnsAfter}
+use Rattle.spec_format.specs.ass_line.AssThrough.{columnsAfter}
 use Rattle.spec_format.specs.block_timing.Style.{blankIn}
-use Rattle.promise.specs.Plain.{markLength, lineFault, headFault}
+use Rattle.promise.specs.Plain.{bomLength, lineFault, headFault}
 use Rattle.spec_runs.specs.declared.caption_rows.Said.{Said}
 use Rattle.spec_runs.specs.declared.caption_rows.Walked.{Walked}
 use Rattle.spec_runs.specs.caption_rows.Said.{atFault, quiet, lineSaid, blockSaid}
@@ -88,7 +88,7 @@ unfoldable pub walkBehind : (kind x : ℕ) → List (List ℕ) → Walk
 walkBehind kind x ls = cond (eqb kind 0) (assWalk x noColumns 0 x ls) (cond (eqb kind 2) (vttWalk x x ls) (blockWalk kind x x 0 [] 0 ls))
 
 unfoldable pub walkOf : (kind : ℕ) → (text : List ℕ) → Walk
-walkOf kind text = walkBehind kind (markLength text) (linesOf (behindMark text))
+walkOf kind text = walkBehind kind (bomLength text) (linesOf (behindBom text))
 
 -- ---- parts of a text: the line that begins at byte i, and the bytes from f to i
 abbrev pub lineFrom : (i : ℕ) → List ℕ → List ℕ

@@ -9,7 +9,7 @@ use lib.Dec.{eqb}
 use lib.ListN.{take, drop}
 use Rattle.spec_text.specs.text.Line.{linesOf, concat, lineCount}
 use Rattle.spec_caption.specs.caption_time.Kind.{kindBad}
-use Rattle.spec_caption.specs.caption_fate.Mark.{bom, marked, behindMark}
+use Rattle.spec_caption.specs.caption_fate.Bom.{bom, startsBom, behindBom}
 use Rattle.spec_format.specs.block_timing.Style.{blankIn}
 use Rattle.promise.specs.Plain.{plainRead}
 use Rattle.promise.specs.Whole.{endsBlank}
@@ -17,7 +17,7 @@ use Rattle.spec_runs.specs.caption_rows.Walk.{walkOf}
 
 -- the first n lines, behind the BOM
 abbrev pub firstLines : (n : ℕ) → (text : List ℕ) → List ℕ
-firstLines n t = cond (marked t) bom [] ++ concat (take n (linesOf (behindMark t)))
+firstLines n t = cond (startsBom t) bom [] ++ concat (take n (linesOf (behindBom t)))
 
 -- the fault of a whole text (0: none)
 abbrev pub textFault : (kind : ℕ) → (text : List ℕ) → ℕ
@@ -28,7 +28,7 @@ pub record LeastLines (kind : ℕ) (text : List ℕ) (n : ℕ) : Type 0 where
   pub some : 1 ≤ n
   pub same : textFault kind (firstLines n text) ≡ textFault kind text
   pub least : (m : ℕ) → 1 ≤ m → m < n → textFault kind (firstLines m text) ≡ textFault kind text → ⊥
-  pub within : (n ≤ 1) ⊎ (n ≤ lineCount (linesOf (behindMark text)))
+  pub within : (n ≤ 1) ⊎ (n ≤ lineCount (linesOf (behindBom text)))
 
 -- ---- 21: a block
 abbrev pub noneBlank : (kind : ℕ) → List (List ℕ) → Bool
@@ -55,7 +55,7 @@ pub record OneBlock (kind : ℕ) (lines : List (List ℕ)) (first last : ℕ) : 
 pub record LongBlock (kind : ℕ) (text : List ℕ) (line : ℕ) : Type 0 where
   pub last : ℕ
   pub least : LeastLines kind text last
-  pub block : OneBlock kind (linesOf (behindMark text)) line last
+  pub block : OneBlock kind (linesOf (behindBom text)) line last
 
 -- ---- the line that is told: 0 where there is no fault
 pub record FaultLine (kind : ℕ) (text : List ℕ) (line : ℕ) : Type 0 where

@@ -9,14 +9,14 @@ use lib.Dec.{eqb}
 use lib.ListN.{length, take, drop}
 use Rattle.spec_text.specs.text.Line.{linesOf, concat, lineCount, textOf}
 use Rattle.spec_caption.specs.caption_time.Kind.{kindBad}
-use Rattle.spec_caption.specs.caption_fate.Mark.{behindMark}
+use Rattle.spec_caption.specs.caption_fate.Bom.{behindBom}
 use Rattle.spec_format.specs.declared.ass_columns.Columns.{Columns}
 use Rattle.spec_format.specs.ass_columns.Columns.{fields, fieldAt, noColumns}
 use Rattle.spec_format.specs.ass_line.Line.{dialogueWord, commentWord}
 use Rattle.spec_format.specs.block_timing.Style.{blankIn}
 use Rattle.spec_format.specs.block_timing.Arrow.{timed, timingOf}
 use Rattle.spec_format.specs.whole.Ass.{columnsBehind}
-use Rattle.promise.specs.Plain.{markLength, plainRead}
+use Rattle.promise.specs.Plain.{bomLength, plainRead}
 use Rattle.promise.specs.Whole.{endsBlank}
 use Rattle.spec_runs.specs.caption_rows.Cues.{rowsOf}
 use Rattle.spec_runs.specs.cueplaces.FaultLine.{noneBlank, headLines}
@@ -31,7 +31,7 @@ bytesAt i k t = take k (drop i t)
 
 -- the byte at which what stands behind some lines of a text begins
 abbrev pub byteBehind : (text : List ℕ) → (before : List (List ℕ)) → ℕ
-byteBehind t before = markLength t + length (concat before)
+byteBehind t before = bomLength t + length (concat before)
 
 -- ---- ASS
 -- the last field; nothing where that column is a time's
@@ -57,7 +57,7 @@ pub record LineRow (text : List ℕ) (n warned i k : ℕ) : Type 0 where
   pub before : List (List ℕ)
   pub line : List ℕ
   pub behind : List (List ℕ)
-  pub cut : linesOf (behindMark text) ≡ before ++ (line ∷ behind)
+  pub cut : linesOf (behindBom text) ≡ before ++ (line ∷ behind)
   pub number : n ≡ suc (lineCount before)
   pub from : byteBehind text before ≤ i
   pub to : i + k ≤ byteBehind text before + length (textOf line)
@@ -74,7 +74,7 @@ pub record BlockRow (kind : ℕ) (text : List ℕ) (n warned i k : ℕ) : Type 0
   pub timing : List ℕ
   pub below : List (List ℕ)
   pub behind : List (List ℕ)
-  pub cut : linesOf (behindMark text) ≡ before ++ ((above ++ (timing ∷ below)) ++ behind)
+  pub cut : linesOf (behindBom text) ≡ before ++ ((above ++ (timing ∷ below)) ++ behind)
   pub filled : noneBlank kind (above ++ (timing ∷ below)) ≡ true
   pub opens : endsBlank kind (drop (headLines kind) before) ≡ true
   pub closes : blankNext kind behind ≡ true

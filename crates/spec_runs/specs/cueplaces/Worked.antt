@@ -4,7 +4,7 @@ use mathlib.Core.List.{List, [], _∷_, _++_}
 use Prim.Native.Nat.{ℕ}
 use lib.ListN.{length}
 use Rattle.spec_base.specs.base.Ascii.{ascii}
-use Rattle.spec_caption.specs.caption_fate.Mark.{bom}
+use Rattle.spec_caption.specs.caption_fate.Bom.{bom}
 use Rattle.spec_runs.specs.caption_rows.Cues.{cuesNumber, cuesTold}
 use Rattle.spec_runs.specs.cueplaces.Rows.{rowsIn}
 

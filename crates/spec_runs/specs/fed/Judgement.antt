@@ -11,7 +11,7 @@ use Rattle.spec_caption.specs.caption_fate.Emit.{decided, emitOf}
 use Rattle.spec_ask.specs.ask_rough.Rough.{roughOf, JudgedAs}
 use Rattle.spec_session.specs.session_counts.Calls.{Proper}
 use Rattle.spec_session.specs.declared.session.Opened.{Opened}
-use Rattle.spec_session.specs.session.Answer.{OpenAnswered}
+use Rattle.spec_session.specs.session.SessionCalls.{OpenAnswered}
 use Rattle.promise.specs.Demand.{ticks, saidIn, Demand}
 use Rattle.promise.specs.Runs.{Made, callsOf, Ran, outcome}
 use Rattle.promise.specs.Promise.{configOf}

@@ -15,7 +15,7 @@ use Rattle.spec_session.specs.session_counts.Calls.{Proper}
 use Rattle.spec_parking.specs.parked_blocks.Sealed.{sealedLength}
 use Rattle.promise.specs.Demand.{Demand}
 use Rattle.promise.specs.Promise.{configOf}
-use Rattle.spec_parking.specs.session_bytes.Answer.{openNumber, openBytes}
+use Rattle.spec_parking.specs.session_bytes.ByteCalls.{openNumber, openBytes}
 use Rattle.spec_runs.specs.keptruns.Kept.{KeptCall, keptCalls, KeptRan, keptOutcome}
 
 -- the bytes that a caller hands to the first call

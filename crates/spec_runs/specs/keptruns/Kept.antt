@@ -10,10 +10,10 @@ use Rattle.spec_format.specs.declared.ass_columns.Columns.{Columns}
 use Rattle.spec_session.specs.session_counts.Session.{Call}
 use Rattle.spec_session.specs.session_counts.Calls.{Played}
 use Rattle.spec_session.specs.session_state.View.{view}
-use Rattle.spec_session.specs.session.Answer.{feedCall, finishCall}
+use Rattle.spec_session.specs.session.SessionCalls.{feedCall, finishCall}
 use Rattle.spec_parking.specs.parking.Parked.{sessionIn}
 use Rattle.promise.specs.Runs.{warningsIn}
-use Rattle.spec_parking.specs.session_bytes.Answer.{refuses, callNumber, bytesAfter, textOut, placesIn, toldIn}
+use Rattle.spec_parking.specs.session_bytes.ByteCalls.{refuses, callNumber, bytesAfter, textOut, placesIn, toldIn}
 
 -- what a call left: its number, and what stood afterwards in the session's bytes, the output, the places and the two told numbers
 pub record Left : Type 0 where

@@ -11,8 +11,9 @@ use Rattle.spec_caption.specs.caption_fate.Emit.{outputOf, warningsOf, placesOf
 use Rattle.spec_caption.specs.declared.caption_fate.Config.{Config}
 use Rattle.spec_session.specs.session_counts.Counts.{countsOf}
 use Rattle.spec_session.specs.declared.session_state.Session.{Session}
+use Rattle.spec_session.specs.declared.session_state.Head.{Head}
 use Rattle.spec_session.specs.session_state.View.{stored}
-use Rattle.spec_session.specs.session.Answer.{openOf}
+use Rattle.spec_session.specs.session.SessionCalls.{openOf}
 use Rattle.promise.specs.Plain.{plainRead}
 use Rattle.spec_runs.specs.declared.one_call.Ran.{Ran}
 use Rattle.spec_runs.specs.one_call.Text.{outputFor, placesFor, emitsFor}
@@ -28,6 +29,20 @@ pub record Ready (s : Session) (map : List ℕ) (n out places : ℕ) : Type 0 wh
   pub short : n ≤ mostTaken
   pub output : outputFor n ≤ out
   pub placed : placesFor n ≤ places
+
+-- its numbers, with nothing held
+abbrev pub begunOf : Session → Head
+begunOf s =
+    record {
+      config = s .config;
+      ended = s .ended;
+      outcome = s .outcome;
+      taken = s .taken;
+      lines = s .lines;
+      counts = s .counts;
+      columns = s .columns;
+      «held_len» = 0;
+    }
 
 -- number, lengths, counts, output and places are the reader's
 pub record RanText (c : Config) (map text : List ℕ) (r : Ran) (out out′ places places′ : List ℕ) : Type 0 where

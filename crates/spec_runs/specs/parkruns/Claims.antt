@@ -14,10 +14,10 @@ use Rattle.spec_session.specs.session_counts.Counts.{countsOf}
 use Rattle.spec_session.specs.session_counts.Session.{emitted}
 use Rattle.spec_session.specs.session_counts.Calls.{Proper}
 use Rattle.spec_session.specs.declared.session.Opened.{Opened}
-use Rattle.spec_session.specs.session.Answer.{OpenAnswered}
+use Rattle.spec_session.specs.session.SessionCalls.{OpenAnswered}
 use Rattle.spec_parking.specs.declared.parking.TakenUp.{TakenUp}
 use Rattle.spec_parking.specs.parking.Parked.{parkedOf}
-use Rattle.spec_parking.specs.parking.Answer.{TakesUp}
+use Rattle.spec_parking.specs.parking.Parkings.{TakesUp}
 use Rattle.promise.specs.Demand.{heard, saidIn, Demand}
 use Rattle.promise.specs.Promise.{configOf}
 use Rattle.promise.specs.Runs.{Made, callsOf, Ran, outcome, lastOf}

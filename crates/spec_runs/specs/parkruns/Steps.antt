@@ -19,12 +19,12 @@ use Rattle.spec_session.specs.kinds.Kit.{kit}
 use Rattle.spec_session.specs.declared.session_state.Session.{Session}
 use Rattle.spec_session.specs.session_state.View.{view}
 use Rattle.spec_session.specs.declared.session.Fed.{Fed}
-use Rattle.spec_session.specs.session.Answer.{answerOf, nextOf}
+use Rattle.spec_session.specs.session.SessionCalls.{answerOf, nextOf}
 use Rattle.spec_session.specs.session.Stand.{partsIn}
 use Rattle.spec_parking.specs.declared.parking.TakenUp.{TakenUp}
 use Rattle.spec_parking.specs.parked_blocks.Sealed.{sealedLength}
 use Rattle.spec_parking.specs.parking.Parked.{parkedOf}
-use Rattle.spec_parking.specs.parking.Answer.{Parks, TakesUp, Mark}
+use Rattle.spec_parking.specs.parking.Parkings.{Parks, TakesUp, Mark}
 use Rattle.promise.specs.Runs.{Made, Lends, Met, writtenBy, warnedBy}
 
 -- ---- ours

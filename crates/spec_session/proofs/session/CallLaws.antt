@@ -43,7 +43,7 @@ use Rattle.spec_session.specs.declared.session.Going.{Going}
 use Rattle.spec_session.specs.session_lines.Done.{Ready, Below}
 use Rattle.spec_session.proofs.session_lines.LentLaws.{none-above}
 use Rattle.spec_session.specs.session.Stand.{Holds, Shows, Opening, resumeAt}
-use Rattle.spec_session.specs.session.Answer.{feedCall, finishCall, answerOf, sessionGate, gateNumber, lengthsBad, refusalOf, nextBy, nextOf, Answered, endedSession, unchangedFed, endedFed, heldFed, beginAt, OpenAnswered, openOf}
+use Rattle.spec_session.specs.session.SessionCalls.{feedCall, finishCall, answerOf, sessionGate, gateNumber, lengthsBad, refusalOf, nextBy, nextOf, Answered, endedSession, unchangedFed, endedFed, heldFed, beginAt, OpenAnswered, openOf}
 
 -- ---- the gate
 pub gate-passed : (f e m a : Bool) → gateNumber (gate f e m a) ≡ 0 → (f ≡ false) × (e ≡ false) × (m ≡ false) × (a ≡ false)

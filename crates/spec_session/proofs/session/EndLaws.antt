@@ -43,7 +43,7 @@ use Rattle.spec_session.proofs.kinds.KindRoom.{srt-some, block-end, vtt
 use Rattle.spec_session.proofs.kinds.Fits.{places-two, room-of}
 use Rattle.spec_session.specs.declared.session_lines.Ended.{Ended}
 use Rattle.spec_session.specs.declared.session.Going.{Going}
-use Rattle.spec_session.specs.session_lines.Answer.{textEnds, endIn, EndTells}
+use Rattle.spec_session.specs.session_lines.LinesThrough.{textEnds, endIn, EndTells}
 use Rattle.spec_session.specs.session_lines.Done.{Wrote, Ends, Ready, Parsed}
 use Rattle.spec_session.proofs.session_lines.TellLaws.{told-within}
 use Rattle.spec_session.proofs.session_lines.BomLaws.{put-under, bom-placed}

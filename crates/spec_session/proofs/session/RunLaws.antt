@@ -112,7 +112,7 @@ pub places-none : placesOf (warningsOf []) ≡ []
 unfolding placesOf warningsOf
 places-none = refl
 
-wrote-none : (c : Config) (m o w : List ℕ) → Wrote c m [] 0 0 o o w w
+pub wrote-none : (c : Config) (m o w : List ℕ) → Wrote c m [] 0 0 o o w w
 wrote-none c m o w =
     let e : outputOf (emitted c m []) ≡ [] = ap outputOf (emits-none c (segmentsOf m)) ∙ output-none in
     let f : placesOf (warningsOf (emitted c m [])) ≡ [] = ap (λ (es : List Emit). placesOf (warningsOf es)) (emits-none c (segmentsOf m)) ∙ places-none in

@@ -28,7 +28,7 @@ use Rattle.spec_session.specs.kinds.Takes.{State, machineOf}
 use Rattle.spec_session.proofs.kinds.KindLaws.{concat-snoc}
 use Rattle.spec_session.specs.declared.session_lines.Taken.{Taken}
 use Rattle.spec_session.specs.declared.session_lines.Ended.{Ended}
-use Rattle.spec_session.specs.session_lines.Answer.{PartsAnswer, takeIn, EndTells, endedBy, LineTells}
+use Rattle.spec_session.specs.session_lines.LinesThrough.{PartsAnswer, takeIn, EndTells, endedBy, LineTells}
 use Rattle.spec_session.proofs.session_lines.TellLaws.{told-within}
 use Rattle.spec_session.proofs.session_lines.DoneLaws.{take-done, take-skip}
 use Rattle.spec_session.specs.declared.session.Going.{Going}

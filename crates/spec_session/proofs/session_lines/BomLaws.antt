@@ -23,7 +23,7 @@ use Rattle.spec_session.specs.session_counts.Machine.{bom, hasBom, Says,
 use Rattle.spec_session.proofs.session_counts.OpenLines.{bom-length}
 use Rattle.spec_session.specs.kinds.Takes.{State, takes, machineOf}
 use Rattle.spec_session.specs.declared.session_lines.Taken.{Taken}
-use Rattle.spec_session.specs.session_lines.Answer.{strangeIn, emittedIn, lineRefusal, isOpen, takenIn, bomSize, EndTells, endedBy, LineTells}
+use Rattle.spec_session.specs.session_lines.LinesThrough.{strangeIn, emittedIn, lineRefusal, isOpen, takenIn, bomSize, EndTells, endedBy, LineTells}
 use Rattle.spec_session.specs.session_lines.Told.{behindLine}
 use Rattle.spec_session.proofs.session_lines.TellLaws.{told-within, fault-numbered, strange-stays, emits-stays}
 

@@ -20,12 +20,12 @@ use Rattle.spec_caption.specs.caption_fate.Told.{Answer, answered, partIn}
 use Rattle.spec_caption.proofs.caption_fate.FineLaws.{Set}
 use Rattle.spec_format.specs.declared.ass_columns.Columns.{Columns}
 use Rattle.spec_format.specs.ass_line.Line.{LineSays, lineSays, faulty as lineFaulty, says as lineSaid}
-use Rattle.spec_format.specs.ass_line.Answer.{lineAnswer, lineAnswerIn, lineIn}
+use Rattle.spec_format.specs.ass_line.AssThrough.{lineAnswer, lineAnswerIn, lineIn}
 use Rattle.spec_format.proofs.ass_line.LineFine.{line-fine}
 use Rattle.spec_format.specs.block_timing.Style.{styleOf}
 use Rattle.spec_format.specs.block_timing.Header.{isHeader, headerDue}
 use Rattle.spec_format.specs.block_cue.Block.{BlockSays, blockSays, faulty as blockFaulty, says as blockSaid}
-use Rattle.spec_format.specs.block_cue.Answer.{blockAnswer, blockAnswerIn, blockIn}
+use Rattle.spec_format.specs.block_cue.BlockThrough.{blockAnswer, blockAnswerIn, blockIn}
 use Rattle.spec_format.proofs.block_cue.FineBlock.{block-fine}
 use Rattle.spec_session.specs.declared.session_counts.Counts.{Counts}
 use Rattle.spec_session.specs.session_counts.Counts.{countAll}
@@ -35,7 +35,7 @@ use Rattle.spec_session.proofs.session_counts.OpenLines.{bom-length}
 use Rattle.spec_session.specs.kinds.Takes.{State, blankState, withBlock, ofLine, lineTakes, ofBlock, closes, adds, blockTakes, headTakes, takes, machineOf}
 use Rattle.spec_session.specs.declared.session_lines.Taken.{Taken}
 use Rattle.spec_session.specs.declared.session_lines.Ended.{Ended}
-use Rattle.spec_session.specs.session_lines.Answer.{strangeIn, emittedIn, partsRefusal, answerIn, lineRefusal, isOpen, takenIn, textEnds, endIn, stateOf, bomSize, takeIn, EndTells, endedBy, LineTells}
+use Rattle.spec_session.specs.session_lines.LinesThrough.{strangeIn, emittedIn, partsRefusal, answerIn, lineRefusal, isOpen, takenIn, textEnds, endIn, stateOf, bomSize, takeIn, EndTells, endedBy, LineTells}
 use Rattle.spec_session.specs.session_lines.Done.{Ready, Ample, Parsed, Wrote, Ends, Done}
 use Rattle.spec_session.proofs.session_lines.TellLaws.{fault-numbered, strange-rest, strange-none, added-open, due-empty}
 use Rattle.spec_session.proofs.session_lines.LentLaws.{lent-fine}

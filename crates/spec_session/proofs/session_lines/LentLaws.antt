@@ -20,7 +20,7 @@ use Rattle.spec_session.specs.session_counts.Session.{countsAbove}
 use Rattle.spec_session.specs.kinds.Takes.{blankState, closes, machineOf}
 use Rattle.spec_session.specs.declared.session_lines.Taken.{Taken}
 use Rattle.spec_session.specs.declared.session_lines.Ended.{Ended}
-use Rattle.spec_session.specs.session_lines.Answer.{answerIn, takenIn, mostCount, lentBad, endIn, stateOf, bomSize, takeIn, EndTells, LineTells}
+use Rattle.spec_session.specs.session_lines.LinesThrough.{answerIn, takenIn, mostCount, lentBad, endIn, stateOf, bomSize, takeIn, EndTells, LineTells}
 use Rattle.spec_session.specs.session_lines.Told.{quietLine, quietEnd}
 use Rattle.spec_session.specs.session_lines.Done.{Below, Ample}
 use Rattle.spec_session.proofs.session_lines.TellLaws.{end-refused, line-refused}

@@ -28,12 +28,12 @@ use Rattle.spec_caption.specs.caption_fate.Emit.{Emit, emit, Caption, none, dec
 use Rattle.spec_caption.specs.caption_fate.Told.{Answer, refusal, answered, cueIn, partIn, countedOf, Tells}
 use Rattle.spec_format.specs.declared.ass_columns.Columns.{Columns}
 use Rattle.spec_format.specs.ass_line.Line.{LineSays, lineSays, faulty as lineFaulty, says as lineSaid}
-use Rattle.spec_format.specs.ass_line.Answer.{lineAnswerIn, lineIn, columnsNext, columnsAfter}
+use Rattle.spec_format.specs.ass_line.AssThrough.{lineAnswerIn, lineIn, columnsNext, columnsAfter}
 use Rattle.spec_format.proofs.ass_line.LineFine.{columns-fine}
 use Rattle.spec_format.specs.block_timing.Style.{styleOf, blankIn}
 use Rattle.spec_format.specs.block_timing.Header.{isHeader, nothingYet, headerDue}
 use Rattle.spec_format.specs.block_cue.Block.{BlockSays, blockSays, faulty as blockFaulty, says as blockSaid}
-use Rattle.spec_format.specs.block_cue.Answer.{blockAnswerIn, blockIn}
+use Rattle.spec_format.specs.block_cue.BlockThrough.{blockAnswerIn, blockIn}
 use Rattle.spec_format.proofs.block_cue.Fits.{block-in-fits}
 use Rattle.spec_session.specs.declared.session_counts.Counts.{Counts}
 use Rattle.spec_session.specs.session_counts.Counts.{count, countAll}
@@ -43,7 +43,7 @@ use Rattle.spec_session.proofs.session_counts.Resume.{fault-number}
 use Rattle.spec_session.specs.kinds.Takes.{State, blankState, ofLine, lineTakes, ofBlock, closes, blockTakes, headTakes, takes}
 use Rattle.spec_session.specs.declared.session_lines.Taken.{Taken}
 use Rattle.spec_session.specs.declared.session_lines.Ended.{Ended}
-use Rattle.spec_session.specs.session_lines.Answer.{strangeIn, emittedIn, PartsAnswer, partsRefusal, answerIn, lineRefusal, isOpen, takenIn, stateOf, EndTells, LineTells}
+use Rattle.spec_session.specs.session_lines.LinesThrough.{strangeIn, emittedIn, PartsAnswer, partsRefusal, answerIn, lineRefusal, isOpen, takenIn, stateOf, EndTells, LineTells}
 use Rattle.spec_session.specs.session_lines.Told.{countBy, quietLine, quietEnd, blankLine}
 
 -- ---- one more caption

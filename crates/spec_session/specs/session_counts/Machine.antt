@@ -7,7 +7,7 @@ use lib.ListN.{length, drop}
 use Rattle.spec_base.specs.base.Limits.{mostLine}
 use Rattle.spec_text.specs.pattern.Find.{starts, equals}
 use Rattle.spec_caption.specs.caption_fate.Says.{Part, stays, Fault, faultNumber}
-pub use Rattle.spec_caption.specs.caption_fate.Mark.{bom}
+pub use Rattle.spec_caption.specs.caption_fate.Bom.{bom}
 
 -- ---- the byte order mark
 unfoldable pub hasBom : List ℕ → Bool

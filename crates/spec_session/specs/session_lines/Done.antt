@@ -17,7 +17,7 @@ use Rattle.spec_session.specs.session_counts.Counts.{countAll}
 use Rattle.spec_session.specs.session_counts.Machine.{Says, faulty, says}
 use Rattle.spec_session.specs.session_counts.Session.{emitted}
 use Rattle.spec_session.specs.kinds.Takes.{State}
-use Rattle.spec_session.specs.session_lines.Answer.{mostCount}
+use Rattle.spec_session.specs.session_lines.LinesThrough.{mostCount}
 use Rattle.spec_session.specs.declared.session_lines.Taken.{Taken}
 use Rattle.spec_session.specs.declared.session_lines.Ended.{Ended}
 

@@ -76,15 +76,15 @@ sum-fits d old h n =
     subst (λ (p : ℕ). old + p < 256) (sym (shifted d)) f
 
 module _ (w : List ℕ) (d : ℕ) where
-  pub mark-old : getD w (d / 8) 0 / 2 ^ (d % 8) % 2 ≡ 1 → (true ≡ bitOf w d) × (w ≡ withBit w d)
+  pub bit-old : getD w (d / 8) 0 / 2 ^ (d % 8) % 2 ≡ 1 → (true ≡ bitOf w d) × (w ≡ withBit w d)
   unfolding withBit bitOf
-  mark-old h =
+  bit-old h =
       let b : eqb (getD w (d / 8) 0 / 2 ^ (d % 8) % 2) 1 ≡ true = eq-eqb _ 1 h in
       (sym b, rw b)
 
-  pub mark-new : (getD w (d / 8) 0 / 2 ^ (d % 8) % 2 ≡ 1 → ⊥) → (false ≡ bitOf w d) × (set w (d / 8) (getD w (d / 8) 0 + 1 * 2 ^ (d % 8) % 256) ≡ withBit w d)
+  pub bit-new : (getD w (d / 8) 0 / 2 ^ (d % 8) % 2 ≡ 1 → ⊥) → (false ≡ bitOf w d) × (set w (d / 8) (getD w (d / 8) 0 + 1 * 2 ^ (d % 8) % 256) ≡ withBit w d)
   unfolding withBit bitOf
-  mark-new h =
+  bit-new h =
       let b : eqb (getD w (d / 8) 0 / 2 ^ (d % 8) % 2) 1 ≡ false = ne-eqb _ 1 h in
       (sym b, ap (λ (p : ℕ). set w (d / 8) (getD w (d / 8) 0 + p)) (shifted d) ∙ sym (rw b))
 
@@ -129,10 +129,10 @@ module _ (w : List ℕ) (d e : ℕ) (bytes : (j : ℕ) → getD w j 0 < 256) (ro
       go true p = set-near q n (eqb-true (e / 8) (d / 8) p)
       go false p = set-far (eqb-false (e / 8) (d / 8) p)
 
-  -- after the mark bit e is set where it was, and where it is d
-  pub marked-bit : bitOf (withBit w d) e ≡ cond (eqb e d) true (bitOf w e)
+  -- afterwards bit e is set where it was, and where it is d
+  pub bit-after : bitOf (withBit w d) e ≡ cond (eqb e d) true (bitOf w e)
   unfolding withBit
-  marked-bit = go (bitOf w d) refl (eqb e d) refl
+  bit-after = go (bitOf w d) refl (eqb e d) refl
     where
       go : (t : Bool) → bitOf w d ≡ t → (s : Bool) → eqb e d ≡ s → bitOf (cond t w after) e ≡ cond s true (bitOf w e)
       go true q true p = ap (bitOf w) (eqb-true e d p) ∙ q
@@ -141,9 +141,9 @@ module _ (w : List ℕ) (d e : ℕ) (bytes : (j : ℕ) → getD w j 0 < 256) (ro
       go false q false p = set-other q (eqb-false e d p)
 
 -- and they are still bytes
-pub marked-byte : (w : List ℕ) (d j : ℕ) → ((j : ℕ) → getD w j 0 < 256) → d / 8 < length w → getD (withBit w d) j 0 < 256
+pub byte-after : (w : List ℕ) (d j : ℕ) → ((j : ℕ) → getD w j 0 < 256) → d / 8 < length w → getD (withBit w d) j 0 < 256
 unfolding withBit
-marked-byte w d j bytes room = go (bitOf w d) refl (eqb j (d / 8)) refl
+byte-after w d j bytes room = go (bitOf w d) refl (eqb j (d / 8)) refl
   where
     v : ℕ
     v = getD w (d / 8) 0 + 2 ^ (d % 8)

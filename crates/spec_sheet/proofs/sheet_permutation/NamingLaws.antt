@@ -16,7 +16,7 @@ use Rattle.spec_base.specs.base.Refusal.{_orElse_, faultUnless, firstOf}
 use Rattle.spec_base.proofs.base.RefusalLaws.{unless-held, unless-failed, else-none, else-here, left-here, left-next}
 use Rattle.spec_sheet.specs.sheet_frames.Frames.{decodeOf}
 use Rattle.spec_sheet.specs.sheet_permutation.Once.{timesNamed, repeatFault, workBytes, onceNumber, workOnce, bitOf, withBit}
-use Rattle.spec_sheet.proofs.sheet_permutation.BitLaws.{marked-bit, marked-byte}
+use Rattle.spec_sheet.proofs.sheet_permutation.BitLaws.{bit-after, byte-after}
 
 -- the bits are the decode indices of the first i records
 pub record Seen (s : List ℕ) (i : ℕ) (bits : List ℕ) : Type 0 where
@@ -99,10 +99,10 @@ pub seen-more : (s bits₀ bits after : List ℕ) (n i d : ℕ) → d ≡ decode
 seen-more s bits₀ bits after n i d ed low room same ea seen =
     let r : d / 8 < length bits = omega arith in
     let m : (e : ℕ) → bitOf (withBit bits d) e ≡ not (eqb (timesNamed s (i + 1) e) 0) =
-    λ e. marked-bit bits d e (seen .bytes) r ∙ ap (λ (x : Bool). cond x true (bitOf bits e)) (eqb-turn e d)
+    λ e. bit-after bits d e (seen .bytes) r ∙ ap (λ (x : Bool). cond x true (bitOf bits e)) (eqb-turn e d)
     ∙ ap (λ (x : Bool). cond (eqb d e) true x) (seen .met e) ∙ sym (counted (timesNamed s i e) e d)
     ∙ ap (λ (x : ℕ). not (eqb (timesNamed s i e + cond (eqb x e) 1 0) 0)) ed ∙ sym (named e) in
-    record { bytes = λ j. subst (λ (x : List ℕ). getD x j 0 < 256) (sym ea) (marked-byte bits d j (seen .bytes) r); met = λ e. ap (λ (x : List ℕ). bitOf x e) ea ∙ m e }
+    record { bytes = λ j. subst (λ (x : List ℕ). getD x j 0 < 256) (sym ea) (byte-after bits d j (seen .bytes) r); met = λ e. ap (λ (x : List ℕ). bitOf x e) ea ∙ m e }
   where
     named : (e : ℕ) → not (eqb (timesNamed s (i + 1) e) 0) ≡ not (eqb (timesNamed s i e + cond (eqb (decodeOf s i) e) 1 0) 0)
     named e = ap (λ (k : ℕ). not (eqb (timesNamed s k e) 0)) (add-one i) ∙ named-suc s i e

@@ -58,7 +58,7 @@ ends-take (b ∷ l) (suc k) h i = go (eqb b 10) l h i (ends-take l k)
     go true (c ∷ l) q j ih = absurd (true≢false (sym q))
     go false l q j ih = ih q (omega arith)
 
-ends-last : (l : List ℕ) → endsLine l ≡ true → (0 < length l) × (lastOf l ≡ 10)
+pub ends-last : (l : List ℕ) → endsLine l ≡ true → (0 < length l) × (lastOf l ≡ 10)
 unfolding endsLine
 ends-last [] h = absurd (true≢false (sym h))
 ends-last (b ∷ l) h = (omega arith, go (eqb b 10) refl l h (ends-last l))

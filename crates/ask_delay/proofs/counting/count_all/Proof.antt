@@ -6,10 +6,10 @@ use Rattle.ask_delay.proofs.counting.count_all.Statement.{statement}
 use Rattle.ask_delay.proofs.counting.count_all.Tie as tie
 
 abbrev Inv-loop : tie.InvT-loop
-Inv-loop map timescale kind captions tries marks₀ losses₀ t₀ marks losses t = Tallying kind timescale map captions t tries marks losses
+Inv-loop map timescale kind captions tries grades₀ losses₀ t₀ grades losses t = Tallying kind timescale map captions t tries grades losses
 
 abbrev μ-loop : tie.MeasureT-loop
-μ-loop map timescale kind captions tries marks₀ losses₀ t₀ marks losses t = length t
+μ-loop map timescale kind captions tries grades₀ losses₀ t₀ grades losses t = length t
 
 loop-holds : tie.Need-loop-holds Inv-loop μ-loop
 loop-holds c = search tally-start

@@ -5,10 +5,10 @@ use Rattle.ask_delay.proofs.counting.count_one.Statement.{statement}
 use Rattle.ask_delay.proofs.counting.count_one.Tie as tie
 
 abbrev Inv-loop : tie.InvT-loop
-Inv-loop marks start stop tries losses₀ k₀ losses k = Counting marks start stop tries k losses₀ losses
+Inv-loop grades start stop tries losses₀ k₀ losses k = Counting grades start stop tries k losses₀ losses
 
 abbrev μ-loop : tie.MeasureT-loop
-μ-loop marks start stop tries losses₀ k₀ losses k = tries - k
+μ-loop grades start stop tries losses₀ k₀ losses k = tries - k
 
 loop-holds : tie.Need-loop-holds Inv-loop μ-loop
 loop-holds c = search count-start

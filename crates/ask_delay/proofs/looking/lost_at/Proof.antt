@@ -1,4 +1,4 @@
-use Rattle.spec_ask.proofs.ask_delay.NearLaws.{sum-fits, less-fits, lost-start, lost-end, lost-mark}
+use Rattle.spec_ask.proofs.ask_delay.NearLaws.{sum-fits, less-fits, lost-start, lost-end, lost-grade}
 use borrow.Author.Needs.{needs}
 use Rattle.ask_delay.proofs.looking.lost_at.Statement.{statement}
 use Rattle.ask_delay.proofs.looking.lost_at.Tie as tie
@@ -37,7 +37,7 @@ returns-2 : tie.Need-returns-2
 returns-2 c = search lost-end depth 12
 
 returns-3 : tie.Need-returns-3
-returns-3 c = search lost-mark depth 14
+returns-3 c = search lost-grade depth 14
 
 pub lost-at-spec : {M : Type 1} → statement M
 lost-at-spec =

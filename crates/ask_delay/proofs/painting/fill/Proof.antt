@@ -6,16 +6,16 @@ use Rattle.ask_delay.proofs.painting.fill.Statement.{statement}
 use Rattle.ask_delay.proofs.painting.fill.Tie as tie
 
 abbrev Inv-loop : tie.InvT-loop
-Inv-loop marks₀ lo hi v i₀ end marks i = Going lo end v i marks₀ marks × (end ≡ hi)
+Inv-loop grades₀ lo hi v i₀ end grades i = Going lo end v i grades₀ grades × (end ≡ hi)
 
 abbrev μ-loop : tie.MeasureT-loop
-μ-loop marks₀ lo hi v i₀ end marks i = end - i
+μ-loop grades₀ lo hi v i₀ end grades i = end - i
 
 loop-holds : tie.Need-loop-holds Inv-loop μ-loop
 loop-holds c = (search fill-start, refl)
 
-slice-write-marks : tie.Need-slice-write-marks Inv-loop μ-loop
-slice-write-marks c = search fill-index
+slice-write-grades : tie.Need-slice-write-grades Inv-loop μ-loop
+slice-write-grades c = search fill-index
 
 add-i : tie.Need-add-i Inv-loop μ-loop
 add-i c = search needs
@@ -39,7 +39,7 @@ fill-spec =
     Inv-loop
     μ-loop
     loop-holds
-    slice-write-marks
+    slice-write-grades
     add-i
     loop-less
     loop-again

@@ -11,10 +11,10 @@ use Rattle.ask_delay.proofs.painting.paint.Statement.{statement}
 use Rattle.ask_delay.proofs.painting.paint.Tie as tie
 
 abbrev Inv-loop : tie.InvT-loop
-Inv-loop map timescale kind start stop marks₀ i₀ marks i = Window (edgesOf timescale (unitsOf kind) (segmentsOf (drop (6 * i) map))) start stop marks × (6 * i ≤ length map)
+Inv-loop map timescale kind start stop grades₀ i₀ grades i = Window (edgesOf timescale (unitsOf kind) (segmentsOf (drop (6 * i) map))) start stop grades × (6 * i ≤ length map)
 
 abbrev μ-loop : tie.MeasureT-loop
-μ-loop map timescale kind start stop marks₀ i₀ marks i = i
+μ-loop map timescale kind start stop grades₀ i₀ grades i = i
 
 fill-requires : tie.Need-fill-requires Inv-loop μ-loop
 fill-requires c κs = search needs

@@ -1,7 +1,7 @@
 use mathlib.Core.Path.{refl}
 use lib.ListN.{length, drop}
 use Rattle.spec_text.specs.text.Line.{textOf}
-use Rattle.spec_map.specs.segment.Segment.{segmentsOf}
+use Rattle.spec_caption.specs.caption_fate.Grouped.{segmentsBy}
 use Rattle.spec_format.proofs.ass_line.SayLaws.{caption-start, caption-end, told-1, told-2, told-times, rest-is, parts-room}
 use borrow.Author.Needs.{needs}
 use Rattle.ass_line.proofs.caption.caption.Statement.{statement}
@@ -24,7 +24,7 @@ same-length-2 : tie.Need-same-length-2
 same-length-2 c = search needs
 
 returns : tie.Need-returns
-returns c = let a = c .before .before .before .before .before .before .before .before .before .before .before .before .before .before .args in told-1 (a .config) (segmentsOf (a .map .now)) (a .columns) (a .line) (a .text .now) (a .word .now) (drop (length (a .word .now)) (textOf (a .text .now))) _ _ _ _ _ (caption-start _ _ _ _ _ (c .before .before .before .before .before .before .before .if1 .taken)) (c .before .before .before .before .passing .ensures)
+returns c = let a = c .before .before .before .before .before .before .before .before .before .before .before .before .before .before .before .args in told-1 (a .config) (segmentsBy (a .groups .now) (a .map .now)) (a .columns) (a .line) (a .text .now) (a .word .now) (drop (length (a .word .now)) (textOf (a .text .now))) _ _ _ _ _ (caption-start _ _ _ _ _ (c .before .before .before .before .before .before .before .if1 .taken)) (c .before .before .before .before .passing .ensures)
 
 passing-requires-2 : tie.Need-passing-requires-2
 passing-requires-2 c κs = search needs
@@ -36,7 +36,7 @@ same-length-4 : tie.Need-same-length-4
 same-length-4 c = search needs
 
 returns-2 : tie.Need-returns-2
-returns-2 c = let a = c .before .before .before .before .before .before .before .before .before .before .before .before .before .before .before .before .args in told-1 (a .config) (segmentsOf (a .map .now)) (a .columns) (a .line) (a .text .now) (a .word .now) (drop (length (a .word .now)) (textOf (a .text .now))) _ _ _ _ _ (caption-end _ _ _ _ _ (c .before .before .before .before .before .before .before .before .before .if1 .left) (c .before .before .before .before .before .before .before .if2 .taken)) (c .before .before .before .before .passing2 .ensures)
+returns-2 c = let a = c .before .before .before .before .before .before .before .before .before .before .before .before .before .before .before .before .before .args in told-1 (a .config) (segmentsBy (a .groups .now) (a .map .now)) (a .columns) (a .line) (a .text .now) (a .word .now) (drop (length (a .word .now)) (textOf (a .text .now))) _ _ _ _ _ (caption-end _ _ _ _ _ (c .before .before .before .before .before .before .before .before .before .if1 .left) (c .before .before .before .before .before .before .before .if2 .taken)) (c .before .before .before .before .passing2 .ensures)
 
 text-of-requires : tie.Need-text-of-requires
 text-of-requires c κs = search needs
@@ -48,7 +48,7 @@ enough-requires : tie.Need-enough-requires
 enough-requires c κs = search needs
 
 timed-requires : tie.Need-timed-requires
-timed-requires c κs = let s = c .before .before .before .before .before .before .before .before .before .before .before .before .before .before .before in let a = s .args in (s .pre .0, (s .pre .1 .0, (s .pre .1 .1 .0, parts-room (a .text .now) _ (a .word .now) _ _ (c .before .before .before .before .before .text-of .ensures) refl (c .before .before .before .before .rest .ensures) (s .pre .1 .1 .1))))
+timed-requires c κs = let s = c .before .before .before .before .before .before .before .before .before .before .before .before .before .before .before .before in let a = s .args in (s .pre .0, (s .pre .1 .0, (s .pre .1 .1 .0, parts-room (a .text .now) _ (a .word .now) _ _ (c .before .before .before .before .before .text-of .ensures) refl (c .before .before .before .before .rest .ensures) (s .pre .1 .1 .1))))
 
 same-length-5 : tie.Need-same-length-5
 same-length-5 c = search needs
@@ -57,7 +57,7 @@ same-length-6 : tie.Need-same-length-6
 same-length-6 c = search needs
 
 returns-3 : tie.Need-returns-3
-returns-3 c = let a = c .before .before .before .before .before .before .before .before .before .before .before .before .before .before .before .before .before .before .before .before .args in told-times (a .config) (segmentsOf (a .map .now)) (a .columns) (a .line) (a .text .now) (a .word .now) (drop (length (a .word .now)) (textOf (a .text .now))) _ _ _ _ _ _ (rest-is (a .text .now) _ (a .word .now) _ (c .before .before .before .before .before .before .before .before .before .before .text-of .ensures) (c .before .before .before .before .before .before .before .before .before .rest .ensures)) _ (c .before .before .before .before .before .before .before .before .enough .ensures) (c .before .before .before .before .before .before .before .before .before .before .before .before .before .if1 .left) (c .before .before .before .before .before .before .before .before .before .before .before .if2 .left) (c .before .before .before .before .before .before .before .if3 .taken) (c .before .before .before .before .timed .ensures)
+returns-3 c = let a = c .before .before .before .before .before .before .before .before .before .before .before .before .before .before .before .before .before .before .before .before .before .args in told-times (a .config) (segmentsBy (a .groups .now) (a .map .now)) (a .columns) (a .line) (a .text .now) (a .word .now) (drop (length (a .word .now)) (textOf (a .text .now))) _ _ _ _ _ _ (rest-is (a .text .now) _ (a .word .now) _ (c .before .before .before .before .before .before .before .before .before .before .text-of .ensures) (c .before .before .before .before .before .before .before .before .before .rest .ensures)) _ (c .before .before .before .before .before .before .before .before .enough .ensures) (c .before .before .before .before .before .before .before .before .before .before .before .before .before .if1 .left) (c .before .before .before .before .before .before .before .before .before .before .before .if2 .left) (c .before .before .before .before .before .before .before .if3 .taken) (c .before .before .before .before .timed .ensures)
 
 passing-requires-3 : tie.Need-passing-requires-3
 passing-requires-3 c κs = search needs
@@ -69,7 +69,7 @@ same-length-8 : tie.Need-same-length-8
 same-length-8 c = search needs
 
 returns-4 : tie.Need-returns-4
-returns-4 c = let a = c .before .before .before .before .before .before .before .before .before .before .before .before .before .before .before .before .before .before .before .before .args in told-2 (a .config) (segmentsOf (a .map .now)) (a .columns) (a .line) (a .text .now) (a .word .now) (drop (length (a .word .now)) (textOf (a .text .now))) _ _ _ _ _ _ (rest-is (a .text .now) _ (a .word .now) _ (c .before .before .before .before .before .before .before .before .before .before .text-of .ensures) (c .before .before .before .before .before .before .before .before .before .rest .ensures)) _ (c .before .before .before .before .before .before .before .before .enough .ensures) (c .before .before .before .before .before .before .before .before .before .before .before .before .before .if1 .left) (c .before .before .before .before .before .before .before .before .before .before .before .if2 .left) (c .before .before .before .before .before .before .before .if3 .left) (c .before .before .before .before .passing3 .ensures)
+returns-4 c = let a = c .before .before .before .before .before .before .before .before .before .before .before .before .before .before .before .before .before .before .before .before .before .args in told-2 (a .config) (segmentsBy (a .groups .now) (a .map .now)) (a .columns) (a .line) (a .text .now) (a .word .now) (drop (length (a .word .now)) (textOf (a .text .now))) _ _ _ _ _ _ (rest-is (a .text .now) _ (a .word .now) _ (c .before .before .before .before .before .before .before .before .before .before .text-of .ensures) (c .before .before .before .before .before .before .before .before .before .rest .ensures)) _ (c .before .before .before .before .before .before .before .before .enough .ensures) (c .before .before .before .before .before .before .before .before .before .before .before .before .before .if1 .left) (c .before .before .before .before .before .before .before .before .before .before .before .if2 .left) (c .before .before .before .before .before .before .before .if3 .left) (c .before .before .before .before .passing3 .ensures)
 
 pub caption-spec : {M : Type 1} → statement M
 caption-spec =

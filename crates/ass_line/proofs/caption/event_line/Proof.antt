@@ -1,6 +1,6 @@
 use mathlib.Core.Path.{refl}
 use native.Mathlib.Omega.{arith}
-use Rattle.spec_map.specs.segment.Segment.{segmentsOf}
+use Rattle.spec_caption.specs.caption_fate.Grouped.{segmentsBy}
 use Rattle.spec_format.specs.ass_line.Line.{dialogueWord, commentWord}
 use Rattle.spec_format.proofs.ass_line.SayLaws.{word-1, word-2, word-3, word-4, word-room}
 use borrow.Author.Needs.{needs}
@@ -40,7 +40,7 @@ same-length : tie.Need-same-length
 same-length c = search needs
 
 returns : tie.Need-returns
-returns c = let a = c .before .before .before .before .before .before .before .before .before .before .before .before .before .before .before .args in word-1 (a .config) (segmentsOf (a .map .now)) (a .columns) (a .n) (a .text .now) _ (c .before .before .before .before .before .before .before .before .before .before .text-of .ensures) _ (c .before .before .before .before .before .before .before .before .starts-with .ensures) _ _ _ (a .warnings .now) _ _ _ (c .before .before .before .before .before .before .before .if1 .taken) refl (c .before .before .before .before .before .stayed .ensures) (c .before .before .rest .ensures) (c .before .columns-of .ensures .0)
+returns c = let a = c .before .before .before .before .before .before .before .before .before .before .before .before .before .before .before .before .args in word-1 (a .config) (segmentsBy (a .groups .now) (a .map .now)) (a .columns) (a .n) (a .text .now) _ (c .before .before .before .before .before .before .before .before .before .before .text-of .ensures) _ (c .before .before .before .before .before .before .before .before .starts-with .ensures) _ _ _ (a .warnings .now) _ _ _ (c .before .before .before .before .before .before .before .if1 .taken) refl (c .before .before .before .before .before .stayed .ensures) (c .before .before .rest .ensures) (c .before .columns-of .ensures .0)
 
 slice-aggregate-starts-with-2 : tie.Need-slice-aggregate-starts-with-2
 slice-aggregate-starts-with-2 c = search needs
@@ -52,7 +52,7 @@ slice-aggregate-caption : tie.Need-slice-aggregate-caption
 slice-aggregate-caption c = search needs
 
 caption-requires : tie.Need-caption-requires
-caption-requires c κs = let s = c .before .before .before .before .before .before .before .before .before .before .before .before .before .before in (s .pre .0, (s .pre .1, (omega arith, word-room (s .args .text .now) _ dialogueWord _ (c .before .before .before .before .before .before .before .before .before .text-of .ensures) (c .before .before .before .before .starts-with2 .ensures) (c .before .before .before .if2 .taken))))
+caption-requires c κs = let s = c .before .before .before .before .before .before .before .before .before .before .before .before .before .before .before in (s .pre .0, (s .pre .1, (omega arith, word-room (s .args .text .now) _ dialogueWord _ (c .before .before .before .before .before .before .before .before .before .text-of .ensures) (c .before .before .before .before .starts-with2 .ensures) (c .before .before .before .if2 .taken))))
 
 same-length-2 : tie.Need-same-length-2
 same-length-2 c = search needs
@@ -61,7 +61,7 @@ same-length-3 : tie.Need-same-length-3
 same-length-3 c = search needs
 
 returns-2 : tie.Need-returns-2
-returns-2 c = let a = c .before .before .before .before .before .before .before .before .before .before .before .before .before .before .before .before .before .before .before .args in word-2 (a .config) (segmentsOf (a .map .now)) (a .columns) (a .n) (a .text .now) _ (c .before .before .before .before .before .before .before .before .before .before .before .before .before .before .text-of .ensures) _ (c .before .before .before .before .before .before .before .before .before .before .before .before .starts-with .ensures) _ _ _ _ _ (c .before .before .before .before .before .before .before .before .before .before .before .if1 .left) _ (c .before .before .before .before .before .before .before .before .before .starts-with2 .ensures) _ (c .before .before .before .before .before .before .before .before .if2 .taken) refl (c .before .before .before .before .caption .ensures)
+returns-2 c = let a = c .before .before .before .before .before .before .before .before .before .before .before .before .before .before .before .before .before .before .before .before .args in word-2 (a .config) (segmentsBy (a .groups .now) (a .map .now)) (a .columns) (a .n) (a .text .now) _ (c .before .before .before .before .before .before .before .before .before .before .before .before .before .before .text-of .ensures) _ (c .before .before .before .before .before .before .before .before .before .before .before .before .starts-with .ensures) _ _ _ _ _ (c .before .before .before .before .before .before .before .before .before .before .before .if1 .left) _ (c .before .before .before .before .before .before .before .before .before .starts-with2 .ensures) _ (c .before .before .before .before .before .before .before .before .if2 .taken) refl (c .before .before .before .before .caption .ensures)
 
 slice-aggregate-starts-with-3 : tie.Need-slice-aggregate-starts-with-3
 slice-aggregate-starts-with-3 c = search needs
@@ -73,7 +73,7 @@ slice-aggregate-caption-2 : tie.Need-slice-aggregate-caption-2
 slice-aggregate-caption-2 c = search needs
 
 caption-requires-2 : tie.Need-caption-requires-2
-caption-requires-2 c κs = let s = c .before .before .before .before .before .before .before .before .before .before .before .before .before .before .before .before .before in (s .pre .0, (s .pre .1, (omega arith, word-room (s .args .text .now) _ commentWord _ (c .before .before .before .before .before .before .before .before .before .before .before .before .text-of .ensures) (c .before .before .before .before .starts-with3 .ensures) (c .before .before .before .if3 .taken))))
+caption-requires-2 c κs = let s = c .before .before .before .before .before .before .before .before .before .before .before .before .before .before .before .before .before .before in (s .pre .0, (s .pre .1, (omega arith, word-room (s .args .text .now) _ commentWord _ (c .before .before .before .before .before .before .before .before .before .before .before .before .text-of .ensures) (c .before .before .before .before .starts-with3 .ensures) (c .before .before .before .if3 .taken))))
 
 same-length-4 : tie.Need-same-length-4
 same-length-4 c = search needs
@@ -82,7 +82,7 @@ same-length-5 : tie.Need-same-length-5
 same-length-5 c = search needs
 
 returns-3 : tie.Need-returns-3
-returns-3 c = let a = c .before .before .before .before .before .before .before .before .before .before .before .before .before .before .before .before .before .before .before .before .before .before .args in word-3 (a .config) (segmentsOf (a .map .now)) (a .columns) (a .n) (a .text .now) _ (c .before .before .before .before .before .before .before .before .before .before .before .before .before .before .before .before .before .text-of .ensures) _ (c .before .before .before .before .before .before .before .before .before .before .before .before .before .before .before .starts-with .ensures) _ _ _ _ _ (c .before .before .before .before .before .before .before .before .before .before .before .before .before .before .if1 .left) _ (c .before .before .before .before .before .before .before .before .before .before .before .before .starts-with2 .ensures) (c .before .before .before .before .before .before .before .before .before .before .before .if2 .left) _ (c .before .before .before .before .before .before .before .before .before .starts-with3 .ensures) _ (c .before .before .before .before .before .before .before .before .if3 .taken) refl (c .before .before .before .before .caption2 .ensures)
+returns-3 c = let a = c .before .before .before .before .before .before .before .before .before .before .before .before .before .before .before .before .before .before .before .before .before .before .before .args in word-3 (a .config) (segmentsBy (a .groups .now) (a .map .now)) (a .columns) (a .n) (a .text .now) _ (c .before .before .before .before .before .before .before .before .before .before .before .before .before .before .before .before .before .text-of .ensures) _ (c .before .before .before .before .before .before .before .before .before .before .before .before .before .before .before .starts-with .ensures) _ _ _ _ _ (c .before .before .before .before .before .before .before .before .before .before .before .before .before .before .if1 .left) _ (c .before .before .before .before .before .before .before .before .before .before .before .before .starts-with2 .ensures) (c .before .before .before .before .before .before .before .before .before .before .before .if2 .left) _ (c .before .before .before .before .before .before .before .before .before .starts-with3 .ensures) _ (c .before .before .before .before .before .before .before .before .if3 .taken) refl (c .before .before .before .before .caption2 .ensures)
 
 stayed-requires-2 : tie.Need-stayed-requires-2
 stayed-requires-2 c κs = search needs
@@ -91,7 +91,7 @@ same-length-6 : tie.Need-same-length-6
 same-length-6 c = search needs
 
 returns-4 : tie.Need-returns-4
-returns-4 c = let a = c .before .before .before .before .before .before .before .before .before .before .before .before .before .before .before .before .before .before .args in word-4 (a .config) (segmentsOf (a .map .now)) (a .columns) (a .n) (a .text .now) _ (c .before .before .before .before .before .before .before .before .before .before .before .before .before .text-of .ensures) _ (c .before .before .before .before .before .before .before .before .before .before .before .starts-with .ensures) _ _ _ (a .warnings .now) _ (c .before .before .before .before .before .before .before .before .before .before .if1 .left) _ (c .before .before .before .before .before .before .before .before .starts-with2 .ensures) (c .before .before .before .before .before .before .before .if2 .left) _ (c .before .before .before .before .before .starts-with3 .ensures) (c .before .before .before .before .if3 .left) refl (c .before .before .stayed2 .ensures)
+returns-4 c = let a = c .before .before .before .before .before .before .before .before .before .before .before .before .before .before .before .before .before .before .before .args in word-4 (a .config) (segmentsBy (a .groups .now) (a .map .now)) (a .columns) (a .n) (a .text .now) _ (c .before .before .before .before .before .before .before .before .before .before .before .before .before .text-of .ensures) _ (c .before .before .before .before .before .before .before .before .before .before .before .starts-with .ensures) _ _ _ (a .warnings .now) _ (c .before .before .before .before .before .before .before .before .before .before .if1 .left) _ (c .before .before .before .before .before .before .before .before .starts-with2 .ensures) (c .before .before .before .before .before .before .before .if2 .left) _ (c .before .before .before .before .before .starts-with3 .ensures) (c .before .before .before .before .if3 .left) refl (c .before .before .stayed2 .ensures)
 
 pub event-line-spec : {M : Type 1} → statement M
 event-line-spec =

@@ -1,5 +1,7 @@
-use mathlib.Core.Path.{refl}
-use Rattle.spec_map.specs.segment.Segment.{segmentsOf}
+use mathlib.Core.Path.{refl, sym, ap, _∙_}
+use Rattle.spec_caption.specs.caption_fate.Grouped.{segmentsBy}
+use Rattle.spec_format.specs.ass_columns.Section.{bracketed}
+use Rattle.spec_format.proofs.ass_columns.SectionLaws.{trim-by}
 use Rattle.spec_format.proofs.ass_line.SayLaws.{line-short, line-few, line-section, line-events, line-other}
 use borrow.Author.Needs.{needs}
 use Rattle.ass_line.proofs.caption.line.Statement.{statement}
@@ -10,31 +12,35 @@ use Rattle.ass_line.proofs.caption.event_line.Reads as event-line-reads
 use Rattle.caption_fate.proofs.refused.Reads as refused-reads
 use Rattle.ass_line.proofs.caption.stayed.Reads as stayed-reads
 use Rattle.ass_columns.proofs.in_section.Reads as in-section-reads
-use Rattle.ass_columns.proofs.is_section.Reads as is-section-reads
+use Rattle.ass_line.proofs.caption.trims_to_section.Reads as trims-to-section-reads
 use Rattle.ass_columns.proofs.names_events.Reads as names-events-reads
 use Rattle.text.proofs.text_of.Reads as text-of-reads
-use Rattle.whitespace.proofs.trimmed.Reads as trimmed-reads
+use Rattle.whitespace.proofs.trim_head.Reads as trim-head-reads
+use Rattle.whitespace.proofs.trim_tail.Reads as trim-tail-reads
 
 refused-requires : tie.Need-refused-requires
 refused-requires c κs = search needs
 
 returns : tie.Need-returns
-returns c = let a = c .before .before .before .before .before .before .args in line-short (a .config) (segmentsOf (a .map .now)) (a .columns) (a .n) (a .text .now) _ (a .out .now) _ (a .warnings .now) _ (c .before .if1 .taken) refl refl (c .refused .ensures)
+returns c = let a = c .before .before .before .before .before .before .before .args in line-short (a .config) (segmentsBy (a .groups .now) (a .map .now)) (a .columns) (a .n) (a .text .now) _ (a .out .now) _ (a .warnings .now) _ (c .before .if1 .taken) refl refl (c .refused .ensures)
 
 refused-requires-2 : tie.Need-refused-requires-2
 refused-requires-2 c κs = search needs
 
 returns-2 : tie.Need-returns-2
-returns-2 c = let a = c .before .before .before .before .before .before .before .args in line-few (a .config) (segmentsOf (a .map .now)) (a .columns) (a .n) (a .text .now) _ (a .out .now) _ (a .warnings .now) _ (c .before .before .if1 .left) (c .before .if2 .taken) refl refl (c .refused2 .ensures)
+returns-2 c = let a = c .before .before .before .before .before .before .before .before .args in line-few (a .config) (segmentsBy (a .groups .now) (a .map .now)) (a .columns) (a .n) (a .text .now) _ (a .out .now) _ (a .warnings .now) _ (c .before .before .if1 .left) (c .before .if2 .taken) refl refl (c .refused2 .ensures)
 
 text-of-requires : tie.Need-text-of-requires
 text-of-requires c κs = search needs
 
-trimmed-requires : tie.Need-trimmed-requires
-trimmed-requires c κs = search needs
+trim-head-requires : tie.Need-trim-head-requires
+trim-head-requires c κs = search needs
 
-is-section-requires : tie.Need-is-section-requires
-is-section-requires c κs = search needs
+trims-to-section-requires : tie.Need-trims-to-section-requires
+trims-to-section-requires c κs = search needs
+
+trim-tail-requires : tie.Need-trim-tail-requires
+trim-tail-requires c κs = search needs
 
 names-events-requires : tie.Need-names-events-requires
 names-events-requires c κs = search needs
@@ -49,7 +55,7 @@ same-length : tie.Need-same-length
 same-length c = search needs
 
 returns-3 : tie.Need-returns-3
-returns-3 c = let a = c .before .before .before .before .before .before .before .before .before .before .before .before .before .before .before .before .args in line-section (a .config) (segmentsOf (a .map .now)) (a .columns) (a .n) (a .text .now) _ (a .out .now) _ (a .warnings .now) _ (c .before .before .before .before .before .before .before .before .before .before .before .if1 .left) (c .before .before .before .before .before .before .before .before .before .before .if2 .left) _ _ _ (c .before .before .before .before .before .before .before .before .before .text-of .ensures) (c .before .before .before .before .before .before .before .before .trimmed .ensures) (c .before .before .before .before .before .before .before .is-section .ensures) _ _ (c .before .before .before .before .before .before .if3 .taken) (c .before .before .before .before .before .names-events .ensures) (c .before .before .before .before .in-section .ensures) refl (c .before .before .stayed .ensures)
+returns-3 c = let a = c .before .before .before .before .before .before .before .before .before .before .before .before .before .before .before .before .before .before .args in line-section (a .config) (segmentsBy (a .groups .now) (a .map .now)) (a .columns) (a .n) (a .text .now) _ (a .out .now) _ (a .warnings .now) _ (c .before .before .before .before .before .before .before .before .before .before .before .before .if1 .left) (c .before .before .before .before .before .before .before .before .before .before .before .if2 .left) _ _ _ (c .before .before .before .before .before .before .before .before .before .before .text-of .ensures) (trim-by _ _ _ (c .before .before .before .before .before .before .before .before .before .trim-head .ensures) (c .before .before .before .before .before .before .trim-tail .ensures)) (c .before .before .before .before .before .before .before .before .trims-to-section .ensures ∙ ap bracketed (sym (c .before .before .before .before .before .before .trim-tail .ensures))) _ _ (c .before .before .before .before .before .before .before .if3 .taken) (c .before .before .before .before .before .names-events .ensures) (c .before .before .before .before .in-section .ensures) refl (c .before .before .stayed .ensures)
 
 event-line-requires : tie.Need-event-line-requires
 event-line-requires c κs = search needs
@@ -61,7 +67,7 @@ same-length-3 : tie.Need-same-length-3
 same-length-3 c = search needs
 
 returns-4 : tie.Need-returns-4
-returns-4 c = let a = c .before .before .before .before .before .before .before .before .before .before .before .before .before .before .before .before .before .before .args in line-events (a .config) (segmentsOf (a .map .now)) (a .columns) (a .n) (a .text .now) _ (a .out .now) _ (a .warnings .now) _ (c .before .before .before .before .before .before .before .before .before .before .before .before .before .if1 .left) (c .before .before .before .before .before .before .before .before .before .before .before .before .if2 .left) _ _ _ (c .before .before .before .before .before .before .before .before .before .before .before .text-of .ensures) (c .before .before .before .before .before .before .before .before .before .before .trimmed .ensures) (c .before .before .before .before .before .before .before .before .before .is-section .ensures) (c .before .before .before .before .before .before .before .before .if3 .left) _ (c .before .before .before .before .before .before .before .if4 .taken) (c .before .before .before .before .event-line .ensures)
+returns-4 c = let a = c .before .before .before .before .before .before .before .before .before .before .before .before .before .before .before .before .before .before .before .args in line-events (a .config) (segmentsBy (a .groups .now) (a .map .now)) (a .columns) (a .n) (a .text .now) _ (a .out .now) _ (a .warnings .now) _ (c .before .before .before .before .before .before .before .before .before .before .before .before .before .if1 .left) (c .before .before .before .before .before .before .before .before .before .before .before .before .if2 .left) _ _ _ (c .before .before .before .before .before .before .before .before .before .before .before .text-of .ensures) (trim-by _ _ _ (c .before .before .before .before .before .before .before .before .before .before .trim-head .ensures) refl) (c .before .before .before .before .before .before .before .before .before .trims-to-section .ensures) (c .before .before .before .before .before .before .before .before .if3 .left) _ (c .before .before .before .before .before .before .before .if4 .taken) (c .before .before .before .before .event-line .ensures)
 
 stayed-requires-2 : tie.Need-stayed-requires-2
 stayed-requires-2 c κs = search needs
@@ -70,7 +76,7 @@ same-length-4 : tie.Need-same-length-4
 same-length-4 c = search needs
 
 returns-5 : tie.Need-returns-5
-returns-5 c = let a = c .before .before .before .before .before .before .before .before .before .before .before .before .before .before .before .args in line-other (a .config) (segmentsOf (a .map .now)) (a .columns) (a .n) (a .text .now) _ (a .out .now) _ (a .warnings .now) _ (c .before .before .before .before .before .before .before .before .before .before .if1 .left) (c .before .before .before .before .before .before .before .before .before .if2 .left) _ _ _ (c .before .before .before .before .before .before .before .before .text-of .ensures) (c .before .before .before .before .before .before .before .trimmed .ensures) (c .before .before .before .before .before .before .is-section .ensures) (c .before .before .before .before .before .if3 .left) (c .before .before .before .before .if4 .left) refl (c .before .before .stayed2 .ensures)
+returns-5 c = let a = c .before .before .before .before .before .before .before .before .before .before .before .before .before .before .before .before .args in line-other (a .config) (segmentsBy (a .groups .now) (a .map .now)) (a .columns) (a .n) (a .text .now) _ (a .out .now) _ (a .warnings .now) _ (c .before .before .before .before .before .before .before .before .before .before .if1 .left) (c .before .before .before .before .before .before .before .before .before .if2 .left) _ _ _ (c .before .before .before .before .before .before .before .before .text-of .ensures) (trim-by _ _ _ (c .before .before .before .before .before .before .before .trim-head .ensures) refl) (c .before .before .before .before .before .before .trims-to-section .ensures) (c .before .before .before .before .before .if3 .left) (c .before .before .before .before .if4 .left) refl (c .before .before .stayed2 .ensures)
 
 pub line-spec : {M : Type 1} → statement M
 line-spec =
@@ -81,8 +87,9 @@ line-spec =
     refused-requires-2
     returns-2
     text-of-requires
-    trimmed-requires
-    is-section-requires
+    trim-head-requires
+    trims-to-section-requires
+    trim-tail-requires
     names-events-requires
     in-section-requires
     stayed-requires

@@ -1,4 +1,4 @@
-use Rattle.spec_map.specs.segment.Segment.{segmentsOf}
+use Rattle.spec_caption.specs.caption_fate.Grouped.{segmentsBy}
 use Rattle.spec_format.proofs.ass_line.SayLaws.{times-1, times-2, times-room, times-3}
 use borrow.Author.Needs.{needs}
 use Rattle.ass_line.proofs.caption.timed.Statement.{statement}
@@ -27,7 +27,7 @@ refused-requires : tie.Need-refused-requires
 refused-requires c κs = search needs
 
 returns : tie.Need-returns
-returns c = let a = c .before .before .before .before .before .before .before .before .before .before .before .args in times-1 (a .config) (segmentsOf (a .map .now)) (a .columns) (a .n) (a .text .now) (a .word .now) (a .rest .now) _ _ (c .before .before .before .before .field .ensures) (c .before .before .before .read-time .ensures) _ _ _ (c .before .enum-told .given .1) (c .refused .ensures)
+returns c = let a = c .before .before .before .before .before .before .before .before .before .before .before .before .args in times-1 (a .config) (segmentsBy (a .groups .now) (a .map .now)) (a .columns) (a .n) (a .text .now) (a .word .now) (a .rest .now) _ _ (c .before .before .before .before .field .ensures) (c .before .before .before .read-time .ensures) _ _ _ (c .before .enum-told .given .1) (c .refused .ensures)
 
 field-requires-2 : tie.Need-field-requires-2
 field-requires-2 c κs = search needs
@@ -45,13 +45,13 @@ refused-requires-2 : tie.Need-refused-requires-2
 refused-requires-2 c κs = search needs
 
 returns-2 : tie.Need-returns-2
-returns-2 c = let a = c .before .before .before .before .before .before .before .before .before .before .before .before .before .before .before .before .args in times-2 (a .config) (segmentsOf (a .map .now)) (a .columns) (a .n) (a .text .now) (a .word .now) (a .rest .now) _ _ (c .before .before .before .before .before .before .before .before .before .field .ensures) (c .before .before .before .before .before .before .before .before .read-time .ensures) _ _ (c .before .before .before .before .field2 .ensures) (c .before .before .before .read-time2 .ensures) _ _ (c .before .before .before .before .before .before .start .given .1) _ _ _ (c .before .enum-told2 .given .1) (c .refused2 .ensures)
+returns-2 c = let a = c .before .before .before .before .before .before .before .before .before .before .before .before .before .before .before .before .before .args in times-2 (a .config) (segmentsBy (a .groups .now) (a .map .now)) (a .columns) (a .n) (a .text .now) (a .word .now) (a .rest .now) _ _ (c .before .before .before .before .before .before .before .before .before .field .ensures) (c .before .before .before .before .before .before .before .before .read-time .ensures) _ _ (c .before .before .before .before .field2 .ensures) (c .before .before .before .read-time2 .ensures) _ _ (c .before .before .before .before .before .before .start .given .1) _ _ _ (c .before .enum-told2 .given .1) (c .refused2 .ensures)
 
 terminator-of-requires : tie.Need-terminator-of-requires
 terminator-of-requires c κs = search needs
 
 settle-requires : tie.Need-settle-requires
-settle-requires c κs = let s = c .before .before .before .before .before .before .before .before .before .before .before .before .before .before .before .before .before .before .before in let a = s .args in (times-room (a .config) (segmentsOf (a .map .now)) (a .columns) (a .n) (a .text .now) (a .word .now) (a .rest .now) _ _ (c .before .before .before .before .before .before .before .before .before .before .before .before .field .ensures) (c .before .before .before .before .before .before .before .before .before .before .before .read-time .ensures) _ _ (c .before .before .before .before .before .before .before .field2 .ensures) (c .before .before .before .before .before .before .read-time2 .ensures) _ _ (c .before .before .before .before .before .before .before .before .before .start .given .1) _ _ (c .before .before .before .before .stop .given .1) _ (c .before .before .terminator-of .ensures) (a .out .now) (s .pre .0) (s .pre .1 .1 .0) (s .pre .1 .1 .1), s .pre .1 .0)
+settle-requires c κs = let s = c .before .before .before .before .before .before .before .before .before .before .before .before .before .before .before .before .before .before .before .before in let a = s .args in (times-room (a .config) (segmentsBy (a .groups .now) (a .map .now)) (a .columns) (a .n) (a .text .now) (a .word .now) (a .rest .now) _ _ (c .before .before .before .before .before .before .before .before .before .before .before .before .field .ensures) (c .before .before .before .before .before .before .before .before .before .before .before .read-time .ensures) _ _ (c .before .before .before .before .before .before .before .field2 .ensures) (c .before .before .before .before .before .before .read-time2 .ensures) _ _ (c .before .before .before .before .before .before .before .before .before .start .given .1) _ _ (c .before .before .before .before .stop .given .1) _ (c .before .before .terminator-of .ensures) (a .out .now) (s .pre .0) (s .pre .1 .1 .0) (s .pre .1 .1 .1), s .pre .1 .0)
 
 same-length : tie.Need-same-length
 same-length c = search needs
@@ -60,7 +60,7 @@ same-length-2 : tie.Need-same-length-2
 same-length-2 c = search needs
 
 returns-3 : tie.Need-returns-3
-returns-3 c = let a = c .before .before .before .before .before .before .before .before .before .before .before .before .before .before .before .before .before .before .before .before .before .before .before .before .args in times-3 (a .config) (segmentsOf (a .map .now)) (a .columns) (a .n) (a .text .now) (a .word .now) (a .rest .now) _ _ (c .before .before .before .before .before .before .before .before .before .before .before .before .before .before .before .before .before .field .ensures) (c .before .before .before .before .before .before .before .before .before .before .before .before .before .before .before .before .read-time .ensures) _ _ (c .before .before .before .before .before .before .before .before .before .before .before .before .field2 .ensures) (c .before .before .before .before .before .before .before .before .before .before .before .read-time2 .ensures) _ _ (c .before .before .before .before .before .before .before .before .before .before .before .before .before .before .start .given .1) _ _ (c .before .before .before .before .before .before .before .before .before .stop .given .1) _ (c .before .before .before .before .before .before .before .terminator-of .ensures) _ _ _ _ _ (c .before .before .before .before .settle .ensures)
+returns-3 c = let a = c .before .before .before .before .before .before .before .before .before .before .before .before .before .before .before .before .before .before .before .before .before .before .before .before .before .args in times-3 (a .config) (segmentsBy (a .groups .now) (a .map .now)) (a .columns) (a .n) (a .text .now) (a .word .now) (a .rest .now) _ _ (c .before .before .before .before .before .before .before .before .before .before .before .before .before .before .before .before .before .field .ensures) (c .before .before .before .before .before .before .before .before .before .before .before .before .before .before .before .before .read-time .ensures) _ _ (c .before .before .before .before .before .before .before .before .before .before .before .before .field2 .ensures) (c .before .before .before .before .before .before .before .before .before .before .before .read-time2 .ensures) _ _ (c .before .before .before .before .before .before .before .before .before .before .before .before .before .before .start .given .1) _ _ (c .before .before .before .before .before .before .before .before .before .stop .given .1) _ (c .before .before .before .before .before .before .before .terminator-of .ensures) _ _ _ _ _ (c .before .before .before .before .settle .ensures)
 
 pub timed-spec : {M : Type 1} → statement M
 timed-spec =

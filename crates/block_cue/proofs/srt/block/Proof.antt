@@ -41,7 +41,7 @@ rest-requires-2 : tie.Need-rest-requires-2
 rest-requires-2 c κs = search needs
 
 timed-requires : tie.Need-timed-requires
-timed-requires c κs = let A = c .before .before .before .before .before .before .before .before .before .before .before .before .before .before .args in let p = c .before .before .before .before .before .before .before .locate .result in (block-room (A .text .now) _ _ _ _ (A .out .now) (p .at) (p .size) (c .before .before .before .before .before .rest .ensures) (c .before .before .before .before .front .ensures) (c .before .before .before .front2 .ensures) (c .before .before .rest2 .ensures) (c .before .before .before .before .before .before .before .before .before .if1 .left), c .before .before .before .before .before .before .before .before .if2 .left, c .before .before .before .before .before .before .before .locate .ensures .1)
+timed-requires c κs = let A = c .before .before .before .before .before .before .before .before .before .before .before .before .before .before .before .args in let p = c .before .before .before .before .before .before .before .locate .result in (block-room (A .text .now) _ _ _ _ (A .out .now) (p .at) (p .size) (c .before .before .before .before .before .rest .ensures) (c .before .before .before .before .front .ensures) (c .before .before .before .front2 .ensures) (c .before .before .rest2 .ensures) (c .before .before .before .before .before .before .before .before .before .if1 .left), c .before .before .before .before .before .before .before .before .if2 .left, c .before .before .before .before .before .before .before .locate .ensures .1)
 
 same-length : tie.Need-same-length
 same-length c = search needs

@@ -1,5 +1,5 @@
-use Rattle.spec_map.specs.segment.Segment.{segmentsOf}
-use Rattle.spec_format.specs.block_cue.Answer.{numberIn}
+use Rattle.spec_caption.specs.caption_fate.Grouped.{segmentsBy}
+use Rattle.spec_format.specs.block_cue.BlockThrough.{numberIn}
 use Rattle.spec_format.proofs.block_cue.BlockLaws.{timed-bad, timed-both, timed-room}
 use borrow.Author.Needs.{needs}
 use Rattle.block_cue.proofs.srt.timed.Statement.{statement}
@@ -51,7 +51,7 @@ enum-known-old : tie.Need-enum-known-old
 enum-known-old c = search needs
 
 settle-requires : tie.Need-settle-requires
-settle-requires c κs = let A = c .before .before .before .before .before .before .before .before .before .before .before .before .before .before .before .before .before .before .before .before .args in let p = c .before .before .before .before .before .before .before .before .before .before .before .before .before .before .before .before .before .before .before .before .pre in (timed-room (A .config) (segmentsOf (A .map .now)) (numberIn (A .last) (A .k) (A .block .now)) _ (A .before .now) (A .line .now) (A .after .now) _ _ _ _ _ _ _ (c .before .before .before .before .before .before .before .before .before .before .before .before .text-of .ensures) (c .before .before .before .before .before .before .before .before .before .before .before .after-arrow .ensures) (c .before .before .before .before .before .before .before .before .before .before .end-length .ensures) (c .before .before .before .before .before .before .before .before .before .rest .ensures) (c .before .before .before .before .before .before .before .before .terminator-of .ensures) (c .before .before .before .before .before .before .before .before-arrow .ensures) (c .before .before .before .before .before .before .front .ensures) (c .before .before .before .before .before .read-times .ensures) _ (c .before .before .before .old .given .1) (A .out .now) (p .0), p .1, p .2)
+settle-requires c κs = let A = c .before .before .before .before .before .before .before .before .before .before .before .before .before .before .before .before .before .before .before .before .before .args in let p = c .before .before .before .before .before .before .before .before .before .before .before .before .before .before .before .before .before .before .before .before .before .pre in (timed-room (A .config) (segmentsBy (A .groups .now) (A .map .now)) (numberIn (A .last) (A .k) (A .block .now)) _ (A .before .now) (A .line .now) (A .after .now) _ _ _ _ _ _ _ (c .before .before .before .before .before .before .before .before .before .before .before .before .text-of .ensures) (c .before .before .before .before .before .before .before .before .before .before .before .after-arrow .ensures) (c .before .before .before .before .before .before .before .before .before .before .end-length .ensures) (c .before .before .before .before .before .before .before .before .before .rest .ensures) (c .before .before .before .before .before .before .before .before .terminator-of .ensures) (c .before .before .before .before .before .before .before .before-arrow .ensures) (c .before .before .before .before .before .before .front .ensures) (c .before .before .before .before .before .read-times .ensures) _ (c .before .before .before .old .given .1) (A .out .now) (p .0), p .1, p .2)
 
 returns : tie.Need-returns
 returns c = timed-bad _ _ _ _ _ _ _ _ _ _ _ _ _ _ (c .before .before .before .before .before .before .before .before .before .before .text-of .ensures) (c .before .before .before .before .before .before .before .before .before .after-arrow .ensures) (c .before .before .before .before .before .before .before .before .end-length .ensures) (c .before .before .before .before .before .before .before .rest .ensures) (c .before .before .before .before .before .before .terminator-of .ensures) (c .before .before .before .before .before .before-arrow .ensures) (c .before .before .before .before .front .ensures) (c .before .before .before .read-times .ensures) _ _ _ (c .before .enum-told .given .1) (c .refused .ensures)

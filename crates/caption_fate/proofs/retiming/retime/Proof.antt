@@ -12,8 +12,8 @@ use Rattle.caption_time.proofs.core_end.Reads as core-end-reads
 use Rattle.caption_time.proofs.core_start.Reads as core-start-reads
 
 -- what the segment that is met gives
-facts : (c : tie.After-shared-slice-known) → let x = c .before .args .x in Fits (x .source) (x .output) (x .duration) (c .before .args .a) (c .before .args .b)
-facts c = let p = c .before .pre .1 in let x = c .before .args .x in fits (x .source) (x .output) (x .duration) (c .before .args .a) (c .before .args .b) (p .0) (p .1) (p .2)
+facts : (c : tie.After-shared-slice-known2) → let s = c .before .before in let x = s .args .x in Fits (x .source) (x .output) (x .duration) (s .args .a) (s .args .b)
+facts c = let s = c .before .before in let p = s .pre .1 in let x = s .args .x in fits (x .source) (x .output) (x .duration) (s .args .a) (s .args .b) (p .0) (p .1) (p .2)
 
 add-last : tie.Need-add-last
 add-last c = let k = facts (c .before) in omega arith

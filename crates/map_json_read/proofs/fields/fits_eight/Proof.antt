@@ -1,4 +1,4 @@
-use Rattle.map_json_read.proofs.NumberLaws.{eight-known, eight-other}
+use Rattle.map_json_read.proofs.DepthLaws.{eight-known, eight-other}
 use borrow.Author.Needs.{needs}
 use Rattle.map_json_read.proofs.fields.fits_eight.Statement.{statement}
 use Rattle.map_json_read.proofs.fields.fits_eight.Tie as tie

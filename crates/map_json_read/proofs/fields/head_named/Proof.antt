@@ -5,7 +5,7 @@ use Rattle.map_json_read.proofs.fields.head_named.Statement.{statement}
 use Rattle.map_json_read.proofs.fields.head_named.Tie as tie
 use Rattle.map_json_read.proofs.fields.head_named.Reads as reads
 use Rattle.map_json_read.proofs.fields.head_named.Lts as lts
-use Rattle.json.proofs.name_is.Reads as name-is-reads
+use Rattle.json_strings.proofs.name_is.Reads as name-is-reads
 
 slice-aggregate-name-is : tie.Need-slice-aggregate-name-is
 slice-aggregate-name-is c = search needs

@@ -6,8 +6,8 @@ use Rattle.map_json_read.proofs.fields.heads_after.Reads as reads
 use Rattle.map_json_read.proofs.fields.heads_after.Lts as lts
 use Rattle.map_json_read.proofs.fields.fits_eight.Reads as fits-eight-reads
 use Rattle.map_json_read.proofs.fields.seen_if.Reads as seen-if-reads
-use Rattle.map_json_read.proofs.number.both.Reads as both-reads
-use Rattle.map_json_read.proofs.number.slot_if.Reads as slot-if-reads
+use Rattle.map_json_segments.proofs.number.both.Reads as both-reads
+use Rattle.map_json_segments.proofs.number.slot_if.Reads as slot-if-reads
 
 slot-if-requires : tie.Need-slot-if-requires
 slot-if-requires c κs = search needs

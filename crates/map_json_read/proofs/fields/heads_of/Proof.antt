@@ -5,9 +5,9 @@ use Rattle.map_json_read.proofs.fields.heads_of.Tie as tie
 use Rattle.map_json_read.proofs.fields.heads_of.Reads as reads
 use Rattle.map_json_read.proofs.fields.heads_of.Lts as lts
 use Rattle.map_json_read.proofs.fields.word.Reads as word-reads
-use Rattle.map_json_read.proofs.number.all_three.Reads as all-three-reads
-use Rattle.map_json_read.proofs.number.both.Reads as both-reads
-use Rattle.map_json_read.proofs.number.has_number.Reads as has-number-reads
+use Rattle.map_json_segments.proofs.number.all_three.Reads as all-three-reads
+use Rattle.map_json_segments.proofs.number.both.Reads as both-reads
+use Rattle.map_json_segments.proofs.number.has_number.Reads as has-number-reads
 
 all-three-requires : tie.Need-all-three-requires
 all-three-requires c κs = search needs

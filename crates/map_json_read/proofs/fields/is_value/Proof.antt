@@ -1,5 +1,5 @@
 use Rattle.spec_json.proofs.json.Tests.{tests}
-use Rattle.map_json_read.proofs.NumberLaws.{value-none, value-some}
+use Rattle.map_json_read.proofs.DepthLaws.{value-none, value-some}
 use borrow.Author.Needs.{needs}
 use Rattle.map_json_read.proofs.fields.is_value.Statement.{statement}
 use Rattle.map_json_read.proofs.fields.is_value.Tie as tie

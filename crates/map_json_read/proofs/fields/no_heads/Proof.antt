@@ -4,7 +4,7 @@ use Rattle.map_json_read.proofs.fields.no_heads.Statement.{statement}
 use Rattle.map_json_read.proofs.fields.no_heads.Tie as tie
 use Rattle.map_json_read.proofs.fields.no_heads.Reads as reads
 use Rattle.map_json_read.proofs.fields.no_heads.Lts as lts
-use Rattle.map_json_read.proofs.number.no_slot.Reads as no-slot-reads
+use Rattle.map_json_segments.proofs.number.no_slot.Reads as no-slot-reads
 
 no-slot-requires : tie.Need-no-slot-requires
 no-slot-requires c κs = search needs

@@ -6,8 +6,8 @@ use Rattle.map_json_read.proofs.fields.path_good.Statement.{statement}
 use Rattle.map_json_read.proofs.fields.path_good.Tie as tie
 use Rattle.map_json_read.proofs.fields.path_good.Reads as reads
 use Rattle.map_json_read.proofs.fields.path_good.Lts as lts
-use Rattle.json.proofs.string_size.Reads as string-size-reads
-use Rattle.map_json_read.proofs.number.opens.Reads as opens-reads
+use Rattle.json_strings.proofs.string_size.Reads as string-size-reads
+use Rattle.map_json_segments.proofs.number.opens.Reads as opens-reads
 
 opens-requires : tie.Need-opens-requires
 opens-requires c κs = search needs

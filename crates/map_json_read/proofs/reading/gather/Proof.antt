@@ -4,11 +4,11 @@ use Rattle.map_json_read.proofs.reading.gather.Statement.{statement}
 use Rattle.map_json_read.proofs.reading.gather.Tie as tie
 use Rattle.map_json_read.proofs.reading.gather.Reads as reads
 use Rattle.map_json_read.proofs.reading.gather.Lts as lts
-use Rattle.json.proofs.string_bytes.Reads as string-bytes-reads
+use Rattle.json_strings.proofs.string_bytes.Reads as string-bytes-reads
 use Rattle.map_json_read.proofs.fields.heads_of.Reads as heads-of-reads
 use Rattle.map_json_read.proofs.fields.path_good.Reads as path-good-reads
-use Rattle.map_json_read.proofs.list.list_into.Reads as list-into-reads
-use Rattle.map_json_read.proofs.number.both.Reads as both-reads
+use Rattle.map_json_segments.proofs.list.list_into.Reads as list-into-reads
+use Rattle.map_json_segments.proofs.number.both.Reads as both-reads
 
 heads-of-requires : tie.Need-heads-of-requires
 heads-of-requires c κs = search needs

@@ -6,8 +6,9 @@ use lib.ListN.{length, drop}
 use Rattle.spec_json.specs.json.Space.{joined}
 use Rattle.spec_json.specs.json.Walk.{rowOf}
 use Rattle.spec_json.proofs.json.CharsLaws.{joined-zero}
-use Rattle.map_json_read.specs.Slots.{gathered, noneWalked, walkedAfter}
-use Rattle.map_json_read.specs.Fields.{membersIn}
+use Rattle.map_json_segments.specs.Slots.{gathered}
+use Rattle.map_json_read.specs.Slots.{noneWalked, walkedAfter}
+use Rattle.map_json_segments.specs.Fields.{membersIn}
 use Rattle.map_json_read.specs.Walk.{walkedOf}
 use borrow.Author.Needs.{needs}
 use Rattle.map_json_read.proofs.walk.walk_in.Statement.{statement}

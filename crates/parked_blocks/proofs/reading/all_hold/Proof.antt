@@ -1,4 +1,4 @@
-use Rattle.spec_parking.proofs.parked_blocks.ReadLaws.{hold-step, hold-no, hold-all}
+use Rattle.spec_parking.proofs.parked_blocks.ReadLaws.{hold-start, hold-step, hold-no, hold-all}
 use native.Mathlib.Omega.{arith}
 use mathlib.Core.Path.{_≡_, refl}
 use Prim.Native.Nat.{_≤_, _-_}
@@ -8,13 +8,13 @@ use Rattle.parked_blocks.proofs.reading.all_hold.Statement.{statement}
 use Rattle.parked_blocks.proofs.reading.all_hold.Tie as tie
 
 abbrev Inv-loop : tie.InvT-loop
-Inv-loop s b₀ b = (b ≤ 18) × (allHold s b (18 - b) ≡ allHold s 0 18)
+Inv-loop s n b₀ b = (b ≤ n) × (allHold s b (n - b) ≡ allHold s 0 n)
 
 abbrev μ-loop : tie.MeasureT-loop
-μ-loop s b₀ b = 18 - b
+μ-loop s n b₀ b = n - b
 
 loop-holds : tie.Need-loop-holds Inv-loop μ-loop
-loop-holds c = (omega arith, refl)
+loop-holds c = (omega arith, search hold-start)
 
 block-holds-requires : tie.Need-block-holds-requires Inv-loop μ-loop
 block-holds-requires c κs = search needs

@@ -10,10 +10,10 @@ use Rattle.parked_blocks.proofs.reading.copy_room.Statement.{statement}
 use Rattle.parked_blocks.proofs.reading.copy_room.Tie as tie
 
 abbrev Inv-loop : tie.InvT-loop
-Inv-loop s room₀ at₀ n₀ room at n = (n ≤ 17) × (at ≡ 504 * n) × (room ≡ put (bodies s 1 n) room₀) × (length room ≡ length room₀)
+Inv-loop s k room₀ at₀ n₀ room at n = (n ≤ k) × (at ≡ 504 * n) × (room ≡ put (bodies s 1 n) room₀) × (length room ≡ length room₀)
 
 abbrev μ-loop : tie.MeasureT-loop
-μ-loop s room₀ at₀ n₀ room at n = 17 - n
+μ-loop s k room₀ at₀ n₀ room at n = k - n
 
 loop-holds : tie.Need-loop-holds Inv-loop μ-loop
 loop-holds c = (omega arith, refl, search room-none, refl)

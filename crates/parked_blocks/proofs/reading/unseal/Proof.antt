@@ -10,7 +10,7 @@ is-row-requires : tie.Need-is-row-requires
 is-row-requires c κs = search needs
 
 copy-room-requires : tie.Need-copy-room-requires
-copy-room-requires c κs = (search row-length, search needs)
+copy-room-requires c κs = (search row-length, search needs, search needs)
 
 same-length : tie.Need-same-length
 same-length c = search needs

@@ -10,10 +10,10 @@ use Rattle.parked_blocks.proofs.writing.put_held.Statement.{statement}
 use Rattle.parked_blocks.proofs.writing.put_held.Tie as tie
 
 abbrev Inv-loop : tie.InvT-loop
-Inv-loop out₀ held n₀ out n = (n ≤ 17) × (out ≡ put (sealedAll 1 n (filled roomLength held)) out₀) × (length out ≡ length out₀)
+Inv-loop out₀ held k n₀ out n = (n ≤ k) × (out ≡ put (sealedAll 1 n (filled roomLength held)) out₀) × (length out ≡ length out₀)
 
 abbrev μ-loop : tie.MeasureT-loop
-μ-loop out₀ held n₀ out n = 17 - n
+μ-loop out₀ held k n₀ out n = k - n
 
 loop-holds : tie.Need-loop-holds Inv-loop μ-loop
 loop-holds c = (omega arith, search held-none, refl)

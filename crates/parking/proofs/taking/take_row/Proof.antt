@@ -1,10 +1,11 @@
+use Rattle.spec_parking.proofs.parking.ReadLaws.{whole-shows, whole-rest}
 use Rattle.spec_parking.proofs.parking.TakeLaws.{take-17, take-0, take-27}
 use borrow.Author.Needs.{needs}
 use Rattle.parking.proofs.taking.take_row.Statement.{statement}
 use Rattle.parking.proofs.taking.take_row.Tie as tie
 
 is-parked-requires : tie.Need-is-parked-requires
-is-parked-requires c κs = search needs
+is-parked-requires c κs = (search needs, search whole-shows, search whole-rest)
 
 session-in-requires : tie.Need-session-in-requires
 session-in-requires c κs = search needs

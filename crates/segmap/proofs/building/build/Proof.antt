@@ -5,17 +5,17 @@ use lib.ListN.{length}
 use Rattle.spec_base.specs.base.Limits.{mostTicks, mostSegments}
 use Rattle.spec_map.proofs.plan.PairLaws.{leftOf}
 use Rattle.spec_map.specs.segmap.Build.{rangesFault}
-use Rattle.segmap.specs.Marks.{Carried}
+use Rattle.segmap.specs.Milestones.{Carried}
 use Rattle.spec_map.proofs.segmap.BuildLaws.{testing-zero, Building, building-start, building-next, building-done, Adding, adding-start, adding-next, adding-done, free-next, free-ordered, free-within, free-summed}
 use borrow.Author.Needs.{needs}
 use Rattle.segmap.proofs.building.build.Statement.{statement}
 use Rattle.segmap.proofs.building.build.Tie as tie
 
 abbrev Inv-loop : tie.InvT-loop
-Inv-loop s n ranges count marks₀ map₀ from₀ output₀ i₀ marks map from output i = (i ≤ count) × (length map ≡ length map₀) × (count ≤ mostSegments) × (2 * count ≤ length ranges) × (6 * count ≤ length map₀) × Carried s (from .decode .0) (from .ticks) marks × (output ≤ mostTicks * i) × Adding s ranges count i output × (rangesFault s n (leftOf ranges count i) ≡ 0) × Building s ranges count map₀ map i output
+Inv-loop s n ranges count milestones₀ map₀ from₀ output₀ i₀ milestones map from output i = (i ≤ count) × (length map ≡ length map₀) × (count ≤ mostSegments) × (2 * count ≤ length ranges) × (6 * count ≤ length map₀) × Carried s (from .decode .0) (from .ticks) milestones × (output ≤ mostTicks * i) × Adding s ranges count i output × (rangesFault s n (leftOf ranges count i) ≡ 0) × Building s ranges count map₀ map i output
 
 abbrev μ-loop : tie.MeasureT-loop
-μ-loop s n ranges count marks₀ map₀ from₀ output₀ i₀ marks map from output i = count - i
+μ-loop s n ranges count milestones₀ map₀ from₀ output₀ i₀ milestones map from output i = count - i
 
 at-first-requires : tie.Need-at-first-requires Inv-loop μ-loop
 at-first-requires c κs = search needs

@@ -3,18 +3,18 @@ use mathlib.Core.Path.{_≡_}
 use Prim.Native.Nat.{_-_, _≤_}
 use lib.ListN.{length}
 use Rattle.spec_sheet.specs.sheet_frames.Frames.{ticksFrom}
-use Rattle.segmap.specs.Marks.{Noted}
+use Rattle.segmap.specs.Milestones.{Noted}
 use Rattle.spec_map.proofs.segmap.TicksLaws.{ticks-done}
-use Rattle.segmap.proofs.MarkLaws.{noted-start, noted-next, noted-done}
+use Rattle.segmap.proofs.MilestoneLaws.{noted-start, noted-next, noted-done}
 use borrow.Author.Needs.{needs}
 use Rattle.segmap.proofs.sums.go_on.Statement.{statement}
 use Rattle.segmap.proofs.sums.go_on.Tie as tie
 
 abbrev Inv-loop : tie.InvT-loop
-Inv-loop s to marks₀ reached₀ marks reached = (length marks ≡ 1025) × (reached .decode .0 ≤ to .0) × (reached .ticks ≡ ticksFrom s 0 (reached .decode .0)) × Noted s (reached₀ .decode .0) (reached .decode .0) marks₀ marks
+Inv-loop s to milestones₀ reached₀ milestones reached = (length milestones ≡ 1025) × (reached .decode .0 ≤ to .0) × (reached .ticks ≡ ticksFrom s 0 (reached .decode .0)) × Noted s (reached₀ .decode .0) (reached .decode .0) milestones₀ milestones
 
 abbrev μ-loop : tie.MeasureT-loop
-μ-loop s to marks₀ reached₀ marks reached = to .0 - reached .decode .0
+μ-loop s to milestones₀ reached₀ milestones reached = to .0 - reached .decode .0
 
 loop-holds : tie.Need-loop-holds Inv-loop μ-loop
 loop-holds c = (search needs, search needs, search needs, noted-start _ _ _)

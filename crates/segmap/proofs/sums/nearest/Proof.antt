@@ -1,5 +1,5 @@
 use native.Mathlib.Omega.{arith}
-use Rattle.segmap.proofs.MarkLaws.{mark-before}
+use Rattle.segmap.proofs.MilestoneLaws.{milestone-before}
 use borrow.Author.Needs.{needs}
 use Rattle.segmap.proofs.sums.nearest.Statement.{statement}
 use Rattle.segmap.proofs.sums.nearest.Tie as tie
@@ -17,7 +17,7 @@ shared-slice-read-t13 : tie.Need-shared-slice-read-t13
 shared-slice-read-t13 c = search needs
 
 returns : tie.Need-returns
-returns c = (search needs, search mark-before, λ h. absurd (omega arith))
+returns c = (search needs, search milestone-before, λ h. absurd (omega arith))
 
 returns-2 : tie.Need-returns-2
 returns-2 c = search needs

@@ -1,5 +1,5 @@
 use native.Mathlib.Omega.{arith}
-use Rattle.segmap.proofs.MarkLaws.{carried-still, carried-on}
+use Rattle.segmap.proofs.MilestoneLaws.{carried-still, carried-on}
 use borrow.Author.Needs.{needs}
 use Rattle.segmap.proofs.sums.reach.Statement.{statement}
 use Rattle.segmap.proofs.sums.reach.Tie as tie

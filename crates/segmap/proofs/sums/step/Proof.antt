@@ -1,6 +1,6 @@
 use native.Mathlib.Omega.{arith}
 use Rattle.spec_map.proofs.segmap.TicksLaws.{ticks-moved}
-use Rattle.segmap.proofs.MarkLaws.{step-within, step-short, step-marked}
+use Rattle.segmap.proofs.MilestoneLaws.{step-within, step-short, step-noted}
 use borrow.Author.Needs.{needs}
 use Rattle.segmap.proofs.sums.step.Statement.{statement}
 use Rattle.segmap.proofs.sums.step.Tie as tie
@@ -26,17 +26,17 @@ returns c = ((omega arith, omega arith, search ticks-moved), search step-short)
 cast-at : tie.Need-cast-at
 cast-at c = search needs
 
-mul-marks : tie.Need-mul-marks
-mul-marks c = search needs
+mul-milestones : tie.Need-mul-milestones
+mul-milestones c = search needs
 
-slice-write-marks : tie.Need-slice-write-marks
-slice-write-marks c = search needs
+slice-write-milestones : tie.Need-slice-write-milestones
+slice-write-milestones c = search needs
 
 same-length : tie.Need-same-length
 same-length c = search needs
 
 returns-2 : tie.Need-returns-2
-returns-2 c = ((omega arith, omega arith, search ticks-moved), search step-marked)
+returns-2 c = ((omega arith, omega arith, search ticks-moved), search step-noted)
 
 pub step-spec : {M : Type 1} → statement M
 step-spec =
@@ -49,7 +49,7 @@ step-spec =
     mul-if1-2
     returns
     cast-at
-    mul-marks
-    slice-write-marks
+    mul-milestones
+    slice-write-milestones
     same-length
     returns-2)

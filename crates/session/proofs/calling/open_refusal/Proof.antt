@@ -1,4 +1,4 @@
-use Rattle.spec_session.specs.session.Answer.{openOf}
+use Rattle.spec_session.specs.session.SessionCalls.{openOf}
 use Rattle.spec_map.specs.segment.Segment.{mapBad}
 use Rattle.spec_caption.specs.caption_time.Convert.{timescaleBad}
 use Rattle.spec_caption.specs.caption_time.Kind.{kindBad}

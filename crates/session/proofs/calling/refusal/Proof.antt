@@ -1,5 +1,4 @@
-use Rattle.spec_session.specs.session.Answer.{refusalOf, lengthsBad}
-use Rattle.spec_session.proofs.session_state.ViewLaws.{native-view}
+use Rattle.spec_session.specs.session.SessionCalls.{refusalOf, lengthsBad}
 use Rattle.spec_session.specs.session_state.View.{foreignOf}
 use Rattle.spec_map.specs.segment.Segment.{mapBad}
 use lib.ListN.{length}
@@ -33,7 +32,7 @@ unfolding refusalOf
 returns-3 c = let f : foreignOf (c .before .before .before .before .before .before .args .session) ≡ false = sym (c .before .before .before .before .foreign .ensures) ∙ c .before .before .before .if1 .left in let e : c .before .before .before .before .before .before .args .session .ended ≡ false = c .before .before .if2 .left in let m : mapBad (c .before .before .before .before .before .before .args .map .now) ≡ true = sym (c .before .map-bad .ensures) ∙ c .if3 .taken in rw (f, e, m)
 
 lengths-bad-requires : tie.Need-lengths-bad-requires
-lengths-bad-requires c κs = let f : foreignOf (c .before .before .before .before .before .before .args .session) ≡ false = sym (c .before .before .before .before .foreign .ensures) ∙ c .before .before .before .if1 .left in native-view (c .before .before .before .before .before .before .args .session) f .taken-few
+lengths-bad-requires c κs = search needs
 
 returns-4 : tie.Need-returns-4
 unfolding refusalOf

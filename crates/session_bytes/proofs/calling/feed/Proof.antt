@@ -1,10 +1,13 @@
-use Rattle.spec_parking.proofs.session_bytes.CallLaws.{up-refused, call-made}
+use Rattle.spec_parking.proofs.session_bytes.FeedLaws.{text-refused, text-none, text-head, text-is}
 use borrow.Author.Needs.{needs}
 use Rattle.session_bytes.proofs.calling.feed.Statement.{statement}
 use Rattle.session_bytes.proofs.calling.feed.Tie as tie
 
-take-up-requires : tie.Need-take-up-requires
-take-up-requires c κs = search needs
+slice-aggregate-text-in : tie.Need-slice-aggregate-text-in
+slice-aggregate-text-in c = search needs
+
+text-in-requires : tie.Need-text-in-requires
+text-in-requires c κs = search needs
 
 refused-requires : tie.Need-refused-requires
 refused-requires c κs = search needs
@@ -13,13 +16,16 @@ same-length : tie.Need-same-length
 same-length c = search needs
 
 returns : tie.Need-returns
-returns c = search up-refused
+returns c = search text-refused
 
-feed-requires : tie.Need-feed-requires
-feed-requires c κs = search needs
+slice-aggregate-front : tie.Need-slice-aggregate-front
+slice-aggregate-front c = search needs
 
-keep-next-requires : tie.Need-keep-next-requires
-keep-next-requires c κs = search needs
+front-requires : tie.Need-front-requires
+front-requires c κs = search needs
+
+feed-text-requires : tie.Need-feed-text-requires
+feed-text-requires c κs = (search text-none, search text-head, search text-is)
 
 same-length-2 : tie.Need-same-length-2
 same-length-2 c = search needs
@@ -31,18 +37,20 @@ same-length-4 : tie.Need-same-length-4
 same-length-4 c = search needs
 
 returns-2 : tie.Need-returns-2
-returns-2 c = search call-made
+returns-2 c = search needs
 
 pub feed-spec : {M : Type 1} → statement M
 feed-spec =
     tie.close
     (tie.spec
-    take-up-requires
+    slice-aggregate-text-in
+    text-in-requires
     refused-requires
     same-length
     returns
-    feed-requires
-    keep-next-requires
+    slice-aggregate-front
+    front-requires
+    feed-text-requires
     same-length-2
     same-length-3
     same-length-4

@@ -1,6 +1,6 @@
 use Rattle.spec_session.proofs.session_lines.TellLaws.{end-empty, end-fault, end-said, end-fits, still-small}
 use mathlib.Core.Path.{refl}
-use Rattle.spec_map.specs.segment.Segment.{segmentsOf}
+use Rattle.spec_caption.specs.caption_fate.Grouped.{segmentsBy}
 use borrow.Author.Needs.{needs}
 use Rattle.session_lines.proofs.closing.close_block.Statement.{statement}
 use Rattle.session_lines.proofs.closing.close_block.Tie as tie
@@ -15,8 +15,8 @@ still-requires c κs = search needs
 
 returns : tie.Need-returns
 returns c =
-    let a = c .before .before .before .before .before .before .args in
-    (end-empty (a .config) (segmentsOf (a .map .now)) (a .n) (a .counts) (a .block .now) _ (a .out .now) (a .warnings .now) (c .before .if1 .taken) (c .still .ensures), still-small _ _ _ _ (c .still .ensures))
+    let a = c .before .before .before .before .before .before .before .args in
+    (end-empty (a .config) (segmentsBy (a .groups .now) (a .map .now)) (a .n) (a .counts) (a .block .now) _ (a .out .now) (a .warnings .now) (c .before .if1 .taken) (c .still .ensures), still-small _ _ _ _ (c .still .ensures))
 
 block-requires : tie.Need-block-requires
 block-requires c κs = search needs
@@ -32,9 +32,9 @@ same-length-2 c = search needs
 
 returns-2 : tie.Need-returns-2
 returns-2 c =
-    let a = c .before .before .before .before .before .before .before .before .before .before .before .before .before .before .before .args in
-    let r = c .before .before .before .before .before .before .before .before .before .before .before .before .before .before .before .pre in
-    (end-fault (a .config) (segmentsOf (a .map .now)) (a .n) (a .counts) (a .block .now) _ _ _ (a .out .now) _ (a .warnings .now) _ (r .room-long) (r .places-long) (c .before .before .before .before .before .before .before .before .before .before .if1 .left) refl refl (c .before .before .before .before .before .before .before .block .ensures) _ (c .before .if2 .taken) (c .still2 .ensures), still-small _ _ _ _ (c .still2 .ensures))
+    let a = c .before .before .before .before .before .before .before .before .before .before .before .before .before .before .before .before .args in
+    let r = c .before .before .before .before .before .before .before .before .before .before .before .before .before .before .before .before .pre in
+    (end-fault (a .config) (segmentsBy (a .groups .now) (a .map .now)) (a .n) (a .counts) (a .block .now) _ _ _ (a .out .now) _ (a .warnings .now) _ (r .room-long) (r .places-long) (c .before .before .before .before .before .before .before .before .before .before .if1 .left) refl refl (c .before .before .before .before .before .before .before .block .ensures) _ (c .before .if2 .taken) (c .still2 .ensures), still-small _ _ _ _ (c .still2 .ensures))
 
 count-requires : tie.Need-count-requires
 count-requires c κs = search needs
@@ -47,10 +47,10 @@ same-length-4 c = search needs
 
 returns-3 : tie.Need-returns-3
 returns-3 c =
-    let a = c .before .before .before .before .before .before .before .before .before .before .before .before .before .before .before .args in
-    let r = c .before .before .before .before .before .before .before .before .before .before .before .before .before .before .before .pre in
+    let a = c .before .before .before .before .before .before .before .before .before .before .before .before .before .before .before .before .args in
+    let r = c .before .before .before .before .before .before .before .before .before .before .before .before .before .before .before .before .pre in
     let b = c .before .before .before .before .before .before .before .block in
-    (end-said (a .config) (segmentsOf (a .map .now)) (a .n) (a .counts) (a .block .now) _ _ _ (a .out .now) _ (a .warnings .now) _ (r .room-long) (r .places-long) (c .before .before .before .before .before .before .before .before .before .before .if1 .left) refl refl (b .ensures) _ (c .before .if2 .left) (c .count .ensures), end-fits (a .config) (segmentsOf (a .map .now)) (a .n) (a .counts) (a .block .now) _ _ _ _ _ _ (b .ensures))
+    (end-said (a .config) (segmentsBy (a .groups .now) (a .map .now)) (a .n) (a .counts) (a .block .now) _ _ _ (a .out .now) _ (a .warnings .now) _ (r .room-long) (r .places-long) (c .before .before .before .before .before .before .before .before .before .before .if1 .left) refl refl (b .ensures) _ (c .before .if2 .left) (c .count .ensures), end-fits (a .config) (segmentsBy (a .groups .now) (a .map .now)) (a .n) (a .counts) (a .block .now) _ _ _ _ _ _ (b .ensures))
 
 pub close-block-spec : {M : Type 1} → statement M
 close-block-spec =

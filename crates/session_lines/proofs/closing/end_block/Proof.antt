@@ -1,4 +1,5 @@
-use Rattle.spec_session.proofs.session_lines.LentLaws.{end-16, end-24, end-lent, lent-asked}
+use Rattle.spec_session.proofs.session_lines.LentLaws.{end-16, end-24, lent-asked}
+use Rattle.spec_session.proofs.session_lines.PlainLaws.{end-plain}
 use borrow.Author.Needs.{needs}
 use Rattle.session_lines.proofs.closing.end_block.Statement.{statement}
 use Rattle.session_lines.proofs.closing.end_block.Tie as tie
@@ -26,6 +27,9 @@ still-requires-2 c κs = search needs
 returns-2 : tie.Need-returns-2
 returns-2 c = search end-24 depth 12
 
+words-front-requires : tie.Need-words-front-requires
+words-front-requires c κs = search needs
+
 close-block-requires : tie.Need-close-block-requires
 close-block-requires c κs = search lent-asked
 
@@ -36,7 +40,7 @@ same-length-2 : tie.Need-same-length-2
 same-length-2 c = search needs
 
 returns-3 : tie.Need-returns-3
-returns-3 c = search end-lent depth 12
+returns-3 c = search end-plain depth 12
 
 pub end-block-spec : {M : Type 1} → statement M
 end-block-spec =
@@ -48,6 +52,7 @@ end-block-spec =
     header-due-requires
     still-requires-2
     returns-2
+    words-front-requires
     close-block-requires
     same-length
     same-length-2

@@ -1,6 +1,6 @@
 use mathlib.Core.Path.{refl, sym, _∙_}
 use native.Mathlib.Omega.{arith}
-use Rattle.spec_map.specs.segment.Segment.{segmentsOf}
+use Rattle.spec_caption.specs.caption_fate.Grouped.{segmentsBy}
 use lib.ListN.{length-take, length-drop}
 use lib.Seq.{length-take-le}
 use Rattle.spec_base.proofs.base.PartLaws.{rest-all}
@@ -35,8 +35,8 @@ same-length-2 c = search needs
 
 returns : tie.Need-returns
 returns c =
-    let a = c .before .before .before .before .before .before .before .before .before .before .before .before .before .before .args in
-    any-ass (a .config) (segmentsOf (a .map .now)) (a .n) (a .counts) (a .columns) (a .held .now) (a .s) (a .a) _ _ _ _ _ _ (c .before .before .before .before .before .before .before .before .if1 .taken) (rest-all (a .a) (a .held .now)) (c .before .before .before .before .ass-line .ensures)
+    let a = c .before .before .before .before .before .before .before .before .before .before .before .before .before .before .before .args in
+    any-ass (a .config) (segmentsBy (a .groups .now) (a .map .now)) (a .n) (a .counts) (a .columns) (a .held .now) (a .s) (a .a) _ _ _ _ _ _ (c .before .before .before .before .before .before .before .before .if1 .taken) (rest-all (a .a) (a .held .now)) (c .before .before .before .before .ass-line .ensures)
 
 slice-aggregate-header-due : tie.Need-slice-aggregate-header-due
 slice-aggregate-header-due c = sym (length-take-le _ _ (omega arith))
@@ -64,8 +64,8 @@ same-length-4 c = search needs
 
 returns-2 : tie.Need-returns-2
 returns-2 c =
-    let a = c .before .before .before .before .before .before .before .before .before .before .before .before .before .before .before .before .before .args in
-    any-head (a .config) (segmentsOf (a .map .now)) (a .n) (a .counts) (a .columns) (a .held .now) (a .s) (a .a) _ _ _ _ _ _ _ (c .before .before .before .before .before .before .before .before .before .before .before .if1 .left) refl (rest-all (a .a) (a .held .now)) (sym (c .before .before .before .before .before .before .before .before .before .header-due .ensures) ∙ c .before .before .before .before .before .before .before .before .if2 .taken) (c .before .before .before .before .head-line .ensures)
+    let a = c .before .before .before .before .before .before .before .before .before .before .before .before .before .before .before .before .before .before .args in
+    any-head (a .config) (segmentsBy (a .groups .now) (a .map .now)) (a .n) (a .counts) (a .columns) (a .held .now) (a .s) (a .a) _ _ _ _ _ _ _ (c .before .before .before .before .before .before .before .before .before .before .before .if1 .left) refl (rest-all (a .a) (a .held .now)) (sym (c .before .before .before .before .before .before .before .before .before .header-due .ensures) ∙ c .before .before .before .before .before .before .before .before .if2 .taken) (c .before .before .before .before .head-line .ensures)
 
 slice-aggregate-block-line : tie.Need-slice-aggregate-block-line
 slice-aggregate-block-line c = sym (length-take-le _ _ (omega arith))
@@ -81,7 +81,7 @@ part-block-line-end c = search needs
 
 block-line-requires : tie.Need-block-line-requires
 block-line-requires c κs =
-    let r = c .before .before .before .before .before .before .before .before .before .before .before .before .before .pre in
+    let r = c .before .before .before .before .before .before .before .before .before .before .before .before .before .before .pre in
     record { counts = r .0 .counts; room-long = simp (length-take, length-drop) (omega arith); places-long = omega arith }
 
 same-length-5 : tie.Need-same-length-5
@@ -92,8 +92,8 @@ same-length-6 c = search needs
 
 returns-3 : tie.Need-returns-3
 returns-3 c =
-    let a = c .before .before .before .before .before .before .before .before .before .before .before .before .before .before .before .before .before .before .args in
-    any-srt (a .config) (segmentsOf (a .map .now)) (a .n) (a .counts) (a .columns) (a .held .now) (a .s) (a .a) _ _ _ _ _ _ _ (c .before .before .before .before .before .before .before .before .before .before .before .before .if1 .left) refl (rest-all (a .a) (a .held .now)) (sym (c .before .before .before .before .before .before .before .before .before .before .header-due .ensures) ∙ c .before .before .before .before .before .before .before .before .before .if2 .left) (c .before .before .before .before .block-line .ensures)
+    let a = c .before .before .before .before .before .before .before .before .before .before .before .before .before .before .before .before .before .before .before .args in
+    any-srt (a .config) (segmentsBy (a .groups .now) (a .map .now)) (a .n) (a .counts) (a .columns) (a .held .now) (a .s) (a .a) _ _ _ _ _ _ _ (c .before .before .before .before .before .before .before .before .before .before .before .before .if1 .left) refl (rest-all (a .a) (a .held .now)) (sym (c .before .before .before .before .before .before .before .before .before .before .header-due .ensures) ∙ c .before .before .before .before .before .before .before .before .before .if2 .left) (c .before .before .before .before .block-line .ensures)
 
 pub any-line-spec : {M : Type 1} → statement M
 any-line-spec =

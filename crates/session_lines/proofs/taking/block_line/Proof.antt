@@ -2,7 +2,7 @@ use mathlib.Core.Path.{_≡_, sym, _∙_}
 use mathlib.Core.Bool.{true, false}
 use borrow.Author.Tests.{not-true, not-false}
 use Rattle.spec_text.specs.utf8.Utf8.{utf8}
-use Rattle.spec_map.specs.segment.Segment.{segmentsOf}
+use Rattle.spec_caption.specs.caption_fate.Grouped.{segmentsBy}
 use Rattle.spec_format.specs.block_timing.Style.{blankIn}
 use Rattle.spec_session.proofs.session_lines.TellLaws.{srt-20, srt-22, srt-blank, srt-21, srt-add}
 use borrow.Author.Needs.{needs}
@@ -25,9 +25,9 @@ quiet-requires c κs = search needs
 
 returns : tie.Need-returns
 returns c =
-    let a = c .before .before .before .before .before .before .before .before .args in
+    let a = c .before .before .before .before .before .before .before .before .before .args in
     let u : utf8 (a .line .now) ≡ false = sym (c .before .before .is-utf8 .ensures) ∙ not-true _ (c .before .if1 .taken) in
-    srt-20 (a .config) (segmentsOf (a .map .now)) (a .n) (a .counts) (a .columns) (a .block .now) (a .line .now) _ _ _ u (c .quiet .ensures)
+    srt-20 (a .config) (segmentsBy (a .groups .now) (a .map .now)) (a .n) (a .counts) (a .columns) (a .block .now) (a .line .now) _ _ _ u (c .quiet .ensures)
 
 is-blank-in-requires : tie.Need-is-blank-in-requires
 is-blank-in-requires c κs = search needs
@@ -46,10 +46,10 @@ same-length-2 c = search needs
 
 returns-2 : tie.Need-returns-2
 returns-2 c =
-    let a = c .before .before .before .before .before .before .before .before .before .before .before .before .before .before .before .before .before .before .before .args in
+    let a = c .before .before .before .before .before .before .before .before .before .before .before .before .before .before .before .before .before .before .before .before .args in
     let u : utf8 (a .line .now) ≡ true = sym (c .before .before .before .before .before .before .before .before .before .before .before .before .before .is-utf8 .ensures) ∙ not-false _ (c .before .before .before .before .before .before .before .before .before .before .before .before .if1 .left) in
     let i : blankIn (a .config .kind) (a .line .now) ≡ true = sym (c .before .before .before .before .before .before .before .before .before .before .before .is-blank-in .ensures) ∙ c .before .before .before .before .before .before .before .before .before .before .if2 .taken in
-    srt-22 (a .config) (segmentsOf (a .map .now)) (a .n) (a .counts) (a .columns) (a .block .now) (a .line .now) _ _ _ _ _ _ u i (c .before .before .before .before .before .before .before .close-block .ensures .0) (c .before .if3 .taken) (c .quiet2 .ensures)
+    srt-22 (a .config) (segmentsBy (a .groups .now) (a .map .now)) (a .n) (a .counts) (a .columns) (a .block .now) (a .line .now) _ _ _ _ _ _ u i (c .before .before .before .before .before .before .before .close-block .ensures .0) (c .before .if3 .taken) (c .quiet2 .ensures)
 
 bytes-at-requires : tie.Need-bytes-at-requires
 bytes-at-requires c κs = search needs
@@ -65,13 +65,13 @@ same-length-4 c = search needs
 
 returns-3 : tie.Need-returns-3
 returns-3 c =
-    let a = c .before .before .before .before .before .before .before .before .before .before .before .before .before .before .before .before .before .before .before .before .before .before .before .args in
-    let r = c .before .before .before .before .before .before .before .before .before .before .before .before .before .before .before .before .before .before .before .before .before .before .before .pre in
+    let a = c .before .before .before .before .before .before .before .before .before .before .before .before .before .before .before .before .before .before .before .before .before .before .before .before .args in
+    let r = c .before .before .before .before .before .before .before .before .before .before .before .before .before .before .before .before .before .before .before .before .before .before .before .before .pre in
     let u : utf8 (a .line .now) ≡ true = sym (c .before .before .before .before .before .before .before .before .before .before .before .before .before .before .before .before .before .is-utf8 .ensures) ∙ not-false _ (c .before .before .before .before .before .before .before .before .before .before .before .before .before .before .before .before .if1 .left) in
     let i : blankIn (a .config .kind) (a .line .now) ≡ true = sym (c .before .before .before .before .before .before .before .before .before .before .before .before .before .before .before .is-blank-in .ensures) ∙ c .before .before .before .before .before .before .before .before .before .before .before .before .before .before .if2 .taken in
     let e = c .before .before .before .before .before .before .before .before .before .before .before .close-block in
     let y = c .before .before .before .bytes-at in
-    srt-blank (a .config) (segmentsOf (a .map .now)) (a .n) (a .counts) (a .columns) (a .block .now) (a .line .now) (e .result) _ _ _ _ _ _ _ u i (e .ensures .0) (c .before .before .before .before .before .if3 .left) (r .room-long) (e .ensures .1) (y .ensures .0) (y .ensures .1) (c .blank .ensures)
+    srt-blank (a .config) (segmentsBy (a .groups .now) (a .map .now)) (a .n) (a .counts) (a .columns) (a .block .now) (a .line .now) (e .result) _ _ _ _ _ _ _ u i (e .ensures .0) (c .before .before .before .before .before .if3 .left) (r .room-long) (e .ensures .1) (y .ensures .0) (y .ensures .1) (c .blank .ensures)
 
 add-if4 : tie.Need-add-if4
 add-if4 c = search needs
@@ -81,20 +81,20 @@ quiet-requires-3 c κs = search needs
 
 returns-4 : tie.Need-returns-4
 returns-4 c =
-    let a = c .before .before .before .before .before .before .before .before .before .before .before .args in
+    let a = c .before .before .before .before .before .before .before .before .before .before .before .before .args in
     let u : utf8 (a .line .now) ≡ true = sym (c .before .before .before .before .before .is-utf8 .ensures) ∙ not-false _ (c .before .before .before .before .if1 .left) in
     let i : blankIn (a .config .kind) (a .line .now) ≡ false = sym (c .before .before .before .is-blank-in .ensures) ∙ c .before .before .if2 .left in
-    srt-21 (a .config) (segmentsOf (a .map .now)) (a .n) (a .counts) (a .columns) (a .block .now) (a .line .now) _ _ _ u i (c .before .if4 .taken) (c .quiet3 .ensures)
+    srt-21 (a .config) (segmentsBy (a .groups .now) (a .map .now)) (a .n) (a .counts) (a .columns) (a .block .now) (a .line .now) _ _ _ u i (c .before .if4 .taken) (c .quiet3 .ensures)
 
 quiet-requires-4 : tie.Need-quiet-requires-4
 quiet-requires-4 c κs = search needs
 
 returns-5 : tie.Need-returns-5
 returns-5 c =
-    let a = c .before .before .before .before .before .before .before .before .before .before .before .args in
+    let a = c .before .before .before .before .before .before .before .before .before .before .before .before .args in
     let u : utf8 (a .line .now) ≡ true = sym (c .before .before .before .before .before .is-utf8 .ensures) ∙ not-false _ (c .before .before .before .before .if1 .left) in
     let i : blankIn (a .config .kind) (a .line .now) ≡ false = sym (c .before .before .before .is-blank-in .ensures) ∙ c .before .before .if2 .left in
-    srt-add (a .config) (segmentsOf (a .map .now)) (a .n) (a .counts) (a .columns) (a .block .now) (a .line .now) _ _ _ u i (c .before .if4 .left) (c .quiet4 .ensures)
+    srt-add (a .config) (segmentsBy (a .groups .now) (a .map .now)) (a .n) (a .counts) (a .columns) (a .block .now) (a .line .now) _ _ _ u i (c .before .if4 .left) (c .quiet4 .ensures)
 
 pub block-line-spec : {M : Type 1} → statement M
 block-line-spec =

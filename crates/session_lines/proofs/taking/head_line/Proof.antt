@@ -2,7 +2,7 @@ use mathlib.Core.Path.{_≡_, sym, _∙_}
 use mathlib.Core.Bool.{true, false}
 use borrow.Author.Tests.{not-true, not-false}
 use Rattle.spec_text.specs.utf8.Utf8.{utf8}
-use Rattle.spec_map.specs.segment.Segment.{segmentsOf}
+use Rattle.spec_caption.specs.caption_fate.Grouped.{segmentsBy}
 use Rattle.spec_format.specs.block_timing.Header.{isHeader}
 use Rattle.spec_session.proofs.session_lines.TellLaws.{head-20, head-24, head-said}
 use borrow.Author.Needs.{needs}
@@ -25,9 +25,9 @@ quiet-requires c κs = search needs
 
 returns : tie.Need-returns
 returns c =
-    let a = c .before .before .before .before .before .before .before .args in
+    let a = c .before .before .before .before .before .before .before .before .args in
     let u : utf8 (a .line .now) ≡ false = sym (c .before .before .is-utf8 .ensures) ∙ not-true _ (c .before .if1 .taken) in
-    head-20 (a .config) (segmentsOf (a .map .now)) (a .counts) (a .columns) (a .line .now) _ _ _ u (c .quiet .ensures)
+    head-20 (a .config) (segmentsBy (a .groups .now) (a .map .now)) (a .counts) (a .columns) (a .line .now) _ _ _ u (c .quiet .ensures)
 
 is-header-requires : tie.Need-is-header-requires
 is-header-requires c κs = search needs
@@ -37,10 +37,10 @@ quiet-requires-2 c κs = search needs
 
 returns-2 : tie.Need-returns-2
 returns-2 c =
-    let a = c .before .before .before .before .before .before .before .before .before .args in
+    let a = c .before .before .before .before .before .before .before .before .before .before .args in
     let u : utf8 (a .line .now) ≡ true = sym (c .before .before .before .before .is-utf8 .ensures) ∙ not-false _ (c .before .before .before .if1 .left) in
     let i : isHeader (a .line .now) ≡ false = sym (c .before .before .is-header .ensures) ∙ not-true _ (c .before .if2 .taken) in
-    head-24 (a .config) (segmentsOf (a .map .now)) (a .counts) (a .columns) (a .line .now) _ _ _ u i (c .quiet2 .ensures)
+    head-24 (a .config) (segmentsBy (a .groups .now) (a .map .now)) (a .counts) (a .columns) (a .line .now) _ _ _ u i (c .quiet2 .ensures)
 
 bytes-at-requires : tie.Need-bytes-at-requires
 bytes-at-requires c κs = search needs
@@ -56,11 +56,11 @@ same-length c = search needs
 
 returns-3 : tie.Need-returns-3
 returns-3 c =
-    let a = c .before .before .before .before .before .before .before .before .before .before .before .before .before .before .args in
+    let a = c .before .before .before .before .before .before .before .before .before .before .before .before .before .before .before .args in
     let u : utf8 (a .line .now) ≡ true = sym (c .before .before .before .before .before .before .before .before .before .is-utf8 .ensures) ∙ not-false _ (c .before .before .before .before .before .before .before .before .if1 .left) in
     let i : isHeader (a .line .now) ≡ true = sym (c .before .before .before .before .before .before .before .is-header .ensures) ∙ not-false _ (c .before .before .before .before .before .before .if2 .left) in
     let y = c .before .before .before .before .bytes-at .ensures in
-    head-said (a .config) (segmentsOf (a .map .now)) (a .counts) (a .columns) (a .line .now) _ _ _ _ _ _ u i (c .before .before .before .before .before .before .before .before .before .before .before .before .before .before .pre .room-long) (c .before .still .ensures) (y .0) (y .1) (c .blank .ensures)
+    head-said (a .config) (segmentsBy (a .groups .now) (a .map .now)) (a .counts) (a .columns) (a .line .now) _ _ _ _ _ _ u i (c .before .before .before .before .before .before .before .before .before .before .before .before .before .before .before .pre .room-long) (c .before .still .ensures) (y .0) (y .1) (c .blank .ensures)
 
 pub head-line-spec : {M : Type 1} → statement M
 head-line-spec =

@@ -1,4 +1,4 @@
-use Rattle.spec_session.proofs.session_state.ForeignLaws.{kept-many, kept-columns, kept-large, kept-held, kept-ass, kept-marks}
+use Rattle.spec_session.proofs.session_state.ForeignLaws.{kept-many, kept-columns, kept-held, kept-ass, kept-marks}
 use borrow.Author.Needs.{needs}
 use Rattle.session_state.proofs.whole.kept_bad.Statement.{statement}
 use Rattle.session_state.proofs.whole.kept_bad.Tie as tie
@@ -12,29 +12,23 @@ columns-bad-requires c κs = search needs
 returns-2 : tie.Need-returns-2
 returns-2 c = search kept-columns
 
-returns-3 : tie.Need-returns-3
-returns-3 c = search kept-large
-
-front-requires : tie.Need-front-requires
-front-requires c κs = search needs
-
 held-bad-requires : tie.Need-held-bad-requires
 held-bad-requires c κs = search needs
 
-returns-4 : tie.Need-returns-4
-returns-4 c = search kept-held
+returns-3 : tie.Need-returns-3
+returns-3 c = search kept-held
 
 outcome-bad-requires : tie.Need-outcome-bad-requires
 outcome-bad-requires c κs = search needs
 
-returns-5 : tie.Need-returns-5
-returns-5 c = search kept-ass
+returns-4 : tie.Need-returns-4
+returns-4 c = search kept-ass
 
 marks-bad-requires : tie.Need-marks-bad-requires
 marks-bad-requires c κs = search needs
 
-returns-6 : tie.Need-returns-6
-returns-6 c = search kept-marks
+returns-5 : tie.Need-returns-5
+returns-5 c = search kept-marks
 
 pub kept-bad-spec : {M : Type 1} → statement M
 kept-bad-spec =
@@ -43,11 +37,9 @@ kept-bad-spec =
     returns
     columns-bad-requires
     returns-2
-    returns-3
-    front-requires
     held-bad-requires
-    returns-4
+    returns-3
     outcome-bad-requires
-    returns-5
+    returns-4
     marks-bad-requires
-    returns-6)
+    returns-5)

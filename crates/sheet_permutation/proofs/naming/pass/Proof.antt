@@ -12,7 +12,7 @@ use Rattle.sheet_permutation.proofs.naming.pass.Tie as tie
 use Rattle.sheet_permutation.proofs.naming.pass.Reads as reads
 use Rattle.sheet_permutation.proofs.naming.pass.Lts as lts
 use Rattle.sheet_permutation.proofs.naming.decode_told.Reads as decode-told-reads
-use Rattle.sheet_permutation.proofs.marks.mark.Reads as mark-reads
+use Rattle.sheet_permutation.proofs.bits.set_bit.Reads as set-bit-reads
 
 abbrev Inv-loop : tie.InvT-loop
 Inv-loop s two n bits₀ i₀ bits i = (i ≤ n) × (length bits ≡ length bits₀) × Seen s i bits × (firstOf (repeatFault s n) i (n - i) ≡ firstOf (repeatFault s n) 0 n)
@@ -32,8 +32,8 @@ same-length c = search needs
 returns : tie.Need-returns Inv-loop μ-loop
 returns c = search repeat-high
 
-mark-requires : tie.Need-mark-requires Inv-loop μ-loop
-mark-requires c κs = search needs
+set-bit-requires : tie.Need-set-bit-requires Inv-loop μ-loop
+set-bit-requires c κs = search needs
 
 same-length-2 : tie.Need-same-length-2 Inv-loop μ-loop
 same-length-2 c = search needs
@@ -66,7 +66,7 @@ pass-spec =
     decode-told-requires
     same-length
     returns
-    mark-requires
+    set-bit-requires
     same-length-2
     returns-2
     add-i

@@ -1,0 +1,3 @@
+pub mod Slots
+pub mod Fields
+pub mod Listed

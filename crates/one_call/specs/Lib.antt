@@ -1,2 +1,0 @@
--- A whole text retimed at once.
-pub mod Lined

@@ -1,0 +1,4 @@
+// A session taken up, as `replay` prints it.
+mod taken;
+
+pub use taken::print_taken;
