@@ -2,10 +2,10 @@ use mathlib.Core.Path.{_≡_, refl, _∙_}
 use Prim.Native.Nat.{ℕ, _≤_}
 use native.Mathlib.Omega.{arith}
 use lib.ListN.{length, length-replicate}
-use Rattle.replay_feeds.proofs.RunLaws.{size-is, at-most, still-fits, fits-first, piece-less}
+use Rattle.replay_sessions.proofs.RunLaws.{size-is, at-most, still-fits, fits-first, piece-less}
 use borrow.Author.Needs.{needs}
-use Rattle.replay_feeds.proofs.running.feed_all.Statement.{statement}
-use Rattle.replay_feeds.proofs.running.feed_all.Tie as tie
+use Rattle.replay_sessions.proofs.running.feed_all.Statement.{statement}
+use Rattle.replay_sessions.proofs.running.feed_all.Tie as tie
 
 abbrev Inv-loop : tie.InvT-loop
 Inv-loop map text plan all₀ notes₀ places₀ t₀ draw₀ s₀ all notes places t draw s =

@@ -9,6 +9,21 @@ pub struct Plan {
     pub mark: u32,
 }
 
+// No parking.
+pub fn plain(cut: u32) -> Plan {
+    Plan {
+        cut,
+        every: 0,
+        mark: 2,
+    }
+}
+
+// A parking after every so many calls, with the mark that is the first byte of y.
+pub fn with_parkings(cut: u32, every: u32, y: &[u8]) -> Plan {
+    let mark = base::byte(y, 0) as u32;
+    Plan { cut, every, mark }
+}
+
 // A word's bytes at a place.
 fn word_at(bytes: &mut [u8], at: usize, w: u32) -> usize {
     let word = [

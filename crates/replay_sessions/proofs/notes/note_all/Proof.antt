@@ -1,8 +1,8 @@
 use mathlib.Core.Path.{_≡_}
 use lib.ListN.{length}
 use borrow.Author.Needs.{needs}
-use Rattle.replay_feeds.proofs.notes.note_all.Statement.{statement}
-use Rattle.replay_feeds.proofs.notes.note_all.Tie as tie
+use Rattle.replay_sessions.proofs.notes.note_all.Statement.{statement}
+use Rattle.replay_sessions.proofs.notes.note_all.Tie as tie
 
 abbrev Inv-loop : tie.InvT-loop
 Inv-loop notes₀ start places count at₀ t₀ left₀ notes at t left = length notes ≡ length notes₀

@@ -109,31 +109,6 @@ fn end_at(
     }
 }
 
-// The same; nothing where more was written than there is room for.
-pub fn end(
-    session: Session,
-    map: &[u64],
-    plan: Plan,
-    calls: u32,
-    all: &mut [u8],
-    notes: &mut [u8],
-    written: usize,
-    noted: usize,
-) -> Step
-    ensures { λ r. ⌜ r .written ≤ length (now (all .entry)) ⌝ }
-{
-    if all.len() < written {
-        return Step {
-            number: 16,
-            written: 0,
-            noted,
-            session,
-            calls,
-        };
-    }
-    end_at(session, map, plan, calls, all, notes, written, noted)
-}
-
 // Before the first call.
 fn begun(session: Session) -> Step
     ensures { λ r. ⌜ r .written ≡ 0 ⌝ }
@@ -148,7 +123,7 @@ fn begun(session: Session) -> Step
 }
 
 // The text fed in pieces cut by the plan.
-pub fn feed_all(
+fn feed_all(
     session: Session,
     map: &[u64],
     text: &[u8],
@@ -183,6 +158,27 @@ pub fn feed_all(
         }
         let u = base::rest(t, k);
         t = u;
+    }
+    s
+}
+
+// The text in pieces, then a finish where one is asked for.
+pub fn run(
+    session: Session,
+    map: &[u64],
+    text: &[u8],
+    plan: Plan,
+    ending: bool,
+    all: &mut [u8],
+    notes: &mut [u8],
+) -> Step {
+    let s = feed_all(session, map, text, plan, all, notes);
+    if s.number != 0 {
+        return s;
+    }
+    if ending {
+        let at = s.session;
+        return end_at(at, map, plan, s.calls, all, notes, s.written, s.noted);
     }
     s
 }

@@ -2,8 +2,8 @@ use Prim.Native.Nat.{_<_, _+_, _/_, _%_}
 use native.Mathlib.Nat.{mod-lt}
 use native.Mathlib.Omega.{arith}
 use borrow.Author.Needs.{needs}
-use Rattle.replay_feeds.proofs.pieces.piece_size.Statement.{statement}
-use Rattle.replay_feeds.proofs.pieces.piece_size.Tie as tie
+use Rattle.replay_sessions.proofs.pieces.piece_size.Statement.{statement}
+use Rattle.replay_sessions.proofs.pieces.piece_size.Tie as tie
 
 returns : tie.Need-returns
 returns c = search needs
