@@ -2,14 +2,14 @@
 use mathlib.Core.Path.{_≡_, refl, sym, ap, _∙_}
 use mathlib.Core.Bool.{Bool, true, false, cond}
 use mathlib.Core.List.{List, [], _∷_, _++_, append-assoc}
-use Prim.Native.Nat.{ℕ, zero, suc, _+_, _-_, _≤_, _<_, _^_}
+use Prim.Native.Nat.{ℕ, suc, _+_, _-_, _≤_, _<_, _^_}
 use native.Mathlib.Omega.{arith}
 use lib.Dec.{leb}
 use borrow.Author.Tests.{le-leb, lt-leb, leb-true, leb-false}
 use lib.Seq.{length-take-le}
 use lib.ListN.{length, take, drop, getD, replicate, length-append, length-drop, length-replicate}
 use Rattle.spec_base.specs.base.Put.{put, putAt, placed, placedLength, placedAt, placeAfter}
-use Rattle.spec_base.proofs.base.PutLaws.{put-at-front, putAt-put, putAt-nil, putAt-zero, then-put, at-yes, after-yes, placed-yes, placed-no, length-yes, length-no, length-tail, tail-back, length-put}
+use Rattle.spec_base.proofs.base.PutLaws.{put-at-front, putAt-put, putAt-nil, then-put, at-yes, after-yes, placed-yes, placed-no, length-yes, length-no, length-tail, tail-back, length-put}
 use Rattle.spec_caption.specs.caption_stamp.Write.{pad, width}
 use Rattle.spec_caption.proofs.caption_stamp.Pad.{pad-length}
 use Rattle.spec_json.specs.json.Quote.{decimal}
@@ -47,9 +47,6 @@ numbers-none [] h = refl
 numbers-none (n ∷ t) h = absurd (omega arith)
 
 -- ---- a number behind a space
-one-long : (x : ℕ) → length (x ∷ []) ≡ 1
-one-long x = refl
-
 spaced-from : (at from n : ℕ) (l : List ℕ) → at + length (spaced n) ≤ length l → from ≡ placeAfter at (32 ∷ []) l → from ≡ at + 1
 spaced-from at from n l h e = e ∙ after-yes at (32 ∷ []) l (omega (arith, spaced-length n))
 

@@ -1,10 +1,10 @@
 -- Laws of the map that is made, and of the op that is answered.
 use mathlib.Core.Path.{_≡_, refl, sym, ap, _∙_}
-use mathlib.Core.Bool.{Bool, true, false, cond}
+use mathlib.Core.Bool.{Bool, true, false}
 use mathlib.Core.List.{List}
 use Prim.Native.Nat.{ℕ, _≤_, _<_}
 use native.Mathlib.Omega.{arith}
-use lib.Dec.{eqb, ltb}
+use lib.Dec.{eqb}
 use lib.ListN.{length, take, replicate, length-replicate}
 use lib.Seq.{length-take-le}
 use borrow.Author.Tests.{eq-eqb, eqb-true, lt-ltb, le-ltb}
@@ -12,7 +12,7 @@ use Rattle.spec_base.specs.base.Limits.{mostWork}
 use Rattle.spec_base.proofs.base.Laws.{yes!, no! }
 use Rattle.spec_sheet.specs.checked_blocks.Block.{wordAt}
 use Rattle.spec_map.specs.declared.segmap.Made.{Made}
-use Rattle.spec_map.specs.segmap.Map.{Map, mapOf, madeOf}
+use Rattle.spec_map.specs.segmap.Map.{mapOf, madeOf}
 use Rattle.replay_ask.specs.Query.{isQuery}
 use Rattle.replay_json.specs.Query.{isTextQuery}
 use Rattle.replay_sessions.specs.Op.{isText}

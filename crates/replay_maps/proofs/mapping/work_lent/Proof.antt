@@ -1,6 +1,5 @@
 use native.Mathlib.Omega.{arith}
 use Rattle.replay_maps.proofs.MadeLaws.{lent-all, lent-most, lent-few}
-use borrow.Author.Needs.{needs}
 use Rattle.replay_maps.proofs.mapping.work_lent.Statement.{statement}
 use Rattle.replay_maps.proofs.mapping.work_lent.Tie as tie
 use Rattle.replay_maps.proofs.mapping.work_lent.Reads as reads
