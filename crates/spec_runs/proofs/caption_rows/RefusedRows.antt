@@ -6,7 +6,7 @@ use Rattle.spec_caption.specs.caption_fate.Fates.{passed, dropped, shifted, cli
 use Rattle.spec_caption.specs.caption_fate.Emit.{Emit, warning, emit, decided, outputOf, warningsOf, placesOf}
 use Rattle.spec_session.specs.session_counts.Counts.{howMany}
 use Rattle.spec_runs.specs.caption_rows.Cues.{unlessRefused}
-use Rattle.spec_runs.specs.one_call.Ran.{pieceEnd, tellsOf}
+use Rattle.spec_runs.specs.one_call.Ran.{tellsOf}
 use Rattle.spec_runs.specs.one_call.Text.{toldOf, unlessRefused as textUnless}
 
 pub refused-rows : (unlessRefused 0 (7 ∷ []) ≡ 7 ∷ []) × (unlessRefused 16 (7 ∷ []) ≡ []) × (textUnless 0 (7 ∷ []) ≡ 7 ∷ []) × (textUnless 15 (7 ∷ []) ≡ [])
@@ -34,8 +34,3 @@ told-row = refl
 -- the same seven of what the calls told together
 pub tells-row : tellsOf (record { number = 9; written = 11; warned = 4; counts = record { shifted = 1; clipped = 2; dropped = 3; passed = 4 } }) 13 ≡ 11 ∷ 4 ∷ 1 ∷ 2 ∷ 3 ∷ 4 ∷ 13 ∷ []
 tells-row = refl
-
--- pieces of 1,024 bytes; the last may be shorter
-pub piece-rows : pieceEnd 0 1023 ∷ pieceEnd 0 1024 ∷ pieceEnd 0 1025 ∷ pieceEnd 1024 1025 ∷ pieceEnd 1024 1024 ∷ [] ≡ 1023 ∷ 1024 ∷ 1024 ∷ 1025 ∷ 1024 ∷ []
-unfolding pieceEnd
-piece-rows = refl

@@ -1,4 +1,4 @@
--- Where pieces end; a text that has been fed, and its finish.
+-- A text that has been fed, and its finish.
 use mathlib.Core.Path.{_≡_, refl, sym, ap, subst, _∙_}
 use mathlib.Core.Bool.{Bool, true, false, cond}
 use mathlib.Core.List.{List, [], _++_}
@@ -30,49 +30,8 @@ use Rattle.promise.specs.Plain.{plainRead}
 use Rattle.promise.specs.Promise.{configOf}
 use Rattle.spec_runs.specs.declared.one_call.Ran.{Ran}
 use Rattle.spec_runs.specs.one_call.Text.{outputFor, placesFor, emitsFor}
-use Rattle.spec_runs.specs.one_call.Ran.{pieceEnd, RanText}
+use Rattle.spec_runs.specs.one_call.Ran.{RanText}
 use Rattle.spec_runs.proofs.one_call.StandLaws.{Stands, Over, stands-room, partsBehind, led-end, wrote-behind, over-plain}
-
--- ---- where a piece ends
-pub end-last : (i n : ℕ) → n < i + 1024 → n ≡ pieceEnd i n
-unfolding pieceEnd
-end-last i n h = sym (rw (lt-ltb n (i + 1024) h))
-
-pub end-next : (i n : ℕ) → i + 1024 ≤ n → i + 1024 ≡ pieceEnd i n
-unfolding pieceEnd
-end-next i n h = sym (rw (le-ltb n (i + 1024) h))
-
-pub record Ends (i e n : ℕ) : Type 0 where
-  pub lo : i < e
-  pub hi : e ≤ n
-  pub near : e ≤ i + 1024
-
-end-by : (i n : ℕ) (t : Bool) → ltb n (i + 1024) ≡ t → i < n → Ends i (cond t n (i + 1024)) n
-end-by i n true q h = record { lo = h; hi = omega arith; near = omega (arith, ltb-true n (i + 1024) q) }
-end-by i n false q h = record { lo = omega arith; hi = ltb-false n (i + 1024) q; near = omega arith }
-
-pub end-of : (i n e : ℕ) → e ≡ pieceEnd i n → i < n → Ends i e n
-unfolding pieceEnd
-end-of i n e q h = subst (λ (x : ℕ). Ends i x n) (sym q) (end-by i n (ltb n (i + 1024)) refl h)
-
-module _ (text : List ℕ) (i e : ℕ) (E : Ends i e (length text)) where
-  pub piece-length : length (take (e - i) (drop i text)) ≡ e - i
-  piece-length = length-take (e - i) (drop i text) ∙ omega (arith, length-drop i text, E .lo, E .hi)
-
-  pub front-length : length (take i text) ≡ i
-  front-length = length-take i text ∙ omega (arith, E .lo, E .hi)
-
-  pub front-is : take i text ++ take (e - i) (drop i text) ≡ take e text
-  front-is =
-      let q : i + (e - i) ≡ e = omega (arith, E .lo) in
-      sym (take-add i (e - i) text) ∙ ap (λ (k : ℕ). take k text) q
-
-  -- a piece is short, and the text up to its end too
-  pub piece-short : length (take (e - i) (drop i text)) ≤ 1024
-  piece-short = omega (arith, piece-length, E .near)
-
-  pub piece-taken : length text ≤ mostTaken → length (take i text) + length (take (e - i) (drop i text)) ≤ mostTaken
-  piece-taken h = omega (arith, piece-length, front-length, E .lo, E .hi)
 
 -- the first i bytes have been fed
 pub record At (c : Config) (m text : List ℕ) (i : ℕ) (s : Session) (o w : ℕ) (out₀ out places₀ places : List ℕ) : Type 0 where
