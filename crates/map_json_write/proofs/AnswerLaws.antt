@@ -1,15 +1,15 @@
 -- Laws of the writer's answer.
-use mathlib.Core.Path.{_≡_, refl, sym, ap, subst, _∙_}
+use mathlib.Core.Path.{_≡_, refl, sym, ap, _∙_}
 use mathlib.Core.Bool.{Bool, true, false, not, cond, true≢false}
-use mathlib.Core.List.{List, [], _∷_}
-use Prim.Native.Nat.{ℕ, zero, suc, _+_, _*_, _%_, _≤_, _<_}
+use mathlib.Core.List.{List, []}
+use Prim.Native.Nat.{ℕ, zero, suc, _*_, _%_, _≤_, _<_}
 use native.Mathlib.Omega.{arith}
-use borrow.Author.Tests.{le-leb, lt-leb, leb-true, eq-eqb, ne-eqb, not-true, not-false, ltb-false}
+use borrow.Author.Tests.{le-leb, lt-leb, leb-true, ne-eqb, not-true, not-false, ltb-false}
 use lib.Dec.{eqb, ltb, leb}
 use lib.ListN.{length}
 use Rattle.spec_base.specs.base.Limits.{mostSegments}
 use Rattle.spec_base.specs.base.Refusal.{_orElse_, faultUnless}
-use Rattle.spec_base.specs.base.Put.{put, putAt}
+use Rattle.spec_base.specs.base.Put.{put}
 use Rattle.spec_base.proofs.base.PutLaws.{put-nil, putAt-zero}
 use Rattle.spec_text.specs.utf8.Utf8.{utf8}
 use Rattle.spec_caption.specs.caption_time.Convert.{timescaleBad}
@@ -17,7 +17,6 @@ use Rattle.spec_map.specs.segment.Segment.{segmentsOf, anyBad, mapBad}
 use Rattle.spec_json.specs.map_json_write.Names.{mostPath}
 use Rattle.spec_json.specs.map_json_write.Text.{mapText}
 use Rattle.map_json_write.specs.Written.{Written}
-use Rattle.spec_json.specs.declared.map_json_write.Wrote.{Wrote}
 use Rattle.spec_json.specs.map_json_write.MapWritten.{askedNumber, writeNumber, whenDone, Writes}
 
 abbrev byTests : (a b c d : Bool) → ℕ

@@ -1,7 +1,7 @@
 -- The text of a map as its pieces one behind the other.
 use mathlib.Core.Path.{_≡_, refl, sym, ap, subst, _∙_}
 use mathlib.Core.List.{List, [], _∷_, _++_, append-assoc, append-nil}
-use Prim.Native.Nat.{ℕ, zero, suc, _+_, _*_, _-_, _≤_, _<_}
+use Prim.Native.Nat.{ℕ, _+_, _*_, _-_, _≤_, _<_}
 use native.Mathlib.Omega.{arith}
 use lib.ListN.{length, drop, getD, length-drop}
 use Rattle.spec_base.specs.base.Ascii.{ascii}
@@ -12,7 +12,7 @@ use Rattle.spec_json.specs.json.Member.{Member}
 use Rattle.spec_json.specs.json.Quote.{escaped, escapedAll, quoted, decimal}
 use Rattle.spec_json.specs.json.Pretty.{itemLines, memberLine, memberLines, prettyObject, prettyArray}
 use Rattle.spec_json.specs.map_json_write.Text.{field, line0, line2, line4, line6, segmentFirst, segmentRest, segmentText, segmentTexts, listText, mapRest, mapText}
-use Rattle.spec_json.specs.map_json_write.Names.{timescaleName, rateNumName, rateDenName, inputName, framesName, segmentsName, firstName, lastName, sourceName, countName, outputName, durationName}
+use Rattle.spec_json.specs.map_json_write.Names.{timescaleName, rateNumName, rateDenName, inputName, framesName, segmentsName}
 use Rattle.map_json_write.specs.Written.{Written, threeText, segmentAt, frontText, backText, ratesText, pathText, headText, tailText, restText}
 use Rattle.map_json_write.proofs.WrittenLaws.{written-then, written-is}
 use Rattle.spec_base.proofs.base.PutLaws.{putAt-nil}

@@ -1,17 +1,15 @@
 -- Laws of pieces written one behind the other.
-use mathlib.Core.Path.{_≡_, refl, sym, ap, subst, _∙_}
-use mathlib.Core.Bool.{Bool, true, false, cond}
-use mathlib.Core.List.{List, [], _∷_, _++_, append-assoc, append-nil}
-use Prim.Native.Nat.{ℕ, zero, suc, _+_, _*_, _-_, _^_, _≤_, _<_}
+use mathlib.Core.Path.{_≡_, sym, ap, subst, _∙_}
+use mathlib.Core.List.{List, _++_, append-assoc}
+use Prim.Native.Nat.{ℕ, _+_, _-_, _^_, _≤_, _<_}
 use native.Mathlib.Omega.{arith}
-use native.Mathlib.Nat.{le-of-eq}
-use lib.ListN.{length, take, drop, getD, length-append, length-drop, length-take, take-append-drop}
-use lib.Seq.{drop-drop, take-all, length-take-le, take-append-seam, drop-append-seam, take-at, drop-at}
+use lib.ListN.{length, take, drop, length-append, length-drop}
+use lib.Seq.{drop-drop, length-take-le, take-at, drop-at}
 use Rattle.spec_base.specs.base.Put.{put, putAt, placed, placedAt}
-use Rattle.spec_base.proofs.base.PutLaws.{at-yes, length-tail, placed-yes, tail-back, length-put, putAt-put, putAt-nil}
+use Rattle.spec_base.proofs.base.PutLaws.{at-yes, length-tail, placed-yes, tail-back, length-put}
 use Rattle.spec_caption.specs.caption_stamp.Write.{pad, width}
 use Rattle.spec_caption.proofs.caption_stamp.Pad.{pad-length, width-bound}
-use Rattle.spec_json.specs.json.Quote.{decimal, quoted}
+use Rattle.spec_json.specs.json.Quote.{decimal}
 use Rattle.map_json_write.specs.Written.{Written, threeText}
 
 pub bytes-written : (at n : ℕ) (s l l′ : List ℕ) → n ≡ at + length s → l′ ≡ placedAt at s l → Written at s l n l′

@@ -2,7 +2,7 @@
 use mathlib.Core.Path.{_≡_, refl, sym, ap, _∙_}
 use mathlib.Core.Bool.{Bool, true, false, cond, _&&_, _||_}
 use mathlib.Core.List.{List, [], _∷_, _++_}
-use Prim.Native.Nat.{ℕ, zero, suc, _+_}
+use Prim.Native.Nat.{ℕ, _+_}
 use borrow.Author.Tests.{eqb-true, eqb-false, eq-eqb, ne-eqb}
 use lib.Dec.{eqb, leb}
 use lib.ListN.{length, drop}
@@ -11,14 +11,14 @@ use Rattle.spec_base.specs.base.Refusal.{_orElse_, faultUnless}
 use Rattle.spec_text.specs.utf8.Utf8.{utf8}
 use Rattle.spec_text.specs.pattern.Find.{starts, equals}
 use Rattle.spec_text.specs.text.Line.{textOf}
-use Rattle.spec_caption.specs.caption_fate.Says.{Part, stays, notUtf8, badHeader}
+use Rattle.spec_caption.specs.caption_fate.Says.{stays, notUtf8, badHeader}
 use Rattle.spec_format.specs.block_timing.Header.{webvtt, partsWord, isHeader, headerDue}
 use Rattle.spec_format.specs.whole.Srt.{blocksOf}
 use Rattle.spec_session.specs.session_counts.Machine.{Machine, Says, faulty, says}
 use Rattle.spec_session.specs.session_counts.Reader.{Reading, fails, _⊕_, readLine, readClose}
 use Rattle.spec_session.specs.kinds.Takes.{State, blankState, headTakes, takes, ends, machineOf}
 use Rattle.spec_session.proofs.kinds.KindLaws.{takes-vtt, ends-vtt}
-use Rattle.promise.specs.Plain.{lineFault, unlessFault, headWord, headed, headFault, vttRead, blocksRead}
+use Rattle.promise.specs.Plain.{lineFault, unlessFault, headed, headFault, vttRead, blocksRead}
 use Rattle.promise.proofs.Bare.{passed, endOf, readAll}
 use Rattle.promise.proofs.PlainAss.{rest-behind, ending}
 use Rattle.promise.proofs.PlainBlocks.{due-past, block-lines}

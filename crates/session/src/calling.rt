@@ -9,9 +9,7 @@ use spec_session::session::Fed;
 use spec_session::session::Going;
 use spec_session::session::Opened;
 ghost use mathlib.Core.Path.{_≡_};
-ghost use Prim.Native.Nat.{_≤_};
-ghost use lib.ListN.{length, replicate, drop};
-ghost use Rattle.spec_base.specs.base.Put.{put};
+ghost use lib.ListN.{length, replicate};
 ghost use Rattle.spec_session.specs.kinds.Takes.{noColumns};
 ghost use Rattle.spec_session.specs.session.SessionCalls.{Answered, OpenAnswered, feedCall, finishCall, openOf, lengthsBad, refusalOf, beginAt, endedSession, unchangedFed, endedFed, heldFed};
 

@@ -6,10 +6,10 @@ use mathlib.Core.Path.{_≡_, refl, sym, ap, _∙_}
 use mathlib.Core.List.{List, [], _∷_, _++_, append-assoc, append-nil}
 use Prim.Native.Nat.{ℕ, zero, suc, _+_, _-_, _≤_, _<_}
 use native.Mathlib.Omega.{arith}
-use native.Mathlib.Nat.{le-refl, le-of-eq, not-suc-le-zero, zero-add}
+use native.Mathlib.Nat.{le-of-eq, not-suc-le-zero, zero-add}
 use native.Mathlib.Numerals.{add-one}
 use lib.ListN.{length, take, drop, getD, set, length-append, length-drop, length-take, drop-of-length-le, take-append-drop}
-use lib.Seq.{sets, sets-eq, take-all, take-at, drop-at, take-suc, drop-drop, drop-cons, set-at, length-take-le, take-append-seam, drop-append-seam}
+use lib.Seq.{sets, sets-eq, take-all, take-suc, drop-drop, length-take-le, take-append-seam, drop-append-seam}
 use Rattle.spec_base.specs.base.Put.{put, putAt, placed, placedLength, placedAt, placeAfter}
 
 pub put-nil : (l : List ℕ) → put [] l ≡ l

@@ -8,7 +8,7 @@ use lib.Dec.{leb, ltb, eqb}
 use lib.ListN.{length}
 use native.Mathlib.Nat.{mul-le-mul, mul-le-mul-right}
 use native.Mathlib.Omega.{arith}
-use borrow.Author.Tests.{leb-true, lt-ltb, ne-eqb, eq-eqb, eqb-true, ltb-false}
+use borrow.Author.Tests.{leb-true, lt-ltb, ne-eqb, eq-eqb, eqb-true}
 use Rattle.spec_base.specs.base.Limits.{mostHours, mostMinutes, mostSeconds, mostUnits}
 use Rattle.spec_base.proofs.base.Laws.{yes!, no! }
 use Rattle.spec_text.specs.declared.text.Number.{Number}

@@ -1,13 +1,13 @@
 -- Laws of what a line says, case by case, and of what the functions of a line tell.
 use mathlib.Core.Path.{_≡_, refl, sym, ap, subst, _∙_}
 use mathlib.Core.Bool.{Bool, true, false, cond}
-use mathlib.Core.List.{List, [], _∷_, _++_}
-use Prim.Native.Nat.{ℕ, zero, suc, _+_, _*_, _-_, _/_, _≤_, _<_}
+use mathlib.Core.List.{List, [], _∷_}
+use Prim.Native.Nat.{ℕ, suc, _+_, _*_, _-_, _/_, _≤_, _<_}
 use native.Mathlib.Omega.{arith}
 use native.Mathlib.Numerals.{add-one}
 use borrow.Author.Tests.{lt-ltb, le-ltb, eq-eqb, ne-eqb, leb-true, leb-false}
 use lib.Dec.{eqb, ltb, leb}
-use lib.ListN.{length, take, drop, length-append, length-drop}
+use lib.ListN.{length, drop, length-append, length-drop}
 use Rattle.spec_base.specs.base.Put.{put}
 use Rattle.spec_text.specs.whitespace.White.{trim}
 use Rattle.spec_text.specs.pattern.Find.{starts, equals}
@@ -21,7 +21,7 @@ use Rattle.spec_caption.specs.declared.caption_fate.Config.{Config}
 use Rattle.spec_caption.specs.declared.caption_fate.Told.{Told}
 use Rattle.spec_caption.specs.caption_fate.Decide.{decideIn}
 use Rattle.spec_caption.specs.caption_fate.Fates.{passed}
-use Rattle.spec_caption.specs.caption_fate.Says.{Reason, unplaced, short, reasonNumber, Part, stays, passes, cue, badTime}
+use Rattle.spec_caption.specs.caption_fate.Says.{Reason, unplaced, short, reasonNumber, stays, passes}
 use Rattle.spec_caption.specs.caption_fate.Emit.{none, decided, emit, emitBy, warning}
 use Rattle.spec_caption.specs.caption_fate.Told.{refusal, answered, cueIn, partIn, Tells, refusedWith}
 use Rattle.spec_caption.proofs.caption_fate.TellLaws.{tells-same, tells-refused}
@@ -29,7 +29,7 @@ use Rattle.spec_format.specs.declared.ass_columns.Columns.{Columns}
 use Rattle.spec_format.specs.ass_columns.Columns.{columnsIn, fields, fieldAt}
 use Rattle.spec_format.specs.ass_columns.Section.{eventsName, bracketed, inside, inSection}
 use Rattle.spec_format.specs.ass_write.Frame.{lineFrame, frameMost}
-use Rattle.spec_format.specs.ass_line.Line.{formatWord, dialogueWord, commentWord, LineSays, faulty, says, lineCue, timesSay, captionSays, wordSays, textSays, lineSays}
+use Rattle.spec_format.specs.ass_line.Line.{formatWord, dialogueWord, commentWord, LineSays, says, lineCue, timesSay, captionSays, wordSays, textSays, lineSays}
 use Rattle.spec_format.specs.ass_line.AssThrough.{columnsAfter, lineAnswerIn, lineIn, columnsNext, stayedWith}
 use Rattle.spec_format.proofs.ass_line.TellLaws.{tells-stayed}
 use Rattle.spec_format.proofs.ass_write.FitLaws.{line-most}

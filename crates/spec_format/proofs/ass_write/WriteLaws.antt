@@ -2,7 +2,7 @@
 use mathlib.Core.Path.{_≡_, refl, sym, ap, subst, _∙_}
 use mathlib.Core.Bool.{Bool, true, false, cond}
 use mathlib.Core.List.{List, [], _∷_, _++_, append-assoc, append-nil}
-use Prim.Native.Nat.{ℕ, zero, suc, _+_, _-_, _≤_, _<_}
+use Prim.Native.Nat.{ℕ, suc, _+_, _-_, _≤_, _<_}
 use native.Mathlib.Omega.{arith}
 use native.Mathlib.Nat.{zero-add}
 use native.Mathlib.Numerals.{add-one}
@@ -10,13 +10,12 @@ use borrow.Author.Tests.{leb-true, eq-eqb, ne-eqb}
 use lib.Dec.{eqb, leb}
 use lib.ListN.{length, take, drop, length-append, length-take, length-drop}
 use Rattle.spec_base.specs.base.Put.{put, putAt, placed, placedLength, placedAt, placeAfter}
-use Rattle.spec_base.proofs.base.PutLaws.{put-nil, length-put, take-put, placed-yes, length-yes, then-placed}
+use Rattle.spec_base.proofs.base.PutLaws.{put-nil, take-put, placed-yes, length-yes, then-placed}
 use Rattle.spec_text.specs.pattern.Find.{first}
 use Rattle.spec_caption.specs.caption_fate.Says.{Piece, bytes, start, stop}
 use Rattle.spec_caption.specs.caption_fate.Emit.{render}
-use Rattle.spec_format.specs.declared.ass_columns.Columns.{Columns}
 use Rattle.spec_format.specs.ass_columns.Columns.{fields}
-use Rattle.spec_format.specs.ass_write.Frame.{pieceAt, fieldPieces, lineFrame, pieceText, framePlaced, frameAfter}
+use Rattle.spec_format.specs.ass_write.Frame.{pieceAt, fieldPieces, pieceText, framePlaced, frameAfter}
 use Rattle.spec_format.proofs.ass_columns.FieldLaws.{fields-none, fields-least, head-last, head-two, head-more}
 use Rattle.spec_text.specs.pattern.Piece.{comma}
 

@@ -27,7 +27,7 @@ use Rattle.spec_caption.specs.caption_fate.Emit.{render}
 use Rattle.spec_format.specs.declared.ass_columns.Columns.{Columns}
 use Rattle.spec_format.specs.ass_columns.Columns.{columnsIn, fields, fieldAt}
 use Rattle.spec_format.specs.ass_columns.Section.{eventsName, bracketed, inside, inSection}
-use Rattle.spec_format.specs.ass_write.Tags.{tags, holdsAny, tagged}
+use Rattle.spec_format.specs.ass_write.Tags.{holdsAny, tagged}
 use Rattle.spec_format.specs.ass_write.Frame.{fieldPieces, lineFrame}
 use Rattle.spec_format.proofs.ass_columns.ColumnLaws.{Apart, format-apart}
 use Rattle.spec_format.proofs.ass_columns.FieldLaws.{at-none, fields-most}

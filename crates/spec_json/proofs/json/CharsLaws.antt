@@ -1,21 +1,18 @@
 -- Laws of the characters of a string, as the loops over them have them.
-use mathlib.Core.Path.{_≡_, refl, sym, ap, subst, _∙_}
+use mathlib.Core.Path.{_≡_, refl, sym, ap, _∙_}
 use mathlib.Core.Bool.{Bool, true, false, cond, true≢false}
 use mathlib.Core.List.{List, [], _∷_, _++_, append-assoc}
-use Prim.Native.Nat.{ℕ, zero, suc, _+_, _*_, _-_, _^_, _≤_, _<_}
+use Prim.Native.Nat.{ℕ, zero, suc, _+_, _-_, _^_, _≤_, _<_}
 use native.Mathlib.Omega.{arith}
-use native.Mathlib.Numerals.{add-one}
 use borrow.Author.Tests.{eq-eqb, ne-eqb, eqb-true, eqb-false}
-use lib.Dec.{eqb, ltb}
+use lib.Dec.{eqb}
 use lib.ListN.{length, take, drop, getD, length-drop, length-append, drop-of-length-le, take-append-drop}
-use lib.Seq.{getD-drop, drop-drop, drop-nil, take-at, drop-at, take-all, length-take-le}
+use lib.Seq.{getD-drop, drop-drop, take-at, drop-at, take-all, length-take-le}
 use Rattle.spec_base.specs.base.Width.{byWidth}
 use Rattle.spec_base.specs.base.Put.{put, placed, placedLength, placedAt, placeAfter}
 use Rattle.spec_base.proofs.base.Laws.{yes!, no! }
 use Rattle.spec_base.proofs.base.PutLaws.{then-placed, put-nil, length-put, length-yes, placed-yes, not-copied}
 use Rattle.spec_text.specs.pattern.Find.{starts, equals}
-use Rattle.spec_json.specs.declared.json.Piece.{Piece}
-use Rattle.spec_json.specs.json.Piece.{PieceOf}
 use Rattle.spec_json.specs.json.Space.{more, joined}
 use Rattle.spec_json.specs.json.Str.{charWide, charBytes, charsWidth, charsBytes, stringWidth, stringBytes}
 use Rattle.spec_json.proofs.json.NumberLaws.{more-some}

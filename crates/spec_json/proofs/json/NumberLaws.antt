@@ -1,21 +1,19 @@
 -- Laws of numbers, as the code walks them.
 use mathlib.Core.Path.{_≡_, refl, sym, ap, subst, _∙_}
-use mathlib.Core.Bool.{Bool, true, false, _&&_, _||_, not, cond, true≢false}
+use mathlib.Core.Bool.{Bool, true, false, _&&_, not, cond, true≢false}
 use mathlib.Core.List.{List, [], _∷_}
 use Prim.Native.Nat.{ℕ, zero, suc, _+_, _*_, _-_, _/_, _^_, _≤_, _<_}
-use native.Mathlib.Nat.{le-trans, not-suc-le-zero}
+use native.Mathlib.Nat.{le-trans}
 use native.Mathlib.Omega.{arith}
 use native.Mathlib.Numerals.{add-one}
 use borrow.Author.Tests.{eq-eqb, ne-eqb, le-leb, lt-leb, eqb-true, eqb-false, not-true, not-false}
 use lib.Dec.{eqb, leb}
 use lib.ListN.{length, drop, getD, length-drop, drop-of-length-le}
 use lib.Seq.{drop-cons}
-use Rattle.spec_base.specs.base.Width.{byWidth}
 use Rattle.spec_base.proofs.base.Laws.{yes!, no!, and-left, and-right}
 use Rattle.spec_text.specs.text.Number.{digit, digits, valueFrom}
 use Rattle.spec_text.specs.text.Line.{isEmpty}
-use Rattle.spec_text.proofs.text.Laws.{digit-low, digit-high, digit-some, digits-other, digits-more, digits-end, value-step, value-end, value-more}
-use Rattle.spec_json.specs.declared.json.Plain.{Plain}
+use Rattle.spec_text.proofs.text.Laws.{digit-low, digit-high, digit-some, digits-other, digits-end, value-step, value-end, value-more}
 use Rattle.spec_json.specs.declared.json.Plain.the-variants.{Value, Bad}
 use Rattle.spec_json.specs.json.Space.{more}
 use Rattle.spec_json.specs.json.Num.{digitRun, intWidth, minusWidth, fracWidth, isExp, signWidth, signed, expWidth, tailWidth, numberWidth, isPlain}

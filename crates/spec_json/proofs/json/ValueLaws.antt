@@ -1,28 +1,25 @@
 -- Laws of values, as the code walks them: sizes, one item of a row, and fuel.
 use mathlib.Core.Path.{_≡_, refl, sym, ap, subst, _∙_}
-use mathlib.Core.Bool.{Bool, true, false, not, _||_, cond, true≢false}
-use mathlib.Core.List.{List, [], _∷_, _++_}
-use Prim.Native.Nat.{ℕ, zero, suc, _+_, _*_, _-_, _^_, _≤_, _<_}
+use mathlib.Core.Bool.{Bool, true, false, cond, true≢false}
+use mathlib.Core.List.{List, [], _∷_}
+use Prim.Native.Nat.{ℕ, zero, suc, _+_, _-_, _^_, _≤_, _<_}
 use native.Mathlib.Omega.{arith}
-use native.Mathlib.Nat.{zero-add}
 use native.Mathlib.Numerals.{add-one}
-use borrow.Author.Tests.{eq-eqb, ne-eqb, eqb-true, eqb-false, not-true, not-false}
-use lib.Dec.{eqb, ltb, leb}
-use lib.ListN.{length, take, drop, getD, length-drop, drop-of-length-le}
-use lib.Seq.{drop-drop, drop-length}
+use borrow.Author.Tests.{eq-eqb, ne-eqb, eqb-true}
+use lib.Dec.{eqb}
+use lib.ListN.{length, drop, getD, length-drop}
 use Rattle.spec_base.specs.base.Ascii.{ascii}
 use Rattle.spec_base.specs.base.Width.{byWidth}
 use Rattle.spec_base.proofs.base.Laws.{yes!, no! }
 use Rattle.spec_text.specs.pattern.Find.{starts}
-use Rattle.spec_json.specs.json.Space.{spaces, more, joined, padded}
+use Rattle.spec_json.specs.json.Space.{spaces, joined, padded}
 use Rattle.spec_json.specs.json.Str.{stringWidth}
 use Rattle.spec_json.specs.json.Num.{numberWidth}
-use Rattle.spec_json.specs.json.Value.{literalWidth, scalarWidth, colonAt, keyWidth, memberWidth, rowWidth, insideWidth, valueWidth}
-use Rattle.spec_json.specs.json.Walk.{isOpen, closeOf, leadWidth, itemWidth}
+use Rattle.spec_json.specs.json.Value.{literalWidth, scalarWidth, colonAt, keyWidth, memberWidth, rowWidth}
 use Rattle.spec_json.proofs.json.SpaceLaws.{spaces-le}
-use Rattle.spec_json.proofs.json.NumberLaws.{number-le, more-some}
+use Rattle.spec_json.proofs.json.NumberLaws.{number-le}
 use Rattle.spec_json.proofs.json.StringLaws.{in-text}
-use Rattle.spec_json.proofs.json.CharsLaws.{string-le, joined-more, joined-twice, more-joined}
+use Rattle.spec_json.proofs.json.CharsLaws.{string-le}
 
 -- ---- scalars
 starts-le : (p s : List ℕ) → starts p s ≡ true → length p ≤ length s

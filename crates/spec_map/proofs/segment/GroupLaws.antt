@@ -1,5 +1,5 @@
 -- Laws of a map in groups, and of small numbers.
-use mathlib.Core.Path.{_≡_, refl, sym, ap, subst, _∙_}
+use mathlib.Core.Path.{_≡_, refl, sym, ap, _∙_}
 use mathlib.Core.Bool.{Bool, true, false, cond, _&&_, not, true≢false}
 use mathlib.Core.List.{List, [], _∷_, _++_, append-assoc}
 use Prim.Native.Nat.{ℕ, zero, suc, _+_, _-_, _*_, _/_, _%_, _^_, _≤_, _<_, min, max}
@@ -10,7 +10,7 @@ use lib.ListN.{length, take, drop, getD, length-drop, length-append, length-take
 use lib.Seq.{length-take-le}
 use Rattle.spec_base.specs.base.Limits.{mostFrame, mostTicks, mostSegments}
 use Rattle.spec_base.specs.base.Put.{put, putAt, placedAt, placeAfter}
-use Rattle.spec_base.proofs.base.Laws.{and-left, and-right, and-false, and-true, yes!, no! }
+use Rattle.spec_base.proofs.base.Laws.{and-left, and-right, and-false}
 use Rattle.spec_base.proofs.base.PutLaws.{put-nil, putAt-zero, putAt-nil, at-yes, after-yes, then-put, put-at-front, length-put}
 use Rattle.spec_map.specs.declared.segment.Segment.{Segment}
 use Rattle.spec_map.specs.declared.segment.Surveyed.{Surveyed}

@@ -1,12 +1,12 @@
 -- Laws of a whole list for the crates above: its number is from document 01's table, and where that is 0, what its ranges keep to.
 use mathlib.Core.Path.{_≡_, refl, sym, ap, subst, _∙_}
 use mathlib.Core.Logic.{_⊎_, inl, inr, ⊎-elim}
-use mathlib.Core.Bool.{Bool, true, false, cond, not}
+use mathlib.Core.Bool.{Bool, true, false}
 use mathlib.Core.List.{List, [], _∷_}
-use Prim.Native.Nat.{ℕ, zero, suc, _+_, _*_, _-_, _≤_, _<_}
+use Prim.Native.Nat.{ℕ, zero, suc, _+_, _*_, _≤_, _<_}
 use native.Mathlib.Omega.{arith}
 use borrow.Author.Tests.{le-leb, lt-leb, eq-eqb, ne-eqb, leb-true}
-use lib.Dec.{eqb, ltb, leb}
+use lib.Dec.{leb}
 use lib.ListN.{length, take, getD}
 use Rattle.spec_base.specs.base.Limits.{mostListBytes, mostTrims, mostPlaces, mostFrame}
 use Rattle.spec_base.specs.base.Refusal.{_orElse_, faultUnless}
@@ -16,8 +16,7 @@ use Rattle.spec_base.proofs.base.RefusalLaws.{else-zero, else-none, held, unles
 use Rattle.spec_base.proofs.base.PutLaws.{take-put}
 use Rattle.spec_text.specs.utf8.Utf8.{utf8}
 use Rattle.spec_text.specs.text.Line.{blank}
-use Rattle.spec_map.specs.declared.trim.Parsed.{Parsed}
-use Rattle.spec_map.specs.trim.TrimList.{tokensOf, listTokens, tokensNumber, headNumber, listNumber, rangeCount, rangesOf, parsed, listAnswer, parseNumber, parseOf, rangePlaces}
+use Rattle.spec_map.specs.trim.TrimList.{tokensOf, listTokens, tokensNumber, headNumber, listNumber, rangeCount, rangesOf, listAnswer, parseNumber, parseOf, rangePlaces}
 use Rattle.spec_map.proofs.trim.TokensLaws.{Ascending, zero-taken, number-table, tokens-one}
 
 -- ---- the numbers

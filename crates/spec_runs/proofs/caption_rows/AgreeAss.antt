@@ -2,7 +2,7 @@
 use mathlib.Core.Path.{_≡_, refl, sym, ap, ap₂, subst, _∙_}
 use mathlib.Core.Bool.{Bool, true, false, cond}
 use mathlib.Core.List.{List, [], _∷_, _++_, append-assoc, append-nil}
-use Prim.Native.Nat.{ℕ, zero, suc, _+_, _-_, _≤_, _<_}
+use Prim.Native.Nat.{ℕ, zero, suc, _+_, _-_}
 use native.Mathlib.Omega.{arith}
 use borrow.Author.Tests.{ne-eqb}
 use lib.Dec.{eqb, ltb}
@@ -13,7 +13,7 @@ use Rattle.spec_text.specs.text.Line.{linesOf, concat, lineCount, textOf, termi
 use Rattle.spec_caption.specs.declared.caption_stamp.Time.{Time}
 use Rattle.spec_caption.specs.declared.caption_stamp.Time.the-variants.{At, Bad}
 use Rattle.spec_caption.specs.caption_stamp.Read.{timeIn}
-use Rattle.spec_caption.specs.caption_fate.Says.{unplaced, short, reasonNumber, Cue, Part, stays, passes, cue, Fault, longLine, notUtf8, longBlock, badTime, badHeader, faultNumber}
+use Rattle.spec_caption.specs.caption_fate.Says.{unplaced, short, reasonNumber, Part, stays, passes, cue, Fault, longLine, notUtf8, longBlock, badTime, badHeader, faultNumber}
 use Rattle.spec_caption.specs.caption_fate.Bom.{behindBom}
 use Rattle.spec_format.specs.declared.ass_columns.Columns.{Columns}
 use Rattle.spec_format.specs.ass_columns.Columns.{columnsIn, fields, fieldAt}
@@ -24,8 +24,8 @@ use Rattle.spec_session.specs.session_counts.Reader.{Reading, fails, _⊕_}
 use Rattle.promise.specs.Plain.{bomLength, lineFault, unlessFault, lineThen, assRead}
 use Rattle.promise.proofs.LinesCut.{many-append, concat-append}
 use Rattle.spec_runs.specs.declared.caption_rows.Said.{Said}
-use Rattle.spec_runs.specs.caption_rows.Said.{wordsLength, atFault, captionSaid, partSaid, lineSaid}
-use Rattle.spec_runs.specs.caption_rows.Walk.{Walk, stopped, sixSaid, rowsSaid, onward, _then_, assTurn, assNext, assWalk}
+use Rattle.spec_runs.specs.caption_rows.Said.{wordsLength, atFault, partSaid, lineSaid}
+use Rattle.spec_runs.specs.caption_rows.Walk.{Walk, stopped, rowsSaid, onward, _then_, assTurn, assNext, assWalk}
 use Rattle.spec_runs.specs.caption_rows.Cues.{linesBefore, lineOf, lineAt, wordsAt, captionRow, rowsOf}
 
 -- ---- a walk and a reading agree

@@ -1,5 +1,5 @@
 -- A caption takes eight bytes or more of its text: `walk-within`. So six places for each eight bytes are enough: `places-sure`.
-use mathlib.Core.Path.{_≡_, refl, sym, ap, ap₂, subst, _∙_}
+use mathlib.Core.Path.{_≡_, refl, sym, ap, _∙_}
 use mathlib.Core.Bool.{Bool, true, false, cond}
 use mathlib.Core.List.{List, [], _∷_, _++_}
 use Prim.Native.Nat.{ℕ, zero, suc, _+_, _*_, _/_, _≤_}
@@ -20,7 +20,7 @@ use Rattle.spec_caption.specs.caption_fate.Bom.{startsBom, behindBom}
 use Rattle.spec_format.specs.declared.ass_columns.Columns.{Columns}
 use Rattle.spec_format.specs.ass_columns.Columns.{noColumns, columnsIn}
 use Rattle.spec_format.specs.ass_columns.Section.{eventsName, bracketed, inside, inSection}
-use Rattle.spec_format.specs.ass_line.Line.{formatWord, dialogueWord, commentWord, LineSays, says, captionSays, wordSays, textSays, lineSays}
+use Rattle.spec_format.specs.ass_line.Line.{formatWord, dialogueWord, commentWord, says, captionSays, wordSays, textSays, lineSays}
 use Rattle.spec_format.proofs.ass_line.SayLaws.{starts-long}
 use Rattle.spec_format.specs.block_timing.Style.{blankIn, styleOf, stampsIn}
 use Rattle.spec_format.specs.block_timing.Arrow.{arrow, Timing, untimed, timed, timingOf}

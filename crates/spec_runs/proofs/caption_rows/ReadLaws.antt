@@ -1,12 +1,12 @@
 -- Laws of the whole call.
-use mathlib.Core.Path.{_≡_, refl, sym, ap, ap₂, subst, _∙_}
+use mathlib.Core.Path.{_≡_, refl, sym, ap, ap₂, _∙_}
 use mathlib.Core.Bool.{Bool, true, false, not, cond, true≢false}
-use mathlib.Core.List.{List, [], _∷_, _++_}
-use Prim.Native.Nat.{ℕ, zero, suc, _+_, _*_, _≤_}
+use mathlib.Core.List.{List, [], _∷_}
+use Prim.Native.Nat.{ℕ, zero, suc, _*_, _≤_}
 use native.Mathlib.Omega.{arith}
 use borrow.Author.Tests.{leb-true, ne-eqb}
 use lib.Dec.{eqb, leb}
-use lib.ListN.{length, length-append}
+use lib.ListN.{length}
 use Rattle.spec_base.specs.base.Limits.{mostTaken}
 use Rattle.spec_base.specs.base.Refusal.{_orElse_, faultUnless}
 use Rattle.spec_base.specs.base.Put.{put}
@@ -16,7 +16,7 @@ use Rattle.spec_caption.specs.caption_fate.Says.{Part, stays, passes, cue, capt
 use Rattle.promise.specs.Plain.{plainRead}
 use Rattle.spec_runs.specs.declared.caption_rows.Walked.{Walked}
 use Rattle.spec_runs.specs.caption_rows.Walk.{walkOf, WalkedBy}
-use Rattle.spec_runs.specs.caption_rows.Cues.{captionRow, rowsOf, cuesRefused, cuesNumber, unlessRefused, cuesTold, CuesRead}
+use Rattle.spec_runs.specs.caption_rows.Cues.{rowsOf, cuesRefused, cuesNumber, unlessRefused, cuesTold, CuesRead}
 use Rattle.spec_runs.proofs.caption_rows.AgreeAss.{Agree}
 
 -- six numbers a caption

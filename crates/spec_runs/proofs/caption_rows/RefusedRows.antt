@@ -1,7 +1,6 @@
 -- A refusal writes neither rows nor output, the seven told numbers of a text stand in their order, and where its pieces end: by computation.
 use mathlib.Core.Path.{_≡_, refl}
 use mathlib.Core.List.{List, [], _∷_}
-use Prim.Native.Nat.{ℕ}
 use Rattle.spec_caption.specs.caption_fate.Fates.{passed, dropped, shifted, clipped}
 use Rattle.spec_caption.specs.caption_fate.Emit.{Emit, warning, emit, decided, outputOf, warningsOf, placesOf}
 use Rattle.spec_session.specs.session_counts.Counts.{howMany}

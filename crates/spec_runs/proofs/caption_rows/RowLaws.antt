@@ -8,7 +8,7 @@ use lib.Dec.{leb}
 use borrow.Author.Tests.{leb-true}
 use lib.ListN.{length, take, drop, length-append, length-take, length-drop}
 use Rattle.spec_base.specs.base.Put.{put, putAt, placedAt, placeAfter}
-use Rattle.spec_base.proofs.base.PutLaws.{put-nil, length-put, putAt-nil, at-yes, at-no, after-yes, after-no, numbers-stored, then-placed}
+use Rattle.spec_base.proofs.base.PutLaws.{put-nil, putAt-nil, at-yes, at-no, after-yes, after-no, numbers-stored, then-placed}
 use Rattle.spec_runs.specs.declared.caption_rows.Said.{Said}
 use Rattle.spec_runs.specs.declared.caption_rows.Walked.{Walked}
 use Rattle.spec_runs.specs.caption_rows.Walk.{Walk, stopped, sixSaid, rowsSaid, onward, _then_, WalkedBy}

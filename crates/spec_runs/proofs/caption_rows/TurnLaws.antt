@@ -1,14 +1,13 @@
 -- Laws of one line taken.
 use mathlib.Core.Path.{_≡_, refl, sym, ap, ap₂, _∙_}
 use mathlib.Core.Bool.{Bool, true, false, cond}
-use mathlib.Core.List.{List, [], _∷_, _++_}
-use Prim.Native.Nat.{ℕ, zero, suc, _+_, _-_, _≤_, _<_, _^_}
+use mathlib.Core.List.{List}
+use Prim.Native.Nat.{ℕ, suc, _+_, _≤_, _<_, _^_}
 use native.Mathlib.Omega.{arith}
 use native.Mathlib.Numerals.{add-one}
 use borrow.Author.Tests.{eq-eqb, ne-eqb, le-leb, lt-leb}
-use lib.Dec.{eqb, leb}
-use lib.ListN.{length, take, drop, length-append}
-use lib.Seq.{length-take-le}
+use lib.Dec.{eqb}
+use lib.ListN.{length, length-append}
 use Rattle.spec_base.specs.base.Limits.{mostLine, mostBlock}
 use Rattle.spec_base.specs.base.Refusal.{_orElse_, faultUnless}
 use Rattle.spec_text.specs.utf8.Utf8.{utf8}
@@ -22,7 +21,7 @@ use Rattle.spec_format.specs.ass_line.AssThrough.{columnsAfter}
 use Rattle.spec_format.specs.block_timing.Style.{blankIn}
 use Rattle.promise.specs.Plain.{bomLength, lineFault}
 use Rattle.spec_runs.specs.declared.caption_rows.Said.{Said}
-use Rattle.spec_runs.specs.caption_rows.Said.{atFault, quiet, lineSaid, blockSaid}
+use Rattle.spec_runs.specs.caption_rows.Said.{atFault, lineSaid, blockSaid}
 use Rattle.spec_runs.specs.caption_rows.Walk.{assTurn, assNext, blockTurn, blockFrom, blockFirst}
 
 -- ---- 19, 20

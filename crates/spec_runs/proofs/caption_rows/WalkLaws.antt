@@ -28,7 +28,7 @@ use Rattle.promise.specs.Plain.{bomLength, lineFault, headed, headFault}
 use Rattle.spec_runs.specs.declared.caption_rows.Said.{Said}
 use Rattle.spec_runs.specs.declared.caption_rows.Walked.{Walked}
 use Rattle.spec_runs.specs.caption_rows.Said.{atFault, quiet, blockSaid}
-use Rattle.spec_runs.specs.caption_rows.Walk.{Walk, stopped, rowsSaid, onward, _then_, assTurn, assNext, assWalk, blockTurn, blockFrom, blockFirst, blockWalk, headTurn, vttWalk, walkBehind, walkOf, lineFrom, between, WalkedBy}
+use Rattle.spec_runs.specs.caption_rows.Walk.{Walk, stopped, rowsSaid, _then_, assTurn, assNext, assWalk, blockTurn, blockFrom, blockFirst, blockWalk, headTurn, vttWalk, walkBehind, walkOf, lineFrom, between, WalkedBy}
 use Rattle.spec_runs.proofs.caption_rows.RowLaws.{Going, going-start, going-same, going-step, going-stop, going-end, placed-length}
 
 at-most : (b : Bool) → cond b 1 0 ≤ 1

@@ -1,7 +1,7 @@
 -- The captions of a whole text, by the plain reader (promise/specs/Plain): six numbers a caption, in the text's order; how many there are; and the line of the
 -- first fault. With a fault the captions before its line or block are told, as the retimer writes them.
 use mathlib.Core.Path.{_≡_}
-use mathlib.Core.Bool.{Bool, true, not, cond}
+use mathlib.Core.Bool.{true, not, cond}
 use mathlib.Core.List.{List, [], _∷_, _++_}
 use Prim.Native.Nat.{ℕ, zero, suc, _+_, _*_, _-_}
 use lib.Dec.{eqb, leb}

@@ -17,7 +17,6 @@ use Rattle.spec_caption.specs.declared.caption_fate.Config.{Config}
 use Rattle.spec_caption.specs.caption_fate.Says.{Part, stays, Fault, notUtf8, badHeader}
 use Rattle.spec_caption.specs.caption_fate.Emit.{emitOf}
 use Rattle.spec_caption.proofs.caption_fate.FineLaws.{Set}
-use Rattle.spec_format.specs.declared.ass_columns.Columns.{Columns}
 use Rattle.spec_format.specs.ass_line.Line.{LineSays, lineSays, faulty as lineFaulty, says as lineSaid}
 use Rattle.spec_format.proofs.ass_line.LineFits.{line-fits}
 use Rattle.spec_format.specs.block_timing.Style.{styleOf, blankIn}

@@ -7,12 +7,12 @@ use native.Mathlib.Omega.{arith}
 use native.Mathlib.Nat.{zero-div}
 use native.Mathlib.Numerals.{add-one}
 use borrow.Author.Tests.{lt-ltb, le-ltb, le-leb, lt-leb, eq-eqb, ne-eqb, eqb-true, eqb-false}
-use lib.Dec.{ltb, leb, eqb}
+use lib.Dec.{ltb, eqb}
 use lib.ListN.{length, getD, take, drop, replicate, length-replicate}
 use lib.Seq.{length-take-le}
 use Rattle.spec_base.specs.base.Put.{put}
 use Rattle.spec_base.proofs.base.PutLaws.{placed-yes, placed-no}
-use Rattle.spec_base.specs.base.Refusal.{_orElse_, faultUnless, firstOf}
+use Rattle.spec_base.specs.base.Refusal.{faultUnless, firstOf}
 use Rattle.spec_base.proofs.base.RefusalLaws.{unless-held, unless-failed, else-none, else-here, left-here, left-next}
 use Rattle.spec_sheet.specs.sheet_frames.Frames.{decodeOf}
 use Rattle.spec_sheet.specs.sheet_permutation.Once.{timesNamed, repeatFault, workBytes, onceNumber, workOnce, bitOf, withBit}

@@ -1,4 +1,3 @@
-use native.Mathlib.Omega.{arith}
 use borrow.Author.Needs.{needs}
 use Rattle.c_bench.proofs.FeedLaws.{fed-refused, fed-long, fed-fresh, fed-done}
 use Rattle.c_bench.proofs.feeding.bench_feed.Statement.{statement}
