@@ -5,16 +5,10 @@ use mathlib.Core.List.{List, [], _∷_, _++_, List·Memᴰ·head, List·Memᴰ·
 use Prim.Native.Nat.{ℕ, suc, _+_}
 use native.Mathlib.Omega.{arith}
 use lib.ListN.{length}
-use borrow.Author.Tests.{lt-ltb}
 use Rattle.spec_map.specs.declared.segment.Segment.{Segment}
-use Rattle.spec_map.specs.segment.Segment.{sourceOf, sourceEnd}
-use Rattle.spec_caption.specs.caption_fate.Hit.{meetsParts, meets, Found, miss, hit, findFrom, findHit}
+use Rattle.spec_caption.specs.caption_fate.Hit.{meets, Found, miss, hit, findFrom, findHit}
 use Rattle.spec_caption.specs.caption_fate.Fates.{Meets, NoneMeets, FirstMet}
-use Rattle.spec_caption.proofs.caption_fate.FateLaws.{met, HitRight, find-right}
-
-meets-true : (x : Segment) (a b : ℕ) → Meets x a b → meets x a b ≡ true
-unfolding meetsParts
-meets-true x a b k = rw (lt-ltb 0 (x .duration) (k .long), lt-ltb a (sourceEnd x) (k .later), lt-ltb (sourceOf x) b (k .sooner))
+use Rattle.spec_caption.proofs.caption_fate.FateLaws.{met, HitRight, find-right, meets-true}
 
 meets-false : (x : Segment) (a b : ℕ) → (Meets x a b → ⊥) → meets x a b ≡ false
 meets-false x a b n = go (meets x a b) refl

@@ -2,7 +2,7 @@
 use mathlib.Core.Path.{_≡_, refl, sym, ap, subst, _∙_}
 use mathlib.Core.Bool.{Bool, true, false, cond, _||_, true≢false}
 use mathlib.Core.List.{List, [], _∷_}
-use Prim.Native.Nat.{ℕ, zero, suc, _-_, _*_, _/_, _≤_, _<_}
+use Prim.Native.Nat.{ℕ, suc, _-_, _*_, _/_, _≤_, _<_}
 use native.Mathlib.Omega.{arith}
 use lib.Dec.{leb, ltb, eqb}
 use lib.ListN.{length, take}
@@ -27,10 +27,7 @@ use Rattle.spec_caption.specs.caption_fate.Told.{countedOf}
 use Rattle.spec_ask.specs.declared.ask_reason.Why.{Why}
 use Rattle.spec_ask.specs.ask_reason.Reason.{causeParts, causesOf, Fails, AllFail, TrueHit, TrueReason, countedCut, whyFound, whyNumber, whyOf, causesFound, causesLeft}
 use Rattle.spec_ask.proofs.ask_reason.Named.{hit-first, first-named}
-
-pos-of : (k : ℕ) → eqb k 0 ≡ false → 0 < k
-pos-of zero q = absurd (true≢false q)
-pos-of (suc k) q = omega arith
+use Rattle.spec_base.proofs.base.Laws.{pos-of}
 
 -- a segment that is not met fails for its cause
 fails : (x : Segment) (a b : ℕ) → meets x a b ≡ false → Fails x a b (causeParts (sourceOf x) (x .duration) a b)

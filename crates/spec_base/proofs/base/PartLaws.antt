@@ -15,3 +15,9 @@ rest-length a s = ap length (rest-all a s) ∙ length-drop a s
 
 pub part-lengths : (n : ℕ) (r : List ℕ) → length (take n r) + length (drop n r) ≡ length r
 part-lengths n r = simp (length-take, length-drop) (omega arith)
+
+pub drop-take : (a m : ℕ) (l : List ℕ) → drop a (take m l) ≡ take (m - a) (drop a l)
+drop-take zero m l = ap (λ (j : ℕ). take j l) (sym (sub-zero m))
+drop-take (suc a) zero l = ap (λ (j : ℕ). take j (drop (suc a) l)) (sym (zero-sub (suc a)))
+drop-take (suc a) (suc m) [] = sym (take-nil (suc m - suc a))
+drop-take (suc a) (suc m) (x ∷ l) = drop-take a m l ∙ ap (λ (j : ℕ). take j (drop a l)) (sym (suc-sub-suc m a))

@@ -27,14 +27,14 @@ met x a b e =
       sooner = meets-sooner (sourceOf x) (x .duration) a b e;
     }
 
-meets-true : (x : Segment) (a b : ℕ) → Meets x a b → meets x a b ≡ true
+pub meets-true : (x : Segment) (a b : ℕ) → Meets x a b → meets x a b ≡ true
 unfolding meetsParts
 meets-true x a b k = rw (lt-ltb 0 (x .duration) (k .long), lt-ltb a (sourceEnd x) (k .later), lt-ltb (sourceOf x) b (k .sooner))
 
 not-met : (x : Segment) (a b : ℕ) → meets x a b ≡ false → Meets x a b → ⊥
 not-met x a b e k = true≢false (sym (meets-true x a b k) ∙ e)
 
-none-more : (x : Segment) (xs : List Segment) (a b : ℕ) → meets x a b ≡ false → NoneMeets xs a b → NoneMeets (x ∷ xs) a b
+pub none-more : (x : Segment) (xs : List Segment) (a b : ℕ) → meets x a b ≡ false → NoneMeets xs a b → NoneMeets (x ∷ xs) a b
 none-more x xs a b e none y i k = go (List·Memᴰ·cases-cons i)
   where
     go : (y ≡ x) ⊎ List·Memᴰ y xs → ⊥

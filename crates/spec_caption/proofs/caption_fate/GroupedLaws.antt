@@ -153,9 +153,6 @@ seeking-start m g t from a b h e =
     let l : length t ≡ length m - 6 * from = ap length e ∙ length-drop (6 * from) m in
     record { same = ap (λ (x : List ℕ). findFrom from (boundedFrom g from (segmentsOf x)) a b) e; place = omega (arith, l); inside = λ z. omega (arith, l) }
 
-pub seeking-add : (m g t : List ℕ) (from a b i : ℕ) → Seeking m g from a b i t → 6 ≤ length t → 6 * i + 6 ≤ length m
-seeking-add m g t from a b i s h = omega (arith, s .inside (omega arith))
-
 pub seeking-group : (m g t u : List ℕ) (from a b i : ℕ) (x : Bool) → Seeking m g from a b i t → 6 ≤ length t → x ≡ passedAt g i a b → x ≡ true → u ≡ drop 96 t → Seeking m g from a b (i + 16) u
 unfolding passedAt
 seeking-group m g t u from a b i x s h e p eu =

@@ -56,7 +56,3 @@ module _ (T U : ℕ) where
   pub ticks-add : (a b : ℕ) → 0 < U → ticksOf T U a + ticksOf T U b ≤ ticksOf T U (a + b)
   unfolding ticksOf
   ticks-add a b h = down-add a b T h
-
-  pub start-add : (a b : ℕ) → 0 < T → startUnits T U a + startUnits T U b ≤ startUnits T U (a + b)
-  unfolding startUnits
-  start-add a b h = down-add a b U h

@@ -122,7 +122,7 @@ at-none (suc k) [] h = refl
 at-none (suc zero) (f ∷ fs) h = absurd (omega arith)
 at-none (suc (suc k)) (f ∷ fs) h = at-none (suc k) fs (omega arith)
 
-at-zero : (fs : List (List ℕ)) → fieldAt 0 fs ≡ []
+pub at-zero : (fs : List (List ℕ)) → fieldAt 0 fs ≡ []
 unfolding fieldAt
 at-zero fs = refl
 

@@ -1,5 +1,5 @@
 -- Within the limits the code's answer to a line is document 01's.
-use mathlib.Core.Path.{_≡_, refl, subst}
+use mathlib.Core.Path.{_≡_, refl}
 use mathlib.Core.Bool.{Bool, true, false, cond}
 use mathlib.Core.List.{List}
 use Prim.Native.Nat.{ℕ, suc, _*_, _≤_, _<_}
@@ -88,9 +88,6 @@ line-timed c n l = go (bracketed (trim (textOf l))) (c .events)
     go true y = tt
     go false true = word-timed c n l (textOf l)
     go false false = tt
-
-pub line-timely : (c : Columns) (n : ℕ) (l : List ℕ) (e : Columns) (q : Cue) → lineSays c n l ≡ says e (cue q) → Timely n q
-line-timely c n l e q p = subst (Timed n) p (line-timed c n l)
 
 -- ---- the answer
 answer-fine : (s : Config) → Set s → (m : List ℕ) → mapBad m ≡ false → (n : ℕ) (x : LineSays) → Timed n x → lineAnswerIn s (segmentsOf m) x ≡ lineAnswer s (segmentsOf m) x

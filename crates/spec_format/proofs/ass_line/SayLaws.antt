@@ -33,6 +33,7 @@ use Rattle.spec_format.specs.ass_line.Line.{formatWord, dialogueWord, co
 use Rattle.spec_format.specs.ass_line.AssThrough.{columnsAfter, lineAnswerIn, lineIn, columnsNext, stayedWith}
 use Rattle.spec_format.proofs.ass_line.TellLaws.{tells-stayed}
 use Rattle.spec_format.proofs.ass_write.FitLaws.{line-most}
+use Rattle.spec_text.proofs.pattern.PieceLaws.{starts-long}
 
 -- ---- a caption
 module _ (c : Columns) (n : ℕ) (l v r : List ℕ) where
@@ -152,16 +153,6 @@ module _ (s : Config) (m : List Segment) (c : Columns) (n : ℕ) (l v r f : List
           (ap (lineAnswerIn s m) (says-is (At E b) q)
           ∙ ap (λ (k : List ℕ). cueIn (s .kind) (lineCue c n v (fields (c .columns) r) k S a E b) (decideIn s m S E)) (sym ez))
           h
-
-pub starts-long : (p s : List ℕ) → starts p s ≡ true → length p ≤ length s
-unfolding starts
-starts-long [] s e = omega arith
-starts-long (a ∷ p) [] e = absurd (let z : _≡_ {A = ℕ} 0 1 = ap (λ (b : Bool). cond b 1 0) e in omega arith)
-starts-long (a ∷ p) (b ∷ s) e = go (eqb a b) e (starts-long p s)
-  where
-    go : (t : Bool) → cond t (starts p s) false ≡ true → (starts p s ≡ true → length p ≤ length s) → suc (length p) ≤ suc (length s)
-    go true q ih = omega (arith, ih q)
-    go false q ih = absurd (let z : _≡_ {A = ℕ} 0 1 = ap (λ (b : Bool). cond b 1 0) q in omega arith)
 
 -- ---- a line in Events, by its word: T is the text that the code has, and f, d, g what it was told of the three words
 module _ (s : Config) (m : List Segment) (c : Columns) (n : ℕ) (l T : List ℕ) (eT : T ≡ textOf l) (f : Bool) (ef : f ≡ starts formatWord T) (t : Told) (o o′ w w′ : List ℕ) where

@@ -39,10 +39,6 @@ joined-twice a b (suc x) = go (b + suc x) refl
     go zero e = absurd (omega arith)
     go (suc y) e = omega arith
 
-pub more-joined : (x : ℕ) → more x ≡ joined 1 x
-more-joined zero = refl
-more-joined (suc x) = omega arith
-
 -- ---- the width of characters
 skip-width : (s : List ℕ) (k : ℕ) → charsWidth s k ≡ joined k (charsWidth (drop k s) 0)
 unfolding charsWidth
@@ -406,7 +402,7 @@ head-stop (y ∷ v) h = refl
 none-stop : (t v : List ℕ) → charWide t ≡ 0 → 0 < length v → equals v (charsBytes t 0) ≡ false
 none-stop t v e h = ap (equals v) (bytes-stop t e) ∙ head-stop v h
 
-plain-bytes : (x : ℕ) (t : List ℕ) → (x ≡ 0x5C → ⊥) → charBytes (x ∷ t) ≡ x ∷ []
+pub plain-bytes : (x : ℕ) (t : List ℕ) → (x ≡ 0x5C → ⊥) → charBytes (x ∷ t) ≡ x ∷ []
 unfolding charBytes
 plain-bytes x t h = sym (no! _ (ne-eqb x 0x5C h) refl)
 

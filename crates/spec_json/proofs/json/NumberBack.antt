@@ -5,11 +5,9 @@ use mathlib.Core.Bool.{Bool, true, false, _&&_, cond}
 use mathlib.Core.List.{List, [], _∷_, _++_, append-nil}
 use lib.Dec.{eqb}
 use lib.ListN.{length, getD, drop}
-use lib.Seq.{append-snoc, drop-append-seam}
-use native.Mathlib.Nat.{pow-suc, mul-assoc}
+use lib.Seq.{drop-append-seam}
 use native.Mathlib.Omega.{arith}
 use borrow.Author.Tests.{le-leb, ne-eqb, eqb-true}
-use Rattle.spec_base.specs.base.Width.{byWidth}
 use Rattle.spec_text.specs.text.Number.{digit, digits, valueFrom}
 use Rattle.spec_text.specs.text.Line.{isEmpty}
 use Rattle.spec_text.proofs.text.Laws.{digit-some}
@@ -17,6 +15,8 @@ use Rattle.spec_caption.specs.caption_stamp.Write.{pad, width}
 use Rattle.spec_caption.proofs.caption_stamp.Pad.{width-small, width-big, width-pow, tenths}
 use Rattle.spec_json.specs.json.Num.{digitRun, intWidth, minusWidth, fracWidth, isExp, expWidth, tailWidth, numberWidth, isPlain}
 use Rattle.spec_json.specs.json.Quote.{decimal}
+use Rattle.spec_caption.proofs.caption_stamp.RoundTrip.{value-nil, value-pad}
+use Rattle.spec_json.proofs.json.FrontLaws.{number-with}
 
 -- ---- rows of digits
 abbrev pub Digits : List ℕ → Type 0
@@ -98,19 +98,6 @@ pub decimal-digits : (n : ℕ) → Digits (decimal n)
 decimal-digits n = let p = plain n in subst Digits (sym (p .is)) ((p .low, p .high), p .others)
 
 -- ---- its value
-value-pad : (k a n : ℕ) (s : List ℕ) → n < 10 ^ k → valueFrom a (pad k n ++ s) ≡ valueFrom (a * 10 ^ k + n) s
-unfolding pad valueFrom
-value-pad zero a n s h = ap (λ (m : ℕ). valueFrom m s) (omega arith)
-value-pad (suc k) a n s h =
-    let small : n < 10 ^ k * 10 = rw pow-suc at h in
-    let d = 48 + n % 10 in
-    ap (valueFrom a) (append-snoc (pad k (n / 10)) d s) ∙ value-pad k a (n / 10) (d ∷ s) (omega arith) ∙
-    ap (λ (m : ℕ). valueFrom m s) (omega (arith, pow-suc 10 k, mul-assoc a (10 ^ k) 10, ap (λ (m : ℕ). a * m) (pow-suc 10 k)))
-
-value-nil : (v : ℕ) → valueFrom v [] ≡ v
-unfolding valueFrom
-value-nil v = refl
-
 pub decimal-value : (n : ℕ) → valueFrom 0 (decimal n) ≡ n
 unfolding decimal
 decimal-value n =
@@ -148,12 +135,6 @@ int-by b s r d z h = go (eqb b 0x30) refl
     go : (t : Bool) → eqb b 0x30 ≡ t → cond t 1 (digitRun (b ∷ (s ++ r))) ≡ suc (length s)
     go true e = rw (z (eqb-true b 0x30 e))
     go false e = run-all (b ∷ s) r d h
-
-number-with : (t : List ℕ) (m w : ℕ) → minusWidth t ≡ m → intWidth (drop m t) ≡ suc w → numberWidth t ≡ m + suc w + tailWidth (drop (m + suc w) t)
-unfolding numberWidth
-number-with t m w e f =
-    subst (λ (x : ℕ). byWidth (intWidth (drop x t)) 0 (λ k. x + suc k + tailWidth (drop (x + suc k) t)) ≡ m + suc w + tailWidth (drop (m + suc w) t)) (sym e)
-    (ap (λ (y : ℕ). byWidth y 0 (λ k. m + suc k + tailWidth (drop (m + suc k) t))) f)
 
 no-minus : (b : ℕ) (t : List ℕ) → 0x30 ≤ b → minusWidth (b ∷ t) ≡ 0
 no-minus b t h = rw (ne-eqb b 0x2D (λ e. omega arith))

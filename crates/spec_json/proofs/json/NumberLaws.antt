@@ -55,9 +55,6 @@ pub frac-none : (s : List ℕ) (b : ℕ) → b ≡ getD s 0 0 → (b ≡ 0x2E �
 unfolding fracWidth
 frac-none s b e h = no! _ (ne-eqb _ _ (λ q. h (e ∙ q))) refl
 
-more-zero : (n : ℕ) → n ≡ 0 → 0 ≡ more n
-more-zero n e = ap more (sym e)
-
 pub more-some : (n : ℕ) → (n ≡ 0 → ⊥) → n + 1 ≡ more n
 more-some zero h = absurd (h refl)
 more-some (suc n) h = omega arith
@@ -153,7 +150,7 @@ int-le (b ∷ s) = go (eqb b 0x30) (run-le (b ∷ s))
     go true h = omega arith
     go false h = h
 
-cut-le : (f : List ℕ → ℕ) → ((s : List ℕ) → f s ≤ length s) → (s t : List ℕ) (m : ℕ) → t ≡ drop m s → f t ≤ length s - m
+pub cut-le : (f : List ℕ → ℕ) → ((s : List ℕ) → f s ≤ length s) → (s t : List ℕ) (m : ℕ) → t ≡ drop m s → f t ≤ length s - m
 cut-le f le s t m e = subst (λ (k : ℕ). f t ≤ k) (ap length e ∙ length-drop m s) (le t)
 
 pub tail-le : (s : List ℕ) → tailWidth s ≤ length s
@@ -306,9 +303,6 @@ unfolding plainOf
 plain-value most s i v f l z w d e h k =
     let q : valueFrom 0 s ≡ v = e ∙ value-end s i v k in
     yes! _ (value-by most v s l (zero-alone s f z w) (d ∙ digits-end s i k) q h) (ap Value (sym q))
-
-pub plain-step : (most v b : ℕ) → b - 0x30 ≤ most → v ≤ (most - (b - 0x30)) / 10 → v * 10 + (b - 0x30) ≤ most
-plain-step most v b k h = omega arith
 
 -- the number and the values of what a field's text says
 pub plain-number : (most : ℕ) (s : List ℕ) → plainNumber (plainOf most s) ≡ cond (isPlain most s) 0 23

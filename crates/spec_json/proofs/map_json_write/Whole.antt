@@ -17,14 +17,7 @@ use Rattle.spec_json.specs.map_json_write.Reads.{Said}
 use Rattle.spec_json.specs.map_json_write.MapWritten.{RoundTrip}
 use Rattle.spec_json.proofs.map_json_write.Back.{Narrow, AllNarrow, is-map, said-is}
 use Rattle.spec_json.proofs.map_json_write.Clean.{text-utf8}
-
-cond-left : (s t : Bool) → cond s true t ≡ false → s ≡ false
-cond-left true t e = absurd (true≢false e)
-cond-left false t e = refl
-
-cond-right : (s t : Bool) → cond s true t ≡ false → t ≡ false
-cond-right true t e = absurd (true≢false e)
-cond-right false t e = e
+use Rattle.spec_base.proofs.base.Laws.{cond-left, cond-right}
 
 -- ---- flat numbers in sixes
 flat-again : (m : List ℕ) → length m % 6 ≡ 0 → flatOf (segmentsOf m) ≡ m

@@ -183,9 +183,6 @@ module _ (list l m : List ℕ) (n : ℕ) (p : Parsed) (e : p ≡ parseOf list (l
   unfolding keptOf
   kept-by k q = rw (parsed-number, q)
 
-  answer-is : p ≡ parsed (p .number) (p .count)
-  answer-is = refl
-
   pub kept-refused : (p .number ≡ 0 → ⊥) → p ≡ keptOf list
   unfolding parseOf listAnswer
   kept-refused h =

@@ -27,6 +27,7 @@ use Rattle.spec_runs.specs.declared.caption_rows.Said.{Said}
 use Rattle.spec_runs.specs.caption_rows.Said.{wordsLength, atFault, partSaid, lineSaid}
 use Rattle.spec_runs.specs.caption_rows.Walk.{Walk, stopped, rowsSaid, onward, _then_, assTurn, assNext, assWalk}
 use Rattle.spec_runs.specs.caption_rows.Cues.{linesBefore, lineOf, lineAt, wordsAt, captionRow, rowsOf}
+use Rattle.spec_runs.proofs.caption_rows.WalkLaws.{ass-clause}
 
 -- ---- a walk and a reading agree
 pub record Agree (kind : ℕ) (text : List ℕ) (w : Walk) (r : Reading) : Type 0 where
@@ -35,10 +36,6 @@ pub record Agree (kind : ℕ) (text : List ℕ) (w : Walk) (r : Reading) : Type 
 
 pub agree-fails : (kind : ℕ) (text : List ℕ) (k n : ℕ) → Agree kind text (stopped k n) (fails k)
 agree-fails kind text k n = record { fault = refl; rows = refl }
-
-pub rows-append : (kind : ℕ) (text : List ℕ) (ps qs : List Part) → rowsOf kind text (ps ++ qs) ≡ rowsOf kind text ps ++ rowsOf kind text qs
-rows-append kind text [] qs = refl
-rows-append kind text (p ∷ ps) qs = ap (λ (x : List ℕ). captionRow kind text p ++ x) (rows-append kind text ps qs) ∙ sym (append-assoc (captionRow kind text p) (rowsOf kind text ps) (rowsOf kind text qs))
 
 -- one part more: its row is what was said
 pub agree-part : (kind : ℕ) (text : List ℕ) (s : Said) (p : Part) (w : Walk) (r : Reading) → s .number ≡ 0 → rowsSaid s ≡ captionRow kind text p → Agree kind text w r → Agree kind text (s then w) ((p ∷ []) ⊕ r)
@@ -131,10 +128,6 @@ module _ (text : List ℕ) (done : List (List ℕ)) (l : List ℕ) (ls : List (L
       let w : i ≡ lineAt text (q .line) = ei ∙ sym at-is ∙ ap (lineAt text) (sym h) in
       let v : l ≡ lineOf (q .line) (linesOf (behindBom text)) = sym this-is ∙ ap (λ (k : ℕ). lineOf k (linesOf (behindBom text))) (sym h) in
       (refl, ap₂ (λ (a : ℕ) (b : List ℕ). q .line ∷ 0 ∷ q .start ∷ q .stop ∷ (a + (length (textOf b) - wordsLength 0 q)) ∷ wordsLength 0 q ∷ []) w v)
-
-pub ass-clause : (x : ℕ) (c : Columns) (n i : ℕ) (y : List ℕ) (ls : List (List ℕ)) → assWalk x c n i (y ∷ ls) ≡ (assTurn x c n i y then assWalk 0 (assNext x c n y) (suc n) (i + length y) ls)
-unfolding assWalk
-ass-clause x c n i y ls = refl
 
 read-clause : (z : Reading) (x : ℕ) (c : Columns) (n : ℕ) (l : List ℕ) (ls : List (List ℕ)) → assRead z x c n (l ∷ ls) ≡ unlessFault (lineFault x l) (lineThen (lineSays c n l) (λ d. assRead z 0 d (suc n) ls))
 unfolding assRead

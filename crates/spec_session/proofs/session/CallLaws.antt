@@ -152,11 +152,11 @@ by-gate s x r out out′ places places′ g e b =
     }
 
 -- nothing emitted, nothing written
-nothing-written : (out : List ℕ) → out ≡ put (outputOf []) out
+pub nothing-written : (out : List ℕ) → out ≡ put (outputOf []) out
 unfolding outputOf
 nothing-written out = sym (put-nil out)
 
-nothing-warned : (places : List ℕ) → places ≡ put (placesOf (warningsOf [])) places
+pub nothing-warned : (places : List ℕ) → places ≡ put (placesOf (warningsOf [])) places
 unfolding warningsOf placesOf
 nothing-warned places = sym (put-nil places)
 

@@ -42,7 +42,7 @@ pub ends-none : (l : List ℕ) (a i : ℕ) → i ≡ length l - 1 → a ≡ getD
 unfolding terminatorLength
 ends-none l a i ei ea p = no! _ (ne-eqb _ _ (λ z. p (ea ∙ ap (λ (k : ℕ). getD l k 0) ei ∙ z))) refl
 
-empty-zero : (l : List ℕ) → eqb (length l) 0 ≡ isEmpty l
+pub empty-zero : (l : List ℕ) → eqb (length l) 0 ≡ isEmpty l
 empty-zero [] = refl
 empty-zero (b ∷ l) = ne-eqb (length (b ∷ l)) 0 (λ e. omega arith)
 
