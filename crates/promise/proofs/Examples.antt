@@ -23,7 +23,7 @@ use Rattle.spec_format.specs.ass_columns.Section.{bracketed, inside}
 use Rattle.spec_format.specs.ass_write.Frame.{pieceAt, fieldPieces}
 use Rattle.spec_format.specs.block_timing.Style.{blankIn, srtEnd, endIn, stampsIn}
 use Rattle.spec_format.specs.block_timing.Arrow.{timingOf, afterArrow}
-use Rattle.spec_format.specs.block_cue.Block.{timingLineSays as blockLineSays, blockSays}
+use Rattle.spec_format.specs.block_cue.Block.{blockFrame, blockCue, timingLineSays as blockLineSays, blockSays}
 use Rattle.spec_format.specs.whole.Srt.{blocksOf}
 use Rattle.spec_caption.specs.caption_fate.Bom.{bom}
 use Rattle.spec_session.specs.session_counts.Reader.{reading, fails}

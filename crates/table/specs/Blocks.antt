@@ -11,7 +11,7 @@ use Rattle.spec_map.specs.segment.Segment.{segment}
 use Rattle.spec_caption.specs.declared.caption_fate.Decision.the-variants.{Kept}
 use Rattle.spec_caption.specs.caption_fate.Decide.{decideOf}
 use Rattle.spec_caption.specs.caption_fate.Says.{faultNumber}
-use Rattle.spec_caption.specs.caption_fate.Emit.{Warning, emitOf}
+use Rattle.spec_caption.specs.caption_fate.Emit.{Warning, warning, emitOf}
 use Rattle.spec_format.specs.block_timing.Style.{styleOf}
 use Rattle.spec_format.specs.block_cue.Block.{BlockSays, faulty, says, blockSays}
 use Rattle.table.specs.Example.{setting}

@@ -1,10 +1,11 @@
 -- Parts of lists.
-use mathlib.Core.Path.{_≡_, ap, _∙_}
-use mathlib.Core.List.{List}
-use Prim.Native.Nat.{ℕ, _+_, _-_}
+use mathlib.Core.Path.{_≡_, ap, _∙_, sym}
+use mathlib.Core.List.{List, [], _∷_}
+use Prim.Native.Nat.{ℕ, _+_, _-_, zero, suc}
 use native.Mathlib.Omega.{arith}
 use lib.ListN.{length, take, drop, length-take, length-drop}
-use lib.Seq.{take-all}
+use lib.Seq.{take-all, take-nil}
+use native.Mathlib.Nat.{sub-zero, zero-sub, suc-sub-suc}
 
 -- the list of `&s[a..]`
 pub rest-all : (a : ℕ) (s : List ℕ) → take (length s - a) (drop a s) ≡ drop a s

@@ -21,12 +21,13 @@ use Rattle.spec_caption.specs.declared.caption_fate.Config.{Config}
 use Rattle.spec_caption.specs.caption_fate.Hit.{meetsParts, findFrom}
 use Rattle.spec_caption.specs.caption_fate.Lost.{lostLater}
 use Rattle.spec_caption.specs.caption_fate.Decide.{decideIn}
-use Rattle.spec_caption.specs.caption_fate.Says.{stays, cue}
-use Rattle.spec_caption.specs.caption_fate.Emit.{none, emit, render, emitBy}
-use Rattle.spec_caption.specs.caption_fate.Told.{Answer, answered, partIn}
+use Rattle.spec_caption.specs.caption_fate.Fates.{dropped, shifted, clipped}
+use Rattle.spec_caption.specs.caption_fate.Says.{stays, cue, badTime}
+use Rattle.spec_caption.specs.caption_fate.Emit.{warning, none, decided, emit, render, emitBy}
+use Rattle.spec_caption.specs.caption_fate.Told.{Answer, answered, refusal, partIn}
 use Rattle.spec_format.specs.block_timing.Style.{srtEnd, vttEnd, endIn, stampHead, stampIn, stampsIn, styleOf}
 use Rattle.spec_format.specs.block_timing.Arrow.{timingOf, afterArrow}
-use Rattle.spec_format.specs.block_cue.Block.{blockFrame, blockCue, timingLineSays, blockSays, BlockSays, says}
+use Rattle.spec_format.specs.block_cue.Block.{blockFrame, blockCue, timingLineSays, blockSays, BlockSays, faulty, says}
 use Rattle.spec_format.specs.block_cue.BlockThrough.{blockIn}
 
 abbrev line : String → List ℕ

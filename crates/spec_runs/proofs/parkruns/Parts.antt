@@ -172,7 +172,7 @@ module _ (c : Config) (m : List ℕ) (o : Opened c m) where
       ∙ append-assoc (saidParts past) (partsOf v x) (partsAll (answer kit v x .session) xs)
 
   said-same : (xs : List Call) → saidParts xs ≡ saidIn c xs .parts
-  said-same xs = ap (λ (r : Bool → List ℕ → Reading). readingOf r (hear r newReader xs .reader) .parts) read-same
+  said-same xs = ap (λ (r : Bool → List ℕ → Reading). readingOf r (hear r newReader xs .reader) .parts) (read-same c m o)
 
   -- the parts of a text that goes on
   pub said-more : (past : List Call) → Proper m past → (xs : List Call) → Proper m xs

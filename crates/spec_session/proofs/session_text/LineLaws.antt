@@ -387,8 +387,8 @@ module _ (h : Head) (m text : List ℕ) (at : Lined) (out₀ out places₀ place
       sym (start-run h m text (length out₀) (length places₀) S) ∙ ap (run Q (going (startState h text) (h .lines) [] [])) rest-split
       ∙ run-append Q (going (startState h text) (h .lines) [] []) front rest ∙ ap (λ (r : Run State). run Q r rest) (A .ran)
 
-  rest-length : length rest ≡ length text - at .place
-  rest-length = length-drop (at .place) text
+  left-length : length rest ≡ length text - at .place
+  left-length = length-drop (at .place) text
 
   rest-held : drop (at .begin) text ≡ concat (A .state .block) ++ rest
   rest-held =
@@ -423,9 +423,9 @@ module _ (h : Head) (m text : List ℕ) (at : Lined) (out₀ out places₀ place
   ends-rest e C z k f r q = rw q (subst (λ (j : ℕ). Ends h m text (textRun h text) (numbered j) out₀ out places₀ places) (sym f) (go (ltb mostLine (length text - at .place)) refl))
     where
       go : (t : Bool) → ltb mostLine (length text - at .place) ≡ t → Ends h m text (textRun h text) (numbered (cond t 19 0)) out₀ out places₀ places
-      go true x = ends-long (rest-run ∙ run-long Q (A .state) (at .lines) (A .parts) rest (C .none z) (omega (arith, ltb-true mostLine (length text - at .place) x, rest-length)))
+      go true x = ends-long (rest-run ∙ run-long Q (A .state) (at .lines) (A .parts) rest (C .none z) (omega (arith, ltb-true mostLine (length text - at .place) x, left-length)))
       go false x =
-          let y : length rest ≤ mostLine = omega (arith, ltb-false mostLine (length text - at .place) x, rest-length) in
+          let y : length rest ≤ mostLine = omega (arith, ltb-false mostLine (length text - at .place) x, left-length) in
           ends-open (rest-run ∙ run-open Q (A .state) (at .lines) (A .parts) [] rest (ap hasLf (sym (take-rest y)) ∙ C .none z) (omega (arith, y)))
 
   -- every byte is taken
