@@ -26,7 +26,7 @@ use Rattle.map_json_read.specs.Slots.{noneWalked, walkedAfter}
 use Rattle.map_json_segments.specs.Fields.{membersIn}
 use Rattle.map_json_read.specs.Walk.{noWalk, walkedOf, WalkIn}
 use Rattle.map_json_read.specs.Steps.{objectOf, HeadsOf}
-use Rattle.spec_base.proofs.base.Laws.{and-left, and-right}
+use Rattle.spec_base.proofs.base.Laws.{and-left, and-right, and-false}
 use Rattle.spec_json.proofs.json.Tests.{and-yes}
 
 -- ---- a path
@@ -64,10 +64,6 @@ bare-text s e = go (tests s)
     go : (t : Bool) → membersOf 10 (cond t (bare 11 s) []) ≡ []
     go true = e
     go false = no-members
-
-and-false : (a : Bool) → (a && false) ≡ false
-and-false true = refl
-and-false false = refl
 
 none-walked : (s r : List ℕ) (x : Walk) → x ≡ noWalk → membersOf 10 (objectOf s) ≡ [] → walkedOf r x ≡ gathered walkedAfter noneWalked (membersOf 10 (objectOf s))
 unfolding gathered
@@ -108,7 +104,7 @@ module _ (text s : List ℕ) (es : s ≡ drop 1 (drop (spaces text) text)) (r : 
   text-other h er = none-walked text s r er (go (valueWidth 11 (drop (spaces text) text)) refl)
     where
       apart : (u o : Bool) → (u && o) ≡ false → (u && (eqb (padded (valueWidth 11) text) (length text) && o)) ≡ false
-      apart true o e = ap (λ (b : Bool). eqb (padded (valueWidth 11) text) (length text) && b) e ∙ and-false (eqb (padded (valueWidth 11) text) (length text))
+      apart true o e = ap (λ (b : Bool). eqb (padded (valueWidth 11) text) (length text) && b) e ∙ sym (and-false (eqb (padded (valueWidth 11) text) (length text)))
       apart false o e = refl
 
       go : (k : ℕ) → valueWidth 11 (drop (spaces text) text) ≡ k → membersOf 10 (objectOf text) ≡ []
@@ -164,7 +160,7 @@ module _ (text s : List ℕ) (es : s ≡ drop 1 (drop (spaces text) text)) (r : 
       text-more q er =
           let w : spaces (drop (x .whole) s) ≡ length (drop (x .whole) s) → ⊥ = eqb-false _ _ (sym eg ∙ not-true g q) in
           none-walked text s r er (empty-text text (ap (λ (b : Bool). utf8 text && (b && eqb (getD (bare 11 text) 0 0) 0x7B))
-          (ne-eqb (padded (valueWidth 11) text) (length text) (λ (p : padded (valueWidth 11) text ≡ length text). w (omega (arith, p, width-is, size-is)))) ∙ and-false (utf8 text)))
+          (ne-eqb (padded (valueWidth 11) text) (length text) (λ (p : padded (valueWidth 11) text ≡ length text). w (omega (arith, p, width-is, size-is)))) ∙ sym (and-false (utf8 text))))
 
       pub text-done : not g ≡ false → walkedOf s x ≡ gathered walkedAfter noneWalked (membersOf 10 (objectOf text))
       unfolding objectOf

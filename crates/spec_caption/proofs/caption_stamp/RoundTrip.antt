@@ -29,14 +29,14 @@ use Rattle.spec_text.proofs.pattern.Free.{Free, free-append, first-free, none-f
 use Rattle.spec_caption.proofs.caption_stamp.Pad.{pad-length, width-pos, width-pow}
 
 -- a list of digits, and a byte that is none
-abbrev Digits : List ℕ → Type 0
-Digits [] = Unit
+abbrev pub Digits : List ℕ → Type 0
+Digits [] = Unit {0}
 Digits (b ∷ s) = ((48 ≤ b) × (b ≤ 57)) × Digits s
 
 abbrev Mark : ℕ → Type 0
 Mark c = (b : ℕ) → 48 ≤ b → b ≤ 57 → c ≡ b → ⊥
 
-digits-snoc : (xs : List ℕ) (b : ℕ) → Digits xs → 48 ≤ b → b ≤ 57 → Digits (xs ++ b ∷ [])
+pub digits-snoc : (xs : List ℕ) (b : ℕ) → Digits xs → 48 ≤ b → b ≤ 57 → Digits (xs ++ b ∷ [])
 digits-snoc [] b d l h = ((l, h), tt)
 digits-snoc (x ∷ xs) b d l h = (d .0, digits-snoc xs b (d .1) l h)
 
@@ -50,7 +50,7 @@ digits-free c m [] d = tt
 digits-free c m (b ∷ s) d = (m b (d .0 .0) (d .0 .1), digits-free c m s (d .1))
 
 -- a number read back
-digits-true : (xs : List ℕ) → Digits xs → digits xs ≡ true
+pub digits-true : (xs : List ℕ) → Digits xs → digits xs ≡ true
 unfolding digits
 digits-true [] d = refl
 digits-true (b ∷ s) d = sym (yes! _ (digit-some b (d .0 .0) (d .0 .1)) (sym (digits-true s (d .1))))

@@ -15,23 +15,10 @@ use Rattle.spec_caption.specs.caption_stamp.Write.{pad, width}
 use Rattle.spec_caption.proofs.caption_stamp.Pad.{width-small, width-big, width-pow, tenths}
 use Rattle.spec_json.specs.json.Num.{digitRun, intWidth, minusWidth, fracWidth, isExp, expWidth, tailWidth, numberWidth, isPlain}
 use Rattle.spec_json.specs.json.Quote.{decimal}
-use Rattle.spec_caption.proofs.caption_stamp.RoundTrip.{value-nil, value-pad}
+use Rattle.spec_caption.proofs.caption_stamp.RoundTrip.{value-nil, value-pad, digits-snoc, digits-true, Digits}
 use Rattle.spec_json.proofs.json.FrontLaws.{number-with}
 
 -- ---- rows of digits
-abbrev pub Digits : List ℕ → Type 0
-Digits [] = Unit {0}
-Digits (b ∷ s) = ((0x30 ≤ b) × (b ≤ 0x39)) × Digits s
-
-digits-snoc : (xs : List ℕ) (b : ℕ) → Digits xs → 0x30 ≤ b → b ≤ 0x39 → Digits (xs ++ b ∷ [])
-digits-snoc [] b d l h = ((l, h), tt)
-digits-snoc (x ∷ xs) b d l h = (d .0, digits-snoc xs b (d .1) l h)
-
-digits-all : (s : List ℕ) → Digits s → digits s ≡ true
-unfolding digits
-digits-all [] d = refl
-digits-all (b ∷ s) d = rw (digit-some b (d .0 .0) (d .0 .1)) (digits-all s (d .1))
-
 -- what stands behind a number: no digit, point or letter e
 pub record Stops (r : List ℕ) : Type 0 where
   pub digit-not : digit (getD r 0 0) ≡ false
@@ -119,7 +106,7 @@ by-zero (suc n) f g = g (omega arith)
 pub decimal-plain : (most n : ℕ) → n ≤ most → isPlain most (decimal n) ≡ true
 decimal-plain most n h =
     let p = plain n in
-    let d : digits (p .head ∷ p .rest) ≡ true = subst (λ (l : List ℕ). digits l ≡ true) (p .is) (digits-all (decimal n) (decimal-digits n)) in
+    let d : digits (p .head ∷ p .rest) ≡ true = subst (λ (l : List ℕ). digits l ≡ true) (p .is) (digits-true (decimal n) (decimal-digits n)) in
     let v : valueFrom 0 (p .head ∷ p .rest) ≡ n = ap (valueFrom 0) (sym (p .is)) ∙ decimal-value n in
     subst (λ (l : List ℕ). isPlain most l ≡ true) (sym (p .is))
     (plain-by most (p .head) (p .rest) d (λ e. by-zero n (λ z. p .alone z) (λ q. absurd (p .lead q e))) (omega arith))

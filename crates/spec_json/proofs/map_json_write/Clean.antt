@@ -17,9 +17,10 @@ use Rattle.spec_map.specs.declared.segment.Segment.{Segment}
 use Rattle.spec_json.specs.json.Quote.{hexLetter, escaped, escapedAll, quoted, decimal}
 use Rattle.spec_json.specs.json.Pretty.{itemLines, memberLine, memberLines, prettyObject, prettyArray}
 use Rattle.spec_json.proofs.json.StringBack.{plain-is}
-use Rattle.spec_json.proofs.json.NumberBack.{Digits, decimal-digits}
+use Rattle.spec_json.proofs.json.NumberBack.{decimal-digits}
 use Rattle.spec_json.specs.map_json_write.Text.{field, line0, line2, line4, line6, segmentFirst, segmentRest, segmentText, segmentTexts, listText, mapRest, mapText}
 use Rattle.spec_json.specs.map_json_write.Names.{timescaleName, rateNumName, rateDenName, inputName, framesName, segmentsName, firstName, lastName, sourceName, countName, outputName, durationName}
+use Rattle.spec_caption.proofs.caption_stamp.RoundTrip.{Digits}
 
 -- whole characters: what stands behind them decides
 record Clean (v : List ℕ) : Type 0 where

@@ -29,8 +29,9 @@ use Rattle.promise.specs.Runs.{warningsIn}
 use Rattle.promise.proofs.AgainLaws.{text-again}
 use Rattle.promise.proofs.PartLaws.{all-right, passed-warnings}
 use Rattle.promise.proofs.RunLaws.{front, warnings-back}
-use Rattle.spec_runs.specs.one_call.Text.{refusedWith, emitsFor, textNumber, unlessRefused, toldOf, Retimed}
+use Rattle.spec_runs.specs.one_call.Text.{refusedWith, emitsFor, textNumber, toldOf, Retimed}
 use Rattle.spec_runs.specs.atonceruns.Claims.{saidOf, putThrough, TextHolds, TextPromise, TextFed}
+use Rattle.spec_runs.specs.caption_rows.Cues.{unlessRefused}
 
 -- what is not refused has a good timescale, a good map and a known kind
 pub good-of : (kind T : ℕ) (m : List ℕ) (n o w t : ℕ) → refusedWith kind T m n o w t ≡ 0 → Opened (configOf kind T) m

@@ -31,8 +31,9 @@ use Rattle.spec_session.specs.session.SessionCalls.{openOf, OpenAnswered}
 use Rattle.promise.specs.Plain.{plainRead}
 use Rattle.promise.specs.Promise.{configOf}
 use Rattle.spec_runs.specs.declared.one_call.Ran.{Ran}
-use Rattle.spec_runs.specs.one_call.Text.{outputFor, placesFor, lengthsFault, refusedWith, emitsFor, textNumber, unlessRefused, toldOf, Retimed}
+use Rattle.spec_runs.specs.one_call.Text.{outputFor, placesFor, lengthsFault, refusedWith, emitsFor, textNumber, toldOf, Retimed}
 use Rattle.spec_runs.specs.one_call.Ran.{Ready, RanText, tellsOf}
+use Rattle.spec_runs.specs.caption_rows.Cues.{unlessRefused}
 
 -- ---- seven numbers stored
 pub seven-stored : (l : List ℕ) (a b c d e f g : ℕ) → 7 ≤ length l
