@@ -1,6 +1,5 @@
 // A piece is taken byte by byte. `Going` says how far the call is: the text's number and counts, what is held, and how much is written.
 // The held bytes up to `start` are the open block, those up to `held` also the unfinished line.
-use ass_columns::Columns;
 use caption_fate::Config;
 use session_counts::Counts;
 use session_lines::Taken;
