@@ -7,12 +7,9 @@ use block_timing::locate;
 use caption_stamp::Time;
 use spec_runs::caption_rows::Said;
 ghost use mathlib.Core.Path.{_≡_};
-ghost use mathlib.Core.List.{[]};
-ghost use Prim.Native.Nat.{_+_, _-_, _≤_, _<_, _^_};
+ghost use Prim.Native.Nat.{_+_, _≤_, _<_, _^_};
 ghost use lib.ListN.{length};
-ghost use Rattle.spec_format.specs.block_timing.Style.{styleOf};
 ghost use Rattle.spec_format.specs.block_timing.Arrow.{timed};
-ghost use Rattle.spec_format.specs.block_cue.Block.{timingLineSays};
 ghost use Rattle.spec_runs.specs.caption_rows.Said.{timingSaid, blockSaid};
 
 // The timing line, on line `number`; `size` bytes of words stand from `at` on.

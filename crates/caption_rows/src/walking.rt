@@ -16,7 +16,7 @@ ghost use Rattle.spec_base.specs.base.Limits.{mostTaken};
 ghost use Rattle.spec_text.specs.text.Line.{linesOf};
 ghost use Rattle.spec_format.specs.ass_columns.Columns.{noColumns};
 ghost use Rattle.promise.specs.Plain.{bomLength, lineFault};
-ghost use Rattle.spec_runs.specs.caption_rows.Walk.{assTurn, assNext, assWalk, blockTurn, blockFrom, blockFirst, blockWalk, headTurn, vttWalk, walkOf, lineFrom, between, WalkedBy};
+ghost use Rattle.spec_runs.specs.caption_rows.Walk.{assTurn, assNext, assWalk, blockTurn, blockFrom, blockFirst, blockWalk, vttWalk, walkOf, lineFrom, between, WalkedBy};
 
 // The open block after a line: where it begins, and how many lines came before it.
 struct Turn {

@@ -8,7 +8,7 @@ use Prim.Native.Nat.{ℕ, _≤_}
 use lib.ListN.{length}
 use borrow.Author.Tests.{le-leb}
 use Rattle.spec_base.specs.base.Limits.{mostWork}
-use Rattle.spec_base.specs.base.Refusal.{_orElse_, faultUnless}
+use Rattle.spec_base.specs.base.Refusal.{faultUnless}
 use Rattle.spec_base.proofs.base.RefusalLaws.{else-none}
 use Rattle.sheet_vectors.specs.Small.{smallSheet}
 use Rattle.spec_map.specs.segment.Segment.{flatOf}

@@ -2,7 +2,6 @@
 use mathlib.Core.Bool.{cond}
 use mathlib.Core.List.{List, [], _∷_}
 use Prim.Native.Nat.{ℕ}
-use lib.Dec.{eqb}
 use Rattle.spec_text.specs.whitespace.White.{trim}
 use Rattle.spec_text.specs.pattern.Find.{equals, upTo, past}
 use Rattle.spec_caption.specs.caption_time.Kind.{kindBad}

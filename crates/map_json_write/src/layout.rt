@@ -3,7 +3,6 @@ use crate::pieces::bytes_at;
 use crate::pieces::named_at;
 use crate::pieces::three_at;
 use crate::quoting::quoted_at;
-ghost use mathlib.Core.Path.{_≡_};
 ghost use mathlib.Core.List.{[], _∷_, _++_};
 ghost use Prim.Native.Nat.{_+_, _≤_};
 ghost use lib.ListN.{length};

@@ -1,7 +1,6 @@
 -- What a blank list comes to on small sheets, by computation (document 02, 2.4): the segment of the range from 0 to n, or the refusal of that range.
 use mathlib.Core.Path.{_≡_, refl}
-use mathlib.Core.List.{List, [], _∷_}
-use Prim.Native.Nat.{ℕ}
+use mathlib.Core.List.{[], _∷_}
 use Rattle.spec_base.specs.base.Part.{last}
 use Rattle.spec_base.specs.base.Refusal.{_orElse_, faultUnless}
 use Rattle.spec_text.specs.utf8.Utf8.{leadLen, secondLow, secondHigh, tail, widthBy, charWidth, codeBy, codeHead}

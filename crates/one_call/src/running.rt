@@ -1,6 +1,5 @@
 // A whole text: one feed of it, and the finish.
 use session::Fed;
-use session_counts::Counts;
 use session_state::Head;
 use session_state::Session;
 use session_text::TextFed;

@@ -3,11 +3,10 @@ use mathlib.Core.Path.{_≡_, refl, sym, ap, subst, _∙_}
 use mathlib.Core.Bool.{Bool, true, false, cond, _&&_}
 use mathlib.Core.List.{List, [], _∷_, _++_}
 use Prim.Native.Nat.{ℕ, zero, suc, _+_, _*_}
-use lib.Dec.{eqb}
 use Rattle.spec_text.specs.text.Line.{lineCount, concat}
 use Rattle.spec_caption.specs.caption_time.Kind.{kindBad, unitsOf}
 use Rattle.spec_caption.proofs.caption_time.Limits.{by-kind}
-use Rattle.spec_caption.specs.caption_fate.Says.{Part, stays, cue, passes, faultNumber}
+use Rattle.spec_caption.specs.caption_fate.Says.{Part, stays, cue, passes}
 use Rattle.spec_caption.specs.caption_fate.Bom.{startsBom, behindBom, bomWritten}
 use Rattle.spec_format.specs.declared.ass_columns.Columns.{Columns}
 use Rattle.spec_format.proofs.ass_columns.ColumnLaws.{Apart}
@@ -25,7 +24,7 @@ use Rattle.spec_format.proofs.back.Stands.{line-stands, block-stands}
 use Rattle.spec_format.proofs.whole.BlockShape.{blockLines, blocks-joined}
 use Rattle.spec_session.specs.session_counts.Reader.{Reading, fails, _⊕_}
 use Rattle.promise.specs.Plain.{lineFault, unlessFault, lineThen, assRead, bodyFault, blockThen, bodyThen, blanksThen, bomBehind, closesBlock, blocksRead, headFault, vttRead, linesRead, linesSay, opened, bomLength, readBehind, bomBack, plainRead}
-use Rattle.promise.specs.Again.{LineAgain, endSeconds, BlockAgain, CueAgain, PartAgain, AllAgain}
+use Rattle.promise.specs.Again.{endSeconds, PartAgain, AllAgain}
 use Rattle.promise.proofs.LinesCut.{Cut, cut-tail, cut-behind, cut-before, cut-lines, text-cut}
 
 again-append : (kind : ℕ) (xs ys : List Part) → AllAgain kind xs → AllAgain kind ys → AllAgain kind (xs ++ ys)

@@ -28,7 +28,7 @@ use Rattle.promise.proofs.PartLaws.{all-right, passed-warnings}
 
 -- from a fresh session the plain reader's answers
 module _ (c : Config) (m : List ℕ) (o : Opened c m) where
-  read-same : _≡_ {A = Bool → List ℕ → Reading} (λ f t. said (c .kind) f t) (λ f t. plainRead (c .kind) f t)
+  pub read-same : _≡_ {A = Bool → List ℕ → Reading} (λ f t. said (c .kind) f t) (λ f t. plainRead (c .kind) f t)
   read-same = λ i f t. said-plain (c .kind) (o .kind-known) f t i
 
   fresh-same : (xs : List Call) → Proper m xs

@@ -15,7 +15,7 @@ use Rattle.spec_text.specs.text.Number.{digit, digits, valueFrom, natural, unsi
 use Rattle.spec_text.specs.text.Line.{linesOf, textOf, terminatorLength, terminatorOf, blank}
 use Rattle.spec_caption.specs.caption_time.Kind.{kindBad, unitsOf, markOf}
 use Rattle.spec_caption.specs.caption_stamp.Read.{markIn, timeWith, timeIn}
-use Rattle.spec_caption.specs.caption_fate.Says.{Piece, bytes, start, stop, unplaced, Cue, stays, passes, cue}
+use Rattle.spec_caption.specs.caption_fate.Says.{bytes, start, stop, unplaced, stays, passes, cue}
 use Rattle.spec_format.specs.ass_columns.Columns.{namesIn, placeIn, columnsIn, fields, fieldAt}
 use Rattle.spec_format.specs.ass_write.Tags.{holdsAny}
 use Rattle.spec_format.specs.ass_line.Line.{captionSays, wordSays, textSays, lineSays}

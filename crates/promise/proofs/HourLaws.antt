@@ -13,7 +13,6 @@ use Rattle.spec_caption.specs.declared.caption_stamp.Time.{Time}
 use Rattle.spec_caption.specs.declared.caption_stamp.Time.the-variants.{At, Bad}
 use Rattle.spec_caption.specs.caption_stamp.Read.{timeIn}
 use Rattle.spec_caption.proofs.caption_stamp.Reading.{time-below}
-use Rattle.spec_caption.specs.caption_time.Kind.{kindBad}
 use Rattle.spec_caption.specs.caption_fate.Says.{Piece, unplaced, short, Cue, Part, stays, passes, cue}
 use Rattle.spec_format.specs.declared.ass_columns.Columns.{Columns}
 use Rattle.spec_format.specs.ass_columns.Columns.{columnsIn, fields, fieldAt}

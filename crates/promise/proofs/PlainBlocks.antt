@@ -24,6 +24,7 @@ use Rattle.promise.specs.Plain.{lineFault, bodyLineFault, unlessFault, b
 use Rattle.spec_format.proofs.whole.BlockShape.{blocks-none, blocks-blank, blocks-body}
 use Rattle.promise.proofs.Bare.{passed, endOf, readAll}
 use Rattle.promise.proofs.PlainAss.{rest-behind, ending}
+use Rattle.spec_session.proofs.kinds.KindLaws.{count-snoc}
 
 -- ---- the blocks of lines behind the lines that are held
 abbrev prefix : List (List ℕ) → List Block → List Block
@@ -45,7 +46,7 @@ body-none : (x size : ℕ) → bodyFault x size [] ≡ 0
 unfolding bodyFault
 body-none x size = refl
 
-mark-zero : (ks : List (List ℕ)) → bomBehind 0 ks ≡ 0
+pub mark-zero : (ks : List (List ℕ)) → bomBehind 0 ks ≡ 0
 mark-zero [] = refl
 mark-zero (k ∷ ks) = refl
 
@@ -74,10 +75,6 @@ body-faulty (k ∷ ks) more x size j e =
 
 first-line : (n n0 k : ℕ) → n ≡ n0 + k → suc n - k ≡ suc n0
 first-line n n0 k e = omega arith
-
-count-snoc : (ks : List (List ℕ)) (l : List ℕ) → lineCount (ks ++ (l ∷ [])) ≡ suc (lineCount ks)
-count-snoc [] l = refl
-count-snoc (k ∷ ks) l = ap suc (count-snoc ks l)
 
 mark-snoc : (x : ℕ) (ks : List (List ℕ)) (l : List ℕ) → bomBehind x (ks ++ (l ∷ [])) ≡ 0
 mark-snoc x [] l = refl

@@ -1,6 +1,6 @@
 -- A run of calls that met their contracts is a trace of the model's.
 use mathlib.Core.Path.{_≡_, refl, sym, ap, subst, _∙_}
-use mathlib.Core.Bool.{Bool, true, false}
+use mathlib.Core.Bool.{false}
 use mathlib.Core.List.{List, [], _∷_, _++_}
 use Prim.Native.Nat.{ℕ, _≤_, _+_}
 use native.Mathlib.Omega.{arith}
@@ -12,7 +12,7 @@ use Rattle.spec_map.specs.segment.Segment.{mapBad}
 use Rattle.spec_caption.specs.caption_fate.Emit.{Warning, outputOf, warningsOf, placesOf}
 use Rattle.spec_format.specs.declared.ass_columns.Columns.{Columns}
 use Rattle.spec_session.specs.session_counts.Machine.{Run, going, stopped, finishRun, restOf}
-use Rattle.spec_session.specs.session_counts.Session.{Call, feed, finish, lentOf, argumentBad, Gate, refuse, admit, gate, settle, resume, respond, answer}
+use Rattle.spec_session.specs.session_counts.Session.{Call, feed, finish, lentOf, argumentBad, Gate, refuse, admit, settle, resume, respond, answer}
 use Rattle.spec_session.specs.session_counts.Session as model
 use Rattle.spec_session.specs.session_counts.Calls.{Played}
 use Rattle.spec_session.proofs.session_counts.Resume.{Stopped, finish-stops}
@@ -21,7 +21,7 @@ use Rattle.spec_session.specs.kinds.Takes.{State, machineOf}
 use Rattle.spec_session.specs.kinds.Kit.{kit}
 use Rattle.spec_session.proofs.kinds.EmptyPiece.{empty-piece}
 use Rattle.spec_session.specs.declared.session_state.Session.{Session}
-use Rattle.spec_session.specs.session_state.View.{view, stored, padded, foreignOf}
+use Rattle.spec_session.specs.session_state.View.{view, stored, foreignOf}
 use Rattle.spec_session.proofs.session_state.ViewLaws.{view-stored, padded-length, native-view}
 use Rattle.spec_session.specs.declared.session.Fed.{Fed}
 use Rattle.spec_session.specs.session.SessionCalls.{answerOf, sessionGate, gateNumber, nextBy, nextOf, Answered}

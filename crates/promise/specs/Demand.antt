@@ -1,9 +1,9 @@
 -- Demand 3: what is right for each part of a text, put through the map; what the plain reader has read after a list of calls; and `Demand`, which is
 -- stronger than the promise: the numbers, the bytes, the warnings and the counts are those that are computed from the text.
 use mathlib.Core.Path.{_≡_}
-use mathlib.Core.Bool.{Bool, true, false, _&&_, _||_}
+use mathlib.Core.Bool.{Bool, false, _&&_, _||_}
 use mathlib.Core.List.{List, [], _∷_, _++_}
-use Prim.Native.Nat.{ℕ, suc}
+use Prim.Native.Nat.{ℕ}
 use lib.Dec.{ltb, leb}
 use Rattle.spec_caption.specs.caption_time.Kind.{unitsOf}
 use Rattle.spec_caption.specs.caption_time.Convert.{ticksOf}

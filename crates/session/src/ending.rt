@@ -8,7 +8,7 @@ use session_lines::put_bom;
 use spec_session::session::Going;
 ghost use mathlib.Core.Path.{_≡_};
 ghost use mathlib.Core.List.{List, []};
-ghost use Prim.Native.Nat.{ℕ, _≤_, _<_, _+_, _^_};
+ghost use Prim.Native.Nat.{ℕ, _<_, _+_, _^_};
 ghost use lib.Dec.{eqb};
 ghost use lib.ListN.{length, take};
 ghost use Rattle.spec_text.specs.text.Line.{concat};

@@ -3,6 +3,5 @@ pub mod TokenLaws
 pub mod TokensLaws
 pub mod RangeLaws
 pub mod ReadLaws
-pub mod Bounds
 pub mod Edges
 pub mod Vectors

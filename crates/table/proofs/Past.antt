@@ -1,7 +1,6 @@
 -- A segment past the limits of a map, and one at them.
 use mathlib.Core.Path.{_≡_, refl}
-use mathlib.Core.Bool.{cond}
-use mathlib.Core.List.{List, [], _∷_}
+use mathlib.Core.List.{[], _∷_}
 use Rattle.spec_caption.specs.caption_time.Kind.{kindBad, unitsOf}
 use Rattle.spec_caption.specs.caption_time.Convert.{ticksOf, coreHolds, ticksWithin}
 use Rattle.spec_map.specs.segment.Segment.{segment, endBad}

@@ -1,9 +1,8 @@
 -- What a line asks for at every input: three bytes of output for each of its own, and four places (16). By computation.
 use mathlib.Core.Path.{_≡_, refl}
-use mathlib.Core.List.{List, [], _∷_}
+use mathlib.Core.List.{[], _∷_}
 use Prim.Native.Nat.{ℕ}
 use Rattle.spec_base.specs.base.Part.{last}
-use Rattle.spec_base.specs.base.Ascii.{ascii}
 use Rattle.spec_text.specs.utf8.Utf8.{leadLen, secondLow, secondHigh, tail, widthBy, charWidth, codeBy, codeHead}
 use Rattle.spec_text.specs.whitespace.White.{whiteHigh, white, whiteHead, endsWhite, whiteTail, headFrom, keepFrom, trimHead, trimTail, trim}
 use Rattle.spec_text.specs.pattern.Find.{equals}

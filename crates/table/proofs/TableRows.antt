@@ -1,7 +1,6 @@
 -- The rows of document 01's table, over the map of its example: each by computation.
-use mathlib.Core.Path.{_≡_, refl}
-use mathlib.Core.Bool.{cond}
-use mathlib.Core.List.{List, [], _∷_}
+use mathlib.Core.Path.{refl}
+use mathlib.Core.List.{[], _∷_}
 use Rattle.table.proofs.Past.{strange-told, limit-told}
 use Rattle.spec_base.specs.base.Part.{last}
 use Rattle.spec_text.specs.utf8.Utf8.{leadLen, secondLow, secondHigh, tail, widthBy, charWidth, codeBy, codeHead}
@@ -14,7 +13,6 @@ use Rattle.spec_caption.specs.caption_time.Kind.{kindBad, unitsOf, markOf, frac
 use Rattle.spec_caption.specs.caption_time.Convert.{ticksOf, startUnits, endUnits, scaledUp}
 use Rattle.spec_caption.specs.caption_stamp.Read.{markIn, timeWith, timeIn}
 use Rattle.spec_caption.specs.caption_stamp.Write.{pad, widthUnder, width, textWith, timeText}
-use Rattle.spec_map.specs.declared.segment.Segment.{Segment}
 use Rattle.spec_map.specs.segment.Segment.{segment}
 use Rattle.spec_caption.specs.caption_fate.Hit.{meetsParts, findFrom}
 use Rattle.spec_caption.specs.caption_fate.Lost.{lostLater}

@@ -23,8 +23,8 @@ use Rattle.spec_ask.specs.ask_edges.Edge.{edge, edgeAt, edgesOf, edgeWit
 use Rattle.spec_ask.specs.ask_edges.Count.{startsIn, keptFast, wholeFast, EdgesAscend}
 use Rattle.spec_ask.proofs.ask_edges.Fine.{edge-empty, edge-fine}
 use Rattle.spec_ask.specs.ask_census.Census.{mostStarts}
-use Rattle.spec_ask.proofs.ask_census.Rising.{pos-of}
 use Rattle.spec_ask.proofs.ask_census.Starts.{starts-sum, rises, whole-counted, kept-counted}
+use Rattle.spec_base.proofs.base.Laws.{pos-of}
 
 within-none : (lo hi N : ℕ) → hi ≡ 0 → startsIn lo hi N ≡ 0
 unfolding startsIn

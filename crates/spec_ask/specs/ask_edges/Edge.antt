@@ -2,7 +2,7 @@
 -- in it whole exactly where low ≤ S and E < high: ticks are rounded down, so that tick k is reached by the least time that is k rounded up.
 use mathlib.Core.Bool.{Bool, true, false, _&&_, cond}
 use mathlib.Core.List.{List, [], _∷_}
-use Prim.Native.Nat.{ℕ, suc, _+_, _≤_}
+use Prim.Native.Nat.{ℕ, suc, _+_}
 use lib.Dec.{ltb, leb, eqb}
 use Rattle.spec_caption.specs.caption_time.Convert.{endUnits, endWithin}
 use Rattle.spec_map.specs.declared.segment.Segment.{Segment}

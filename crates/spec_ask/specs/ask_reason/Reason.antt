@@ -1,7 +1,7 @@
 -- Request 2.8. The fate of a caption and the reason: the segment that is met first, which ends were cut and by how many ticks; or, of a dropped one, why
 -- each segment is not met.
 use mathlib.Core.Path.{_≡_}
-use mathlib.Core.Bool.{Bool, true, false, cond, not}
+use mathlib.Core.Bool.{cond, not}
 use mathlib.Core.List.{List, [], _∷_}
 use Prim.Native.Nat.{ℕ, zero, suc, _+_, _-_, _/_, _≤_, _<_}
 use lib.Dec.{leb, eqb}

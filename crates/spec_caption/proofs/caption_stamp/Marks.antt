@@ -3,7 +3,7 @@ use mathlib.Core.Path.{_≡_, refl, sym, ap, _∙_}
 use mathlib.Core.Bool.{Bool, true, false}
 use mathlib.Core.Logic.{_⊎_, inl, inr, ⊎-elim}
 use mathlib.Core.List.{List, [], _∷_}
-use Prim.Native.Nat.{ℕ, zero, suc, _+_, _-_, _≤_}
+use Prim.Native.Nat.{ℕ, zero, suc, _+_, _-_}
 use native.Mathlib.Omega.{arith}
 use borrow.Author.Tests.{ltb-false}
 use lib.ListN.{length, drop, length-drop}
@@ -15,7 +15,6 @@ use Rattle.spec_text.specs.whitespace.White.{white, whiteHigh, trim}
 use Rattle.spec_text.specs.pattern.Find.{first, contains, upTo, past}
 use Rattle.spec_text.specs.pattern.Piece.{comma}
 use Rattle.spec_text.proofs.pattern.Free.{Free, none-free}
-use Rattle.spec_caption.specs.declared.caption_stamp.Time.{Time}
 use Rattle.spec_caption.specs.declared.caption_stamp.Time.the-variants.{At, Bad}
 use Rattle.spec_caption.specs.caption_time.Kind.{kindBad, unitsOf}
 use Rattle.spec_caption.specs.caption_stamp.Read.{colon, markIn, timeFrom, timeWith, timeIn}

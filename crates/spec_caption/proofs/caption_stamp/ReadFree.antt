@@ -16,8 +16,8 @@ use Rattle.spec_text.specs.declared.text.Number.{Number}
 use Rattle.spec_text.specs.declared.text.Number.the-variants.{Value, Bad as NoNumber}
 use Rattle.spec_text.specs.text.Number.{digit, digits, valueFrom, natural, unsigned, number}
 use Rattle.spec_text.specs.utf8.Utf8.{charWidth, codeHead}
-use Rattle.spec_text.specs.whitespace.White.{white, whiteHigh, whiteHead, endsWhite, whiteTail, headFrom, keepFrom, trimHead, trimTail, trim}
-use Rattle.spec_text.specs.pattern.Find.{starts, first, contains, upTo, past}
+use Rattle.spec_text.specs.whitespace.White.{white, whiteHead, endsWhite, whiteTail, headFrom, keepFrom, trimHead, trimTail, trim}
+use Rattle.spec_text.specs.pattern.Find.{starts, first, upTo, past}
 use Rattle.spec_text.specs.unicode.Encode.{encode}
 use Rattle.spec_text.proofs.unicode.Encoding.{encoded}
 use Rattle.spec_text.proofs.unicode.Decoding.{decoded}

@@ -8,7 +8,7 @@ use lib.Dec.{leb, ltb, eqb}
 use lib.ListN.{length}
 use native.Mathlib.Nat.{mul-le-mul, mul-le-mul-right}
 use native.Mathlib.Omega.{arith}
-use borrow.Author.Tests.{leb-true, lt-ltb, ne-eqb, eq-eqb, eqb-true, ltb-false}
+use borrow.Author.Tests.{leb-true, ne-eqb, eq-eqb, eqb-true}
 use Rattle.spec_base.specs.base.Limits.{mostHours, mostMinutes, mostSeconds, mostUnits}
 use Rattle.spec_base.proofs.base.Laws.{yes!, no! }
 use Rattle.spec_text.specs.declared.text.Number.{Number}
@@ -17,7 +17,7 @@ use Rattle.spec_text.specs.text.Number.{digit, digits, valueFrom, natural, unsi
 use Rattle.spec_text.specs.pattern.Find.{starts, first, contains, upTo, past}
 use Rattle.spec_text.specs.pattern.Piece.{comma}
 use Rattle.spec_text.proofs.pattern.Free.{Free}
-use Rattle.spec_text.proofs.text.Laws.{digits-refused}
+use Rattle.spec_text.proofs.text.Laws.{digits-refused, digit-low}
 use Rattle.spec_text.specs.whitespace.White.{trim}
 use Rattle.spec_text.proofs.pattern.Laws.{up-past}
 use Rattle.spec_text.proofs.text.LineLaws.{number-some, trim-length}
@@ -176,10 +176,6 @@ module _ (U n mark k : ℕ) (text : List ℕ) (e : timeWith U mark text ≡ At n
 -- ---- WebVTT
 no-value : {A : Type 0} {v : ℕ} → NoNumber ≡ Value v → A
 no-value e = absurd (let z : _≡_ {A = ℕ} 0 1 = ap (λ (x : Number). elim x [ Value k ↦ 1 | NoNumber ↦ 0 ]) e in omega arith)
-
-digit-low : (b : ℕ) → b < 0x30 → digit b ≡ false
-unfolding digit
-digit-low b h = sym (yes! _ (lt-ltb b 0x30 h) refl)
 
 -- digits alone are a number
 natural-number : (most v : ℕ) (s : List ℕ) → natural most s ≡ Value v → number most s ≡ Value v

@@ -11,7 +11,7 @@ use borrow.Author.Tests.{eq-eqb, ne-eqb, lt-ltb, le-ltb, lt-leb}
 use Rattle.spec_base.proofs.base.Laws.{yes!, no! }
 use Rattle.spec_text.specs.declared.text.Number.the-variants.{Value}
 use Rattle.spec_text.specs.text.Number.{digits, valueFrom, natural, number}
-use Rattle.spec_text.specs.pattern.Find.{starts, first, contains, upTo, past}
+use Rattle.spec_text.specs.pattern.Find.{first, contains, upTo, past}
 use Rattle.spec_text.specs.pattern.Piece.{comma}
 use Rattle.spec_text.specs.whitespace.White.{white, whiteHigh, trimHead, trimTail, trim}
 use Rattle.spec_text.specs.unicode.Encode.{encode, Scalar}
@@ -25,18 +25,18 @@ use Rattle.spec_caption.specs.caption_stamp.Read.{colon, markIn, point, 
 use Rattle.spec_caption.specs.caption_stamp.Write.{pad, width, widest, textWith, timeText}
 use Rattle.spec_caption.proofs.caption_time.Limits.{units-low, fraction-low, fraction-holds}
 use Rattle.spec_caption.proofs.caption_stamp.Written.{text-some, text-none}
-use Rattle.spec_text.proofs.pattern.Free.{Free, free-append, first-free, none-free, up-byte, past-byte}
+use Rattle.spec_text.proofs.pattern.Free.{Free, free-append, first-free, none-free, up-byte, past-byte, first-one}
 use Rattle.spec_caption.proofs.caption_stamp.Pad.{pad-length, width-pos, width-pow}
 
 -- a list of digits, and a byte that is none
-abbrev Digits : List ℕ → Type 0
-Digits [] = Unit
+abbrev pub Digits : List ℕ → Type 0
+Digits [] = Unit {0}
 Digits (b ∷ s) = ((48 ≤ b) × (b ≤ 57)) × Digits s
 
 abbrev Mark : ℕ → Type 0
 Mark c = (b : ℕ) → 48 ≤ b → b ≤ 57 → c ≡ b → ⊥
 
-digits-snoc : (xs : List ℕ) (b : ℕ) → Digits xs → 48 ≤ b → b ≤ 57 → Digits (xs ++ b ∷ [])
+pub digits-snoc : (xs : List ℕ) (b : ℕ) → Digits xs → 48 ≤ b → b ≤ 57 → Digits (xs ++ b ∷ [])
 digits-snoc [] b d l h = ((l, h), tt)
 digits-snoc (x ∷ xs) b d l h = (d .0, digits-snoc xs b (d .1) l h)
 
@@ -50,7 +50,7 @@ digits-free c m [] d = tt
 digits-free c m (b ∷ s) d = (m b (d .0 .0) (d .0 .1), digits-free c m s (d .1))
 
 -- a number read back
-digits-true : (xs : List ℕ) → Digits xs → digits xs ≡ true
+pub digits-true : (xs : List ℕ) → Digits xs → digits xs ≡ true
 unfolding digits
 digits-true [] d = refl
 digits-true (b ∷ s) d = sym (yes! _ (digit-some b (d .0 .0) (d .0 .1)) (sym (digits-true s (d .1))))
@@ -59,7 +59,7 @@ no-plus : (s : List ℕ) → Digits s → getD s 0 0 ≡ 0x2B → ⊥
 no-plus [] d e = omega arith
 no-plus (b ∷ s) d e = omega arith
 
-value-pad : (k a n : ℕ) (s : List ℕ) → n < 10 ^ k → valueFrom a (pad k n ++ s) ≡ valueFrom (a * 10 ^ k + n) s
+pub value-pad : (k a n : ℕ) (s : List ℕ) → n < 10 ^ k → valueFrom a (pad k n ++ s) ≡ valueFrom (a * 10 ^ k + n) s
 unfolding pad valueFrom
 value-pad zero a n s h = ap (λ (m : ℕ). valueFrom m s) (omega arith)
 value-pad (suc k) a n s h =
@@ -68,7 +68,7 @@ value-pad (suc k) a n s h =
     ap (valueFrom a) (append-snoc (pad k (n / 10)) d s) ∙ value-pad k a (n / 10) (d ∷ s) (omega arith) ∙
     ap (λ (m : ℕ). valueFrom m s) (omega (arith, pow-suc 10 k, mul-assoc a (10 ^ k) 10, ap (λ (m : ℕ). a * m) (pow-suc 10 k)))
 
-value-nil : (v : ℕ) → valueFrom v [] ≡ v
+pub value-nil : (v : ℕ) → valueFrom v [] ≡ v
 unfolding valueFrom
 value-nil v = refl
 
@@ -166,10 +166,6 @@ module _ (U frac least mark units : ℕ) (hU : 0 < U) (hf : U ≤ 10 ^ frac) (hf
       (ap (λ (n : ℕ). At n mark) (ap (λ (n : ℕ). n * U + f) sum ∙ div-add-mod' units U))
 
 -- a byte found behind others
-first-one : (c : ℕ) (t : List ℕ) → first (c ∷ []) (c ∷ t) ≡ 0
-unfolding first starts
-first-one c t = rw (eq-eqb c c refl)
-
 found-at : (c : ℕ) (s t : List ℕ) → Free c s → first (c ∷ []) (s ++ c ∷ t) ≡ length s
 found-at c s t f = first-free c [] s (c ∷ t) f ∙ omega (arith, first-one c t)
 
@@ -293,14 +289,6 @@ pub vtt-back : (units : ℕ) → units < 36000000 * unitsOf 2 → timeIn 2 (time
 unfolding timeIn kindBad unitsOf fractionDigits hourDigits
 vtt-back units h =
     ap (λ (s : List ℕ). vttTime (trim s)) (text-some 2 46 units refl) ∙ ap vttTime (trim-with 1000 3 2 46 units (omega arith)) ∙ with-vtt units h
-
--- nothing of a written time is white space at an end
-pub text-trimmed : (kind mark units : ℕ) → kindBad kind ≡ false → trim (timeText kind mark units) ≡ timeText kind mark units
-text-trimmed kind mark units e =
-    let U = unitsOf kind in
-    let f = fractionDigits kind in
-    let d = hourDigits kind in
-    rw (text-some kind mark units e) (trim-with U f d mark units (omega (arith, fraction-low kind e)))
 
 -- a byte that is no digit, no `:` and not the mark does not stand in a written time
 with-free : (U frac least mark units c : ℕ) → Mark c → (c ≡ 58 → ⊥) → (c ≡ mark → ⊥) → Free c (textWith U frac least mark units)

@@ -1,6 +1,5 @@
 -- The number and the values of a time: a bad one is 22, with values 0.
 use mathlib.Core.Path.{_≡_, refl}
-use Prim.Native.Nat.{ℕ}
 use native.Mathlib.Omega.{arith}
 use Rattle.spec_caption.specs.declared.caption_stamp.Time.{Time}
 use Rattle.spec_caption.specs.declared.caption_stamp.Time.the-variants.{At, Bad}

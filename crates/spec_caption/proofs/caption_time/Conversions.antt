@@ -1,5 +1,5 @@
 -- Laws of the three conversions, for any T and U above 0: how each rounds, and that larger times give larger ones.
-use Prim.Native.Nat.{ℕ, _+_, _-_, _*_, _≤_, _<_}
+use Prim.Native.Nat.{ℕ, _+_, _*_, _≤_, _<_}
 use Rattle.spec_caption.specs.caption_time.Convert.{ticksOf, startUnits, endUnits}
 use Rattle.spec_caption.proofs.caption_time.Scale.{down-low, down-high, up-low, up-high, up-down, down-up, down-mono, up-mono, down-add}
 
@@ -56,7 +56,3 @@ module _ (T U : ℕ) where
   pub ticks-add : (a b : ℕ) → 0 < U → ticksOf T U a + ticksOf T U b ≤ ticksOf T U (a + b)
   unfolding ticksOf
   ticks-add a b h = down-add a b T h
-
-  pub start-add : (a b : ℕ) → 0 < T → startUnits T U a + startUnits T U b ≤ startUnits T U (a + b)
-  unfolding startUnits
-  start-add a b h = down-add a b U h

@@ -1,10 +1,10 @@
 -- What the kinds and the limits of conversions say, and that a conversion within them fits.
-use Prim.Native.Nat.{ℕ, zero, suc, _-_, _*_, _/_, _^_, _≤_, _<_}
+use Prim.Native.Nat.{ℕ, zero, suc, _*_, _/_, _^_, _≤_, _<_}
 use mathlib.Core.Path.{_≡_, refl, sym, ap, _∙_}
 use mathlib.Core.Bool.{Bool, true, false, cond, not, true≢false}
 use native.Mathlib.Nat.{mul-le-mul}
 use native.Mathlib.Omega.{arith}
-use borrow.Author.Tests.{le-ltb, le-leb, lt-leb, eq-eqb, ne-eqb, leb-true, ltb-false}
+use borrow.Author.Tests.{le-ltb, le-leb, lt-leb, eq-eqb, ne-eqb, leb-true, ltb-false, not-true}
 use lib.Dec.{eqb, ltb, leb}
 use Rattle.spec_base.specs.base.Limits.{mostTimescale, mostUnits, mostTicks}
 use Rattle.spec_base.specs.base.Refusal.{_orElse_, faultUnless}
@@ -88,10 +88,6 @@ timescale-high T e = go (ltb T 1) e
     go false z = ltb-false mostTimescale T z
 
 -- ---- the numbers of lone conversions
-not-true : (b : Bool) → not b ≡ true → b ≡ false
-not-true true e = absurd (true≢false (sym e))
-not-true false e = refl
-
 pub setting-15 : (kind T : ℕ) (b : Bool) → b ≡ timescaleBad T → b ≡ true → 15 ≡ settingNumber kind T
 unfolding settingNumber
 setting-15 kind T b e h =

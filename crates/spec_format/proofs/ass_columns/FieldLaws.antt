@@ -1,7 +1,7 @@
 -- Laws of fields: the first one, and those after it.
 use mathlib.Core.Path.{_≡_, refl, sym, ap, subst, _∙_}
 use mathlib.Core.Bool.{Bool, true, false, cond}
-use mathlib.Core.List.{List, [], _∷_, _++_}
+use mathlib.Core.List.{List, [], _∷_}
 use Prim.Native.Nat.{ℕ, zero, suc, _+_, _-_, _≤_, _<_}
 use native.Mathlib.Omega.{arith}
 use borrow.Author.Tests.{lt-ltb, le-ltb, le-leb, lt-leb, ltb-true, ltb-false, leb-true, leb-false}
@@ -122,7 +122,7 @@ at-none (suc k) [] h = refl
 at-none (suc zero) (f ∷ fs) h = absurd (omega arith)
 at-none (suc (suc k)) (f ∷ fs) h = at-none (suc k) fs (omega arith)
 
-at-zero : (fs : List (List ℕ)) → fieldAt 0 fs ≡ []
+pub at-zero : (fs : List (List ℕ)) → fieldAt 0 fs ≡ []
 unfolding fieldAt
 at-zero fs = refl
 

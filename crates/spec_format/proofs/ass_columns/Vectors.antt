@@ -2,9 +2,9 @@
 use mathlib.Core.Path.{_≡_, refl, ap, _∙_}
 use mathlib.Core.Bool.{Bool, true, false, cond}
 use mathlib.Core.List.{List, [], _∷_, _++_, map}
-use Prim.Native.Nat.{ℕ, zero, suc}
+use Prim.Native.Nat.{ℕ, suc}
 use native.Mathlib.Omega.{arith}
-use lib.Dec.{eqb, leb}
+use lib.Dec.{eqb}
 use lib.ListN.{length}
 use Rattle.spec_base.specs.base.Ascii.{ascii}
 use Rattle.spec_base.specs.base.Part.{last}
@@ -12,7 +12,6 @@ use Rattle.spec_text.specs.utf8.Utf8.{leadLen, secondLow, secondHigh, tail, wid
 use Rattle.spec_text.specs.whitespace.White.{whiteHigh, white, whiteHead, endsWhite, whiteTail, headFrom, keepFrom, trimHead, trimTail, trim}
 use Rattle.spec_text.specs.pattern.Find.{starts, equals}
 use Rattle.spec_text.specs.pattern.Piece.{comma, ontoFirst, piecesFrom, pieces}
-use Rattle.spec_format.specs.declared.ass_columns.Columns.{Columns}
 use Rattle.spec_format.specs.ass_columns.Columns.{namesIn, placeIn, columnsIn}
 
 -- ---- the trimmings are one more than the line's commas

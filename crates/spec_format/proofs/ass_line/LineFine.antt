@@ -1,8 +1,8 @@
 -- Within the limits the code's answer to a line is document 01's.
-use mathlib.Core.Path.{_≡_, refl, sym, ap, subst, _∙_}
+use mathlib.Core.Path.{_≡_, refl}
 use mathlib.Core.Bool.{Bool, true, false, cond}
-use mathlib.Core.List.{List, [], _∷_}
-use Prim.Native.Nat.{ℕ, suc, _+_, _*_, _≤_, _<_}
+use mathlib.Core.List.{List}
+use Prim.Native.Nat.{ℕ, suc, _*_, _≤_, _<_}
 use native.Mathlib.Omega.{arith}
 use borrow.Author.Tests.{le-ltb}
 use lib.Dec.{eqb, ltb}
@@ -17,8 +17,8 @@ use Rattle.spec_caption.specs.caption_stamp.Read.{markIn, timeIn}
 use Rattle.spec_caption.proofs.caption_stamp.Reading.{time-below, time-mark}
 use Rattle.spec_map.specs.segment.Segment.{segmentsOf, mapBad}
 use Rattle.spec_caption.specs.declared.caption_fate.Config.{Config}
-use Rattle.spec_caption.specs.caption_fate.Says.{Cue, unplaced, short, Part, stays, passes, cue}
-use Rattle.spec_caption.specs.caption_fate.Emit.{emitBy, emitOf}
+use Rattle.spec_caption.specs.caption_fate.Says.{Cue, unplaced, short, stays, passes, cue}
+use Rattle.spec_caption.specs.caption_fate.Emit.{emitBy}
 use Rattle.spec_caption.specs.caption_fate.Told.{partIn}
 use Rattle.spec_caption.proofs.caption_fate.FineLaws.{Set, cue-fine}
 use Rattle.spec_format.specs.declared.ass_columns.Columns.{Columns}
@@ -88,9 +88,6 @@ line-timed c n l = go (bracketed (trim (textOf l))) (c .events)
     go true y = tt
     go false true = word-timed c n l (textOf l)
     go false false = tt
-
-pub line-timely : (c : Columns) (n : ℕ) (l : List ℕ) (e : Columns) (q : Cue) → lineSays c n l ≡ says e (cue q) → Timely n q
-line-timely c n l e q p = subst (Timed n) p (line-timed c n l)
 
 -- ---- the answer
 answer-fine : (s : Config) → Set s → (m : List ℕ) → mapBad m ≡ false → (n : ℕ) (x : LineSays) → Timed n x → lineAnswerIn s (segmentsOf m) x ≡ lineAnswer s (segmentsOf m) x

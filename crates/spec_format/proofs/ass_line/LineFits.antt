@@ -1,8 +1,8 @@
 -- Room: what a line becomes has at most three bytes for each of its own, and at most two warnings, one for 7 bytes.
-use mathlib.Core.Path.{_≡_, refl, sym, ap, subst, _∙_}
+use mathlib.Core.Path.{_≡_, refl, subst}
 use mathlib.Core.Bool.{Bool, true, false, cond, _&&_}
-use mathlib.Core.List.{List, [], _∷_, _++_}
-use Prim.Native.Nat.{ℕ, suc, _+_, _*_, _≤_, _<_, _^_}
+use mathlib.Core.List.{List, [], _++_}
+use Prim.Native.Nat.{ℕ, suc, _+_, _*_, _≤_}
 use native.Mathlib.Omega.{arith}
 use lib.Dec.{eqb, ltb}
 use lib.ListN.{length, drop}
@@ -16,15 +16,13 @@ use Rattle.spec_caption.specs.caption_stamp.Write.{timeText}
 use Rattle.spec_caption.specs.caption_time.Convert.{coreUnits}
 use Rattle.spec_caption.proofs.caption_stamp.Reading.{time-most}
 use Rattle.spec_caption.proofs.caption_stamp.Written.{text-23}
-use Rattle.spec_map.specs.declared.segment.Segment.{Segment}
 use Rattle.spec_map.specs.segment.Segment.{segmentsOf, mapBad}
 use Rattle.spec_caption.specs.declared.caption_fate.Config.{Config}
 use Rattle.spec_caption.specs.declared.caption_fate.Decision.{Decision}
 use Rattle.spec_caption.specs.declared.caption_fate.Decision.the-variants.{Strange, Dropped, Kept}
-use Rattle.spec_caption.specs.caption_fate.Decide.{decideIn, decideOf}
-use Rattle.spec_caption.specs.caption_fate.Says.{unplaced, short, Part, stays, passes, cue}
+use Rattle.spec_caption.specs.caption_fate.Decide.{decideOf}
+use Rattle.spec_caption.specs.caption_fate.Says.{unplaced, short, Part, stays, passes}
 use Rattle.spec_caption.specs.caption_fate.Emit.{Emit, warnIf, cueEmit, emitBy, emitOf}
-use Rattle.spec_caption.specs.caption_fate.Told.{refusal, cueIn, partIn}
 use Rattle.spec_caption.proofs.caption_fate.FineLaws.{Set, decide-fine}
 use Rattle.spec_caption.proofs.caption_fate.WordLaws.{Words, decide-words}
 use Rattle.spec_format.specs.declared.ass_columns.Columns.{Columns}
@@ -32,10 +30,10 @@ use Rattle.spec_format.specs.ass_columns.Columns.{columnsIn, fields, fie
 use Rattle.spec_format.specs.ass_columns.Section.{eventsName, bracketed, inside, inSection}
 use Rattle.spec_format.specs.ass_write.Frame.{lineFrame}
 use Rattle.spec_format.specs.ass_line.Line.{formatWord, dialogueWord, commentWord, LineSays, faulty, says, lineCue, timesSay, captionSays, wordSays, textSays, lineSays}
-use Rattle.spec_format.specs.ass_line.AssThrough.{lineAnswerIn, lineIn}
 use Rattle.spec_format.proofs.ass_line.TellLaws.{render-most}
 use Rattle.spec_format.proofs.ass_write.FitLaws.{rest-long, line-most}
-use Rattle.spec_format.proofs.ass_line.SayLaws.{starts-long, parts-room}
+use Rattle.spec_format.proofs.ass_line.SayLaws.{parts-room}
+use Rattle.spec_text.proofs.pattern.PieceLaws.{starts-long}
 
 -- what is emitted for a line of n bytes
 pub record Small (n : ℕ) (e : Emit) : Type 0 where
@@ -143,25 +141,3 @@ pub line-fits : (s : Config) → Set s → (m : List ℕ) → mapBad m ≡ false
     → Small (length l) (emitOf s (segmentsOf m) p)
 line-fits s set m g c n l e p q =
     emit-fits (s .kind) (decideOf s (segmentsOf m)) (λ S E hs he. subst Words (decide-fine s set m S E g hs he) (decide-words s (segmentsOf m) S E)) c n l e p q
-
--- by the code, at every input
-answer-small : (s : Config) (m : List Segment) (n : ℕ) (x : LineSays) → SaysSmall (s .kind) (decideIn s m) n x → Small n (lineAnswerIn s m x .emitted)
-unfolding partIn emitBy
-answer-small s m n (faulty f) h = nothing n _ refl refl
-answer-small s m n (says e (stays l)) h = h
-answer-small s m n (says e (passes r k l)) h = h
-answer-small s m n (says e (cue q)) h = go (decideIn s m (q .start) (q .stop)) h
-  where
-    go : (d : Decision) → Small n (cueEmit (s .kind) q d) → Small n (cueIn (s .kind) q d .emitted)
-    go Strange h = nothing n _ refl refl
-    go Dropped h = h
-    go (Kept r) h = h
-
-pub line-in-fits : (s : Config) (m : List Segment) (c : Columns) (n : ℕ) (l : List ℕ) (room places : ℕ) → Small (length l) (lineIn s m c n l room places .emitted)
-unfolding lineIn
-line-in-fits s m c n l room places = go (ltb room (3 * length l)) (ltb places 4)
-  where
-    go : (x y : Bool) → Small (length l) (cond x (refusal 16) (cond y (refusal 16) (lineAnswerIn s m (lineSays c n l))) .emitted)
-    go true y = nothing (length l) _ refl refl
-    go false true = nothing (length l) _ refl refl
-    go false false = answer-small s m (length l) (lineSays c n l) (says-small (s .kind) (decideIn s m) (λ S E hs he. decide-words s m S E) c n l)

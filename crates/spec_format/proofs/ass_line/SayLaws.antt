@@ -1,13 +1,13 @@
 -- Laws of what a line says, case by case, and of what the functions of a line tell.
 use mathlib.Core.Path.{_≡_, refl, sym, ap, subst, _∙_}
 use mathlib.Core.Bool.{Bool, true, false, cond}
-use mathlib.Core.List.{List, [], _∷_, _++_}
-use Prim.Native.Nat.{ℕ, zero, suc, _+_, _*_, _-_, _/_, _≤_, _<_}
+use mathlib.Core.List.{List, [], _∷_}
+use Prim.Native.Nat.{ℕ, suc, _+_, _*_, _-_, _/_, _≤_, _<_}
 use native.Mathlib.Omega.{arith}
 use native.Mathlib.Numerals.{add-one}
 use borrow.Author.Tests.{lt-ltb, le-ltb, eq-eqb, ne-eqb, leb-true, leb-false}
 use lib.Dec.{eqb, ltb, leb}
-use lib.ListN.{length, take, drop, length-append, length-drop}
+use lib.ListN.{length, drop, length-append, length-drop}
 use Rattle.spec_base.specs.base.Put.{put}
 use Rattle.spec_text.specs.whitespace.White.{trim}
 use Rattle.spec_text.specs.pattern.Find.{starts, equals}
@@ -21,7 +21,7 @@ use Rattle.spec_caption.specs.declared.caption_fate.Config.{Config}
 use Rattle.spec_caption.specs.declared.caption_fate.Told.{Told}
 use Rattle.spec_caption.specs.caption_fate.Decide.{decideIn}
 use Rattle.spec_caption.specs.caption_fate.Fates.{passed}
-use Rattle.spec_caption.specs.caption_fate.Says.{Reason, unplaced, short, reasonNumber, Part, stays, passes, cue, badTime}
+use Rattle.spec_caption.specs.caption_fate.Says.{Reason, unplaced, short, reasonNumber, stays, passes}
 use Rattle.spec_caption.specs.caption_fate.Emit.{none, decided, emit, emitBy, warning}
 use Rattle.spec_caption.specs.caption_fate.Told.{refusal, answered, cueIn, partIn, Tells, refusedWith}
 use Rattle.spec_caption.proofs.caption_fate.TellLaws.{tells-same, tells-refused}
@@ -29,10 +29,11 @@ use Rattle.spec_format.specs.declared.ass_columns.Columns.{Columns}
 use Rattle.spec_format.specs.ass_columns.Columns.{columnsIn, fields, fieldAt}
 use Rattle.spec_format.specs.ass_columns.Section.{eventsName, bracketed, inside, inSection}
 use Rattle.spec_format.specs.ass_write.Frame.{lineFrame, frameMost}
-use Rattle.spec_format.specs.ass_line.Line.{formatWord, dialogueWord, commentWord, LineSays, faulty, says, lineCue, timesSay, captionSays, wordSays, textSays, lineSays}
+use Rattle.spec_format.specs.ass_line.Line.{formatWord, dialogueWord, commentWord, LineSays, says, lineCue, timesSay, captionSays, wordSays, textSays, lineSays}
 use Rattle.spec_format.specs.ass_line.AssThrough.{columnsAfter, lineAnswerIn, lineIn, columnsNext, stayedWith}
 use Rattle.spec_format.proofs.ass_line.TellLaws.{tells-stayed}
 use Rattle.spec_format.proofs.ass_write.FitLaws.{line-most}
+use Rattle.spec_text.proofs.pattern.PieceLaws.{starts-long}
 
 -- ---- a caption
 module _ (c : Columns) (n : ℕ) (l v r : List ℕ) where
@@ -152,16 +153,6 @@ module _ (s : Config) (m : List Segment) (c : Columns) (n : ℕ) (l v r f : List
           (ap (lineAnswerIn s m) (says-is (At E b) q)
           ∙ ap (λ (k : List ℕ). cueIn (s .kind) (lineCue c n v (fields (c .columns) r) k S a E b) (decideIn s m S E)) (sym ez))
           h
-
-pub starts-long : (p s : List ℕ) → starts p s ≡ true → length p ≤ length s
-unfolding starts
-starts-long [] s e = omega arith
-starts-long (a ∷ p) [] e = absurd (let z : _≡_ {A = ℕ} 0 1 = ap (λ (b : Bool). cond b 1 0) e in omega arith)
-starts-long (a ∷ p) (b ∷ s) e = go (eqb a b) e (starts-long p s)
-  where
-    go : (t : Bool) → cond t (starts p s) false ≡ true → (starts p s ≡ true → length p ≤ length s) → suc (length p) ≤ suc (length s)
-    go true q ih = omega (arith, ih q)
-    go false q ih = absurd (let z : _≡_ {A = ℕ} 0 1 = ap (λ (b : Bool). cond b 1 0) q in omega arith)
 
 -- ---- a line in Events, by its word: T is the text that the code has, and f, d, g what it was told of the three words
 module _ (s : Config) (m : List Segment) (c : Columns) (n : ℕ) (l T : List ℕ) (eT : T ≡ textOf l) (f : Bool) (ef : f ≡ starts formatWord T) (t : Told) (o o′ w w′ : List ℕ) where

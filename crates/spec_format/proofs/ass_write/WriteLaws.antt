@@ -2,21 +2,20 @@
 use mathlib.Core.Path.{_≡_, refl, sym, ap, subst, _∙_}
 use mathlib.Core.Bool.{Bool, true, false, cond}
 use mathlib.Core.List.{List, [], _∷_, _++_, append-assoc, append-nil}
-use Prim.Native.Nat.{ℕ, zero, suc, _+_, _-_, _≤_, _<_}
+use Prim.Native.Nat.{ℕ, suc, _+_, _-_, _≤_, _<_}
 use native.Mathlib.Omega.{arith}
 use native.Mathlib.Nat.{zero-add}
 use native.Mathlib.Numerals.{add-one}
 use borrow.Author.Tests.{leb-true, eq-eqb, ne-eqb}
 use lib.Dec.{eqb, leb}
-use lib.ListN.{length, take, drop, length-append, length-take, length-drop}
+use lib.ListN.{length, take, drop, length-append, length-drop}
 use Rattle.spec_base.specs.base.Put.{put, putAt, placed, placedLength, placedAt, placeAfter}
-use Rattle.spec_base.proofs.base.PutLaws.{put-nil, length-put, take-put, placed-yes, length-yes, then-placed}
+use Rattle.spec_base.proofs.base.PutLaws.{put-nil, take-put, placed-yes, length-yes, then-placed, placed-length}
 use Rattle.spec_text.specs.pattern.Find.{first}
 use Rattle.spec_caption.specs.caption_fate.Says.{Piece, bytes, start, stop}
 use Rattle.spec_caption.specs.caption_fate.Emit.{render}
-use Rattle.spec_format.specs.declared.ass_columns.Columns.{Columns}
 use Rattle.spec_format.specs.ass_columns.Columns.{fields}
-use Rattle.spec_format.specs.ass_write.Frame.{pieceAt, fieldPieces, lineFrame, pieceText, framePlaced, frameAfter}
+use Rattle.spec_format.specs.ass_write.Frame.{pieceAt, fieldPieces, pieceText, framePlaced, frameAfter}
 use Rattle.spec_format.proofs.ass_columns.FieldLaws.{fields-none, fields-least, head-last, head-two, head-more}
 use Rattle.spec_text.specs.pattern.Piece.{comma}
 
@@ -33,14 +32,6 @@ pub pieces-more : (i j k : ℕ) (f : List ℕ) (fs : List (List ℕ)) → 0 < le
 unfolding fieldPieces
 pieces-more i j k f [] h = absurd (omega arith)
 pieces-more i j k f (g ∷ fs) h = refl
-
-length-placed : (at : ℕ) (v l : List ℕ) → length (placedAt at v l) ≡ length l
-unfolding placedAt putAt put
-length-placed at v l = go (leb (at + length v) (length l)) refl
-  where
-    go : (t : Bool) → leb (at + length v) (length l) ≡ t → length (cond t (take at l ++ (v ++ drop (length v) (drop at l))) l) ≡ length l
-    go true e = simp (length-append, length-take, length-drop) (omega (arith, leb-true (at + length v) (length l) e))
-    go false e = refl
 
 -- a piece at the start
 pub at-start : (n : ℕ) (v o o′ : List ℕ) → (n ≡ placedLength v o) × (o′ ≡ placed v o) → (n ≡ placeAfter 0 v o) × (o′ ≡ placedAt 0 v o)
@@ -60,7 +51,7 @@ unfolding placeAfter
 after-room at n v o o′ h p = go (leb (at + length v) (length o)) refl (p .0)
   where
     same : length o′ ≡ length o
-    same = ap length (p .1) ∙ length-placed at v o
+    same = ap length (p .1) ∙ placed-length at v o
 
     go : (t : Bool) → leb (at + length v) (length o) ≡ t → n ≡ cond t (at + length v) at → n ≤ length o′
     go true e q = omega (arith, leb-true (at + length v) (length o) e, same)
@@ -164,7 +155,7 @@ module _ (s e : List ℕ) where
           (head-more n l t (inv .some) el h ∙ ap (λ (x : List ℕ). x ∷ fields (n - 1) (drop (l + 1) t)) (sym ef) ∙ ap (λ (x : List ℕ). f ∷ fields (n - 1) x) (sym eu))
           ∙ pieces-more i j k f (fields (n - 1) u) (fields-least (n - 1) u (omega arith)) in
           record {
-            long = ap length (p₂ .1) ∙ length-placed at₁ comma o₁ ∙ ap length (p .1) ∙ length-placed at (pieceText s e P) o ∙ inv .long;
+            long = ap length (p₂ .1) ∙ placed-length at₁ comma o₁ ∙ ap length (p .1) ∙ placed-length at (pieceText s e P) o ∙ inv .long;
             room = after-room at₁ at₂ comma o₁ o₂ (after-room at at₁ (pieceText s e P) o o₁ (inv .room) p) p₂;
             part = omega (arith, inv .part, ap length eu, length-drop (l + 1) t);
             some = omega arith;
@@ -183,7 +174,7 @@ module _ (s e : List ℕ) where
   frame-room [] at n o h q = omega (arith, q ∙ after-nil at o)
   frame-room (p ∷ ps) at n o h q =
       let b = pieceText s e p in
-      let l : length (placedAt at b o) ≡ length o = length-placed at b o in
+      let l : length (placedAt at b o) ≡ length o = placed-length at b o in
       let r : placeAfter at b o ≤ length (placedAt at b o) = after-room at (placeAfter at b o) b o (placedAt at b o) h (refl, refl) in
       omega (arith, l, frame-room ps (placeAfter at b o) n (placedAt at b o) r (q ∙ sym (after-step at _ p ps b o _ refl refl refl)))
 

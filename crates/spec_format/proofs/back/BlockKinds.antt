@@ -19,7 +19,6 @@ use Rattle.spec_caption.specs.caption_stamp.Write.{timeText}
 use Rattle.spec_caption.proofs.caption_stamp.Written.{srt-12}
 use Rattle.spec_caption.proofs.caption_stamp.Reading.{time-mark, time-marks}
 use Rattle.spec_caption.proofs.caption_stamp.RoundTrip.{comma-back, point-back, vtt-back}
-use Rattle.spec_text.specs.whitespace.White.{trim}
 use Rattle.spec_format.specs.block_timing.Style.{srtEnd, vttEnd, endIn}
 use Rattle.spec_format.proofs.back.TimingLine.{Plain, TimeMark, Blocked, plain-text}
 

@@ -1,5 +1,5 @@
 -- Within the limits the code's answer to a block is document 01's; and a block as one row of bytes is the block as its lines.
-use mathlib.Core.Path.{_≡_, refl, sym, ap, subst, _∙_}
+use mathlib.Core.Path.{_≡_, refl, sym, ap, _∙_}
 use mathlib.Core.Bool.{false}
 use mathlib.Core.Logic.{_⊎_}
 use mathlib.Core.List.{List, [], _∷_, _++_, append-nil}
@@ -22,7 +22,7 @@ use Rattle.spec_caption.specs.caption_fate.Says.{Cue, stays, passes, cue}
 use Rattle.spec_caption.specs.caption_fate.Emit.{emitBy}
 use Rattle.spec_caption.specs.caption_fate.Told.{partIn}
 use Rattle.spec_caption.proofs.caption_fate.FineLaws.{Set, cue-fine}
-use Rattle.spec_format.specs.block_timing.Style.{Style, stampsIn, styleOf}
+use Rattle.spec_format.specs.block_timing.Style.{stampsIn, styleOf}
 use Rattle.spec_format.specs.block_timing.Arrow
 use Rattle.spec_format.specs.block_timing.Arrow.{arrow, timingOf, Timing}
 use Rattle.spec_format.specs.block_cue.Block.{blockFrame, bothSay, endText, trailing, timingLineSays, timingSays, blockSays, BlockSays, faulty, says}
@@ -67,9 +67,6 @@ block-timed : (kind first : ℕ) (ls : List (List ℕ)) → Timed kind (blockSay
 unfolding blockSays
 block-timed kind first ls = timing-timed kind first ls (timingOf ls)
 
-pub block-timely : (kind first : ℕ) (ls : List (List ℕ)) (q : Cue) → blockSays (styleOf kind) first ls ≡ says (cue q) → Timely kind q
-block-timely kind first ls q e = subst (Timed kind) e (block-timed kind first ls)
-
 -- ---- the answer
 answer-fine : (c : Config) → Set c → (m : List ℕ) → mapBad m ≡ false → (b : BlockSays) → Timed (c .kind) b → blockAnswerIn c (segmentsOf m) b ≡ blockAnswer c (segmentsOf m) b
 unfolding partIn emitBy unitsOf
@@ -92,6 +89,3 @@ module _ (ls : List (List ℕ)) (f : Finished ls) where
 
   pub lines-open : (r : List ℕ) → 0 < length r → hasLf r ≡ false → linesOf (concat ls ++ r) ≡ ls ++ r ∷ []
   lines-open r h e = lines-back ls r f ∙ ap (λ (x : List (List ℕ)). ls ++ x) (line-last r h e)
-
-  pub held-block : (k : Style) (first : ℕ) → blockSays k first (linesOf (concat ls)) ≡ blockSays k first ls
-  held-block k first = ap (blockSays k first) lines-held

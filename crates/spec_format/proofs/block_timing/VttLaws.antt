@@ -1,10 +1,9 @@
 -- Laws of WebVTT's leaves: the end time, times inside a cue, the first line.
 use mathlib.Core.Path.{_≡_, refl, sym, ap, _∙_}
-use mathlib.Core.Bool.{Bool, true, false, cond, _&&_, _||_}
+use mathlib.Core.Bool.{Bool, true, false, cond}
 use mathlib.Core.List.{List, [], _∷_}
-use Prim.Native.Nat.{ℕ, zero, suc, _+_, _≤_, _<_, min}
+use Prim.Native.Nat.{ℕ, zero, suc, _+_, _≤_, _<_}
 use native.Mathlib.Omega.{arith}
-use native.Mathlib.Nat.{zero-add}
 use borrow.Author.Tests.{eq-eqb, ne-eqb}
 use lib.Dec.{eqb}
 use lib.ListN.{length, getD, drop, length-drop}
@@ -15,15 +14,12 @@ use Rattle.spec_text.specs.text.Number.{digit}
 use Rattle.spec_text.specs.text.Line.{isEmpty, textOf, linesOf}
 use Rattle.spec_format.specs.block_timing.Style.{blankIn, vttEnd, stampHead, stampIn}
 use Rattle.spec_format.specs.block_timing.Header.{webvtt, partsWord, isHeader, nothingYet, headerDue}
+use Rattle.spec_text.proofs.text.LineLaws.{empty-zero}
 
 -- ---- blank
-empty-length : (t : List ℕ) → eqb (length t) 0 ≡ isEmpty t
-empty-length [] = refl
-empty-length (b ∷ t) = ne-eqb (length (b ∷ t)) 0 (λ e. omega arith)
-
 pub blank-two : (kind : ℕ) (l t : List ℕ) → (kind ≡ 1 → ⊥) → kind ≡ 2 → t ≡ textOf l → eqb (length t) 0 ≡ blankIn kind l
 unfolding blankIn
-blank-two kind l t a b e = no! _ (ne-eqb kind 1 a) (yes! _ (eq-eqb kind 2 b) (empty-length t ∙ ap isEmpty e))
+blank-two kind l t a b e = no! _ (ne-eqb kind 1 a) (yes! _ (eq-eqb kind 2 b) (empty-zero t ∙ ap isEmpty e))
 
 -- ---- the end time
 pub vtt-space : (r : List ℕ) (a b : ℕ) → a ≡ first (32 ∷ []) r → b ≡ first (9 ∷ []) r → a < b → a ≡ vttEnd r

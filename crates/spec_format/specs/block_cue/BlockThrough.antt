@@ -12,7 +12,6 @@ use Rattle.spec_caption.specs.declared.caption_fate.Config.{Config}
 use Rattle.spec_caption.specs.caption_fate.Says.{faultNumber}
 use Rattle.spec_caption.specs.caption_fate.Emit.{emitOf}
 use Rattle.spec_caption.specs.caption_fate.Told.{Answer, refusal, answered, partIn}
-use Rattle.spec_format.specs.declared.block_cue.Times.{Times}
 use Rattle.spec_format.specs.declared.block_cue.Reading.{Reading}
 use Rattle.spec_format.specs.declared.block_cue.Reading.the-variants.{Bad, Both}
 use Rattle.spec_format.specs.block_timing.Style.{styleOf}

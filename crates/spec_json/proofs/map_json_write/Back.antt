@@ -1,28 +1,25 @@
 -- What is written is read back.
-use Prim.Native.Nat.{ℕ, zero, suc, _+_, _≤_, _<_}
+use Prim.Native.Nat.{ℕ, _≤_}
 use mathlib.Core.Path.{_≡_, refl, ap, ap₂, sym, subst, _∙_}
-use mathlib.Core.Bool.{Bool, true, false, _&&_, _||_, cond}
+use mathlib.Core.Bool.{true, _&&_}
 use mathlib.Core.List.{List, [], _∷_, _++_, append-nil}
-use lib.Dec.{eqb, leb}
-use lib.ListN.{length, getD, take, drop, length-append}
+use lib.Dec.{eqb}
+use lib.ListN.{length, getD, length-append}
 use native.Mathlib.Omega.{arith}
 use borrow.Author.Tests.{eq-eqb, le-leb}
 use Rattle.spec_base.specs.base.Limits.{mostFrame}
-use Rattle.spec_base.specs.base.Ascii.{ascii}
 use Rattle.spec_text.specs.utf8.Utf8.{utf8}
 use Rattle.spec_text.specs.pattern.Find.{equals}
-use Rattle.spec_text.specs.text.Number.{valueFrom}
 use Rattle.spec_map.specs.declared.segment.Segment.{Segment}
 use Rattle.spec_map.specs.segment.Segment.{segment}
-use Rattle.spec_json.specs.json.Space.{isSpace, spaces, padded}
+use Rattle.spec_json.specs.json.Space.{isSpace, padded}
 use Rattle.spec_json.specs.json.Str.{stringBytes}
-use Rattle.spec_json.specs.json.Num.{isPlain}
 use Rattle.spec_json.specs.json.Value.{valueWidth}
 use Rattle.spec_json.specs.json.Member.{Member, bare, elementsOf, membersOf, valuesOf, fieldOf}
 use Rattle.spec_json.specs.json.Quote.{quoted, decimal}
 use Rattle.spec_json.specs.json.Pretty.{prettyObject, prettyArray}
 use Rattle.spec_json.proofs.json.StringBack.{string-bytes}
-use Rattle.spec_json.proofs.json.NumberBack.{decimal-plain, decimal-value, Stops}
+use Rattle.spec_json.proofs.json.NumberBack.{decimal-plain, decimal-value}
 use Rattle.spec_json.proofs.json.ValueBack.{AllSpace, Bare, Ends, ends-lf, IsValue, number-value, string-value, padded-back, ends-space, stop-lf}
 use Rattle.spec_json.proofs.json.ObjectBack.{Object, AllObjects, AllValues, object-laid, object-value, object-members, array-laid, array-value, array-elements, none-value, none-elements, bare-back}
 use Rattle.spec_json.specs.map_json_write.Names.{timescaleName, rateNumName, rateDenName, inputName, framesName, segmentsName, firstName, lastName, sourceName, countName, outputName, durationName, mostPath, mostWord}

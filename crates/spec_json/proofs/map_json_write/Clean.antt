@@ -1,12 +1,11 @@
 -- The text that is written is UTF-8.
-use Prim.Native.Nat.{ℕ, zero, suc, _+_, _/_, _%_, _≤_, _<_}
+use Prim.Native.Nat.{ℕ, _+_, _/_, _%_, _≤_, _<_}
 use mathlib.Core.Path.{_≡_, refl, ap, ap₂, sym, subst, _∙_}
 use mathlib.Core.Bool.{Bool, true, false, _&&_, cond}
 use mathlib.Core.List.{List, [], _∷_, _++_, append-assoc, append-nil}
-use lib.Dec.{eqb, ltb, leb}
-use lib.ListN.{length, getD, drop}
+use lib.Dec.{eqb, ltb}
 use native.Mathlib.Omega.{arith}
-use borrow.Author.Tests.{lt-ltb, le-ltb, ltb-true, ltb-false}
+use borrow.Author.Tests.{ltb-true, ltb-false}
 use Rattle.spec_base.proofs.base.Laws.{and-left, and-right}
 use Rattle.spec_text.specs.utf8.Utf8.{utf8}
 use Rattle.spec_text.proofs.utf8.Laws.{width-one, utf8-step, utf8-end}
@@ -15,13 +14,13 @@ use Rattle.spec_text.proofs.unicode.Encoding.{utf8-encoded}
 use Rattle.spec_text.proofs.unicode.Trailing.{enc-1, enc-2, enc-3, enc-4}
 use Rattle.spec_text.proofs.unicode.Decoding.{only-those}
 use Rattle.spec_map.specs.declared.segment.Segment.{Segment}
-use Rattle.spec_json.specs.json.Member.{Member}
 use Rattle.spec_json.specs.json.Quote.{hexLetter, escaped, escapedAll, quoted, decimal}
 use Rattle.spec_json.specs.json.Pretty.{itemLines, memberLine, memberLines, prettyObject, prettyArray}
 use Rattle.spec_json.proofs.json.StringBack.{plain-is}
-use Rattle.spec_json.proofs.json.NumberBack.{Digits, decimal-digits}
+use Rattle.spec_json.proofs.json.NumberBack.{decimal-digits}
 use Rattle.spec_json.specs.map_json_write.Text.{field, line0, line2, line4, line6, segmentFirst, segmentRest, segmentText, segmentTexts, listText, mapRest, mapText}
 use Rattle.spec_json.specs.map_json_write.Names.{timescaleName, rateNumName, rateDenName, inputName, framesName, segmentsName, firstName, lastName, sourceName, countName, outputName, durationName}
+use Rattle.spec_caption.proofs.caption_stamp.RoundTrip.{Digits}
 
 -- whole characters: what stands behind them decides
 record Clean (v : List ℕ) : Type 0 where

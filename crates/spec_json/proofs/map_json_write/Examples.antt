@@ -1,26 +1,25 @@
 -- Worked texts, by computation.
 use mathlib.Core.Path.{_≡_, refl}
 use mathlib.Core.Bool.{Bool, true, false, _&&_}
-use mathlib.Core.List.{List, [], _∷_, _++_}
+use mathlib.Core.List.{List, [], _∷_}
 use Prim.Native.Nat.{ℕ}
 use Prim.Native.String.{String}
-use Rattle.spec_map.specs.declared.segment.Segment.{Segment}
 use Rattle.spec_base.specs.base.Ascii.{ascii}
 use Rattle.spec_text.specs.utf8.Utf8.{leadLen, secondLow, secondHigh, tail, widthBy, charWidth, utf8From, utf8}
 use Rattle.spec_text.specs.pattern.Find.{starts, equals}
 use Rattle.spec_text.specs.text.Number.{digit, digits, valueFrom}
 use Rattle.spec_text.specs.unicode.Encode.{encode}
 use Rattle.spec_caption.specs.caption_stamp.Write.{pad, widthUnder, width}
-use Rattle.spec_map.specs.segment.Segment.{segment, segmentsOf, flatOf}
+use Rattle.spec_map.specs.segment.Segment.{segmentsOf, flatOf}
 use Rattle.spec_json.specs.json.Space.{isSpace, spaces, padded}
 use Rattle.spec_json.specs.json.Str.{hexDigit, hexWord, shortEscape, unicodeWidth, unicodePoint, charWide, charBytes, charsWidth, charsBytes, stringWidth, stringBytes}
 use Rattle.spec_json.specs.json.Num.{digitRun, intWidth, fracWidth, isExp, expWidth, numberWidth, isPlain}
-use Rattle.spec_json.specs.json.Value.{literalWidth, scalarWidth, keyWidth, memberWidth, rowWidth, rowItems, valueWidth, isValue}
+use Rattle.spec_json.specs.json.Value.{literalWidth, scalarWidth, keyWidth, memberWidth, rowWidth, rowItems, valueWidth}
 use Rattle.spec_json.specs.json.Member.{bare, elementsOf, membersOf, valuesOf, fieldOf}
 use Rattle.spec_json.specs.json.Quote.{hexLetter, escaped, escapedAll, quoted, decimal}
 use Rattle.spec_json.specs.json.Pretty.{itemLines, prettyObject, prettyArray}
 use Rattle.spec_json.specs.map_json_write.Text.{segmentText, mapText}
-use Rattle.spec_json.specs.map_json_write.Reads.{segmentSaid, segmentFrom, segmentsSaid, segmentsFrom, shallow, fieldsSaid, isMapText, Said, mapSaid}
+use Rattle.spec_json.specs.map_json_write.Reads.{segmentSaid, segmentFrom, segmentsSaid, segmentsFrom, shallow, fieldsSaid, isMapText, mapSaid}
 
 good : String → Bool
 good t = isMapText (ascii t)

@@ -1,7 +1,6 @@
 -- The writer's number by rows, for no segments: a path of 1,024 bytes is taken, one of 1,025 is 16 whatever its bytes; a short path that is not UTF-8 is 20; too short a lent text is 16.
 use mathlib.Core.Path.{_≡_, refl}
-use mathlib.Core.List.{List, [], _∷_}
-use Prim.Native.Nat.{ℕ}
+use mathlib.Core.List.{[], _∷_}
 use lib.ListN.{replicate}
 use Rattle.spec_base.specs.base.Refusal.{_orElse_, faultUnless}
 use Rattle.spec_text.specs.utf8.Utf8.{leadLen, secondLow, secondHigh, tail, widthBy, charWidth, utf8From, utf8}

@@ -1,32 +1,23 @@
 -- Any map that open accepts is read back as written, with its path and the other numbers.
-use Prim.Native.Nat.{ℕ, zero, suc, _+_, _*_, _%_, _≤_, _<_}
-use mathlib.Core.Path.{_≡_, refl, ap, sym, subst, _∙_}
+use Prim.Native.Nat.{ℕ, _*_, _%_, _≤_}
+use mathlib.Core.Path.{_≡_, refl, ap, _∙_}
 use mathlib.Core.Bool.{Bool, true, false, cond, true≢false}
-use mathlib.Core.List.{List, [], _∷_, _++_}
+use mathlib.Core.List.{List, [], _∷_}
 use lib.Dec.{eqb, ltb}
-use lib.ListN.{length, getD}
+use lib.ListN.{length}
 use native.Mathlib.Omega.{arith}
-use borrow.Author.Tests.{ltb-true, ltb-false, eqb-true}
-use Rattle.spec_base.specs.base.Limits.{mostFrame, mostTicks, mostSegments, mostTimescale}
-use Rattle.spec_text.specs.utf8.Utf8.{utf8}
+use borrow.Author.Tests.{ltb-false, eqb-true}
+use Rattle.spec_base.specs.base.Limits.{mostFrame, mostSegments, mostTimescale}
 use Rattle.spec_caption.specs.caption_time.Convert.{timescaleBad}
 use Rattle.spec_map.specs.declared.segment.Segment.{Segment}
-use Rattle.spec_map.specs.segment.Segment.{flatOf, segment, segmentsOf, endBad, segmentBad, anyBad, mapBad}
+use Rattle.spec_map.specs.segment.Segment.{flatOf, segmentsOf, endBad, segmentBad, anyBad, mapBad}
 use Rattle.spec_map.proofs.segment.SegmentLaws.{end-good}
-use Rattle.spec_json.specs.map_json_write.Names.{mostPath, mostWord}
 use Rattle.spec_json.specs.map_json_write.Text.{mapText}
-use Rattle.spec_json.specs.map_json_write.Reads.{Said, isMapText, mapSaid}
-use Rattle.spec_json.specs.map_json_write.MapWritten.{Back, RoundTrip}
+use Rattle.spec_json.specs.map_json_write.Reads.{Said}
+use Rattle.spec_json.specs.map_json_write.MapWritten.{RoundTrip}
 use Rattle.spec_json.proofs.map_json_write.Back.{Narrow, AllNarrow, is-map, said-is}
 use Rattle.spec_json.proofs.map_json_write.Clean.{text-utf8}
-
-cond-left : (s t : Bool) → cond s true t ≡ false → s ≡ false
-cond-left true t e = absurd (true≢false e)
-cond-left false t e = refl
-
-cond-right : (s t : Bool) → cond s true t ≡ false → t ≡ false
-cond-right true t e = absurd (true≢false e)
-cond-right false t e = e
+use Rattle.spec_base.proofs.base.Laws.{cond-left, cond-right}
 
 -- ---- flat numbers in sixes
 flat-again : (m : List ℕ) → length m % 6 ≡ 0 → flatOf (segmentsOf m) ≡ m

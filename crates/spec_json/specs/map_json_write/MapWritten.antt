@@ -1,11 +1,11 @@
 -- The writer's answer, and the promise that what is written is read back.
 use mathlib.Core.Path.{_≡_}
-use mathlib.Core.Bool.{Bool, true, false, not, cond}
+use mathlib.Core.Bool.{true, false, not, cond}
 use mathlib.Core.List.{List, []}
-use Prim.Native.Nat.{ℕ, _+_, _*_, _≤_, _<_}
+use Prim.Native.Nat.{ℕ, _≤_, _<_}
 use lib.Dec.{eqb, leb}
 use lib.ListN.{length, getD}
-use Rattle.spec_base.specs.base.Limits.{mostFrame, mostSegments}
+use Rattle.spec_base.specs.base.Limits.{mostFrame}
 use Rattle.spec_base.specs.base.Refusal.{_orElse_, faultUnless}
 use Rattle.spec_base.specs.base.Put.{put}
 use Rattle.spec_text.specs.utf8.Utf8.{utf8}
@@ -13,7 +13,7 @@ use Rattle.spec_caption.specs.caption_time.Convert.{timescaleBad}
 use Rattle.spec_map.specs.segment.Segment.{segmentsOf, flatOf, mapBad}
 use Rattle.spec_json.specs.map_json_write.Names.{mostPath}
 use Rattle.spec_json.specs.map_json_write.Text.{mapText}
-use Rattle.spec_json.specs.map_json_write.Reads.{Said, isMapText, mapSaid}
+use Rattle.spec_json.specs.map_json_write.Reads.{isMapText, mapSaid}
 use Rattle.spec_json.specs.declared.map_json_write.Wrote.{Wrote}
 
 -- ---- the writer: 15, then 16 for a long path, 20, and 16 for too short a lent text

@@ -1,6 +1,6 @@
 -- The fields of segmap.rs, in the order of its structs.
 use Prim.Native.Nat.{ℕ}
-use mathlib.Core.List.{List, [], _∷_}
+use mathlib.Core.List.{List}
 use Rattle.spec_base.specs.base.Ascii.{ascii}
 
 abbrev pub timescaleName : List ℕ

@@ -1,7 +1,6 @@
 -- The text of `to_json`: serde_json's pretty form, two spaces a level, fields in the order of the structs, and a line end.
 use Prim.Native.Nat.{ℕ}
 use mathlib.Core.List.{List, [], _∷_, _++_}
-use Rattle.spec_base.specs.base.Ascii.{ascii}
 use Rattle.spec_map.specs.declared.segment.Segment.{Segment}
 use Rattle.spec_json.specs.json.Member.{Member}
 use Rattle.spec_json.specs.json.Quote.{quoted, decimal}

@@ -1,5 +1,5 @@
 -- Laws of the two searches for a sync frame, one step each.
-use Prim.Native.Nat.{ℕ, zero, suc, _+_, _-_, _<_, _≤_, min}
+use Prim.Native.Nat.{ℕ, suc, _+_, _-_, _<_, _≤_, min}
 use mathlib.Core.Bool.{Bool, true, false}
 use mathlib.Core.List.{List}
 use mathlib.Core.Path.{_≡_, refl, sym, ap, ap₂, _∙_}
@@ -38,11 +38,6 @@ pub below-next : (s : List ℕ) (k : ℕ) → 0 < k → syncOf s (k - 1) ≡ fal
 below-next s k l e =
     let q : suc (k - 1) ≡ k = omega arith in
     sym (last-suc-next s (k - 1) e) ∙ ap (lastBelow s) q
-
-pub below-zero : (s : List ℕ) (k : ℕ) → k ≤ 0 → 0 ≡ lastBelow s k
-unfolding lastBelow
-below-zero s zero l = refl
-below-zero s (suc k) l = absurd (omega arith)
 
 ceil-here : (s : List ℕ) (n i : ℕ) → i < n → syncOf s i ≡ true → i ≡ ceilSync s n i
 unfolding ceilSync

@@ -2,7 +2,7 @@
 use mathlib.Core.Path.{_≡_, refl, sym, ap, _∙_}
 use mathlib.Core.Bool.{Bool, true, false, cond}
 use mathlib.Core.List.{List, [], _∷_}
-use Prim.Native.Nat.{ℕ, zero, suc, _+_, _-_, _*_, _≤_, _<_}
+use Prim.Native.Nat.{ℕ, zero, suc, _*_, _≤_, _<_}
 use native.Mathlib.Omega.{arith}
 use borrow.Author.Tests.{le-leb, lt-leb, eq-eqb, ne-eqb}
 use lib.Dec.{eqb}
@@ -182,9 +182,6 @@ module _ (list l m : List ℕ) (n : ℕ) (p : Parsed) (e : p ≡ parseOf list (l
   kept-by : (k : ℕ) → k ≡ cond (eqb (listNumber list) 0) (keptCount list) 0 → parsed (p .number) k ≡ keptOf list
   unfolding keptOf
   kept-by k q = rw (parsed-number, q)
-
-  answer-is : p ≡ parsed (p .number) (p .count)
-  answer-is = refl
 
   pub kept-refused : (p .number ≡ 0 → ⊥) → p ≡ keptOf list
   unfolding parseOf listAnswer

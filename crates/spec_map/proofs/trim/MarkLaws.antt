@@ -1,17 +1,17 @@
 -- Where `++` stands first, told from two bytes at a time; texts that need no trimming.
-use mathlib.Core.Path.{_≡_, refl, sym, ap, subst, _∙_}
+use mathlib.Core.Path.{_≡_, refl, sym, ap, _∙_}
 use mathlib.Core.Bool.{Bool, true, false, cond, true≢false}
 use mathlib.Core.List.{List, [], _∷_}
 use Prim.Native.Nat.{ℕ, zero, suc, _+_, _-_, _≤_, _<_}
 use native.Mathlib.Nat.{le-of-suc-le-suc, not-suc-le-zero}
 use native.Mathlib.Omega.{arith}
 use native.Mathlib.Numerals.{add-one}
-use borrow.Author.Tests.{lt-ltb, le-ltb, le-leb, lt-leb, eq-eqb, ne-eqb, ltb-true, ltb-false}
+use borrow.Author.Tests.{lt-ltb, le-ltb, lt-leb, eq-eqb, ne-eqb, ltb-true, ltb-false}
 use lib.Dec.{eqb, ltb}
-use lib.ListN.{length, take, drop, getD, length-drop}
+use lib.ListN.{length, drop, getD, length-drop}
 use lib.Seq.{drop-nil, take-length}
 use Rattle.spec_base.proofs.base.Laws.{yes!, no! }
-use Rattle.spec_text.specs.whitespace.White.{white, whiteHigh, whiteHead, whiteTail, trimHead, trimTail, trim}
+use Rattle.spec_text.specs.whitespace.White.{white, whiteHigh, whiteHead, whiteTail, trimTail, trim}
 use Rattle.spec_text.specs.pattern.Find.{starts, first}
 use Rattle.spec_text.proofs.pattern.Laws.{first-hit, first-miss, first-end, stands-other}
 use Rattle.spec_text.proofs.whitespace.Laws.{white-ascii, head-none, keep-found}

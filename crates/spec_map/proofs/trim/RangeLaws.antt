@@ -1,37 +1,26 @@
 -- Laws of a whole list for the crates above: its number is from document 01's table, and where that is 0, what its ranges keep to.
 use mathlib.Core.Path.{_≡_, refl, sym, ap, subst, _∙_}
 use mathlib.Core.Logic.{_⊎_, inl, inr, ⊎-elim}
-use mathlib.Core.Bool.{Bool, true, false, cond, not}
+use mathlib.Core.Bool.{Bool, true, false}
 use mathlib.Core.List.{List, [], _∷_}
-use Prim.Native.Nat.{ℕ, zero, suc, _+_, _*_, _-_, _≤_, _<_}
+use Prim.Native.Nat.{ℕ, zero, suc, _+_, _*_, _≤_, _<_}
 use native.Mathlib.Omega.{arith}
-use borrow.Author.Tests.{le-leb, lt-leb, eq-eqb, ne-eqb, leb-true}
-use lib.Dec.{eqb, ltb, leb}
+use borrow.Author.Tests.{le-leb, lt-leb, eq-eqb, ne-eqb}
+use lib.Dec.{leb}
 use lib.ListN.{length, take, getD}
 use Rattle.spec_base.specs.base.Limits.{mostListBytes, mostTrims, mostPlaces, mostFrame}
 use Rattle.spec_base.specs.base.Refusal.{_orElse_, faultUnless}
 use Rattle.spec_base.specs.base.Put.{put}
 use Rattle.spec_base.proofs.base.Laws.{yes!, no! }
-use Rattle.spec_base.proofs.base.RefusalLaws.{else-zero, else-none, held, unless-held}
+use Rattle.spec_base.proofs.base.RefusalLaws.{else-zero, else-none, unless-held}
 use Rattle.spec_base.proofs.base.PutLaws.{take-put}
 use Rattle.spec_text.specs.utf8.Utf8.{utf8}
 use Rattle.spec_text.specs.text.Line.{blank}
-use Rattle.spec_map.specs.declared.trim.Parsed.{Parsed}
-use Rattle.spec_map.specs.trim.TrimList.{tokensOf, listTokens, tokensNumber, headNumber, listNumber, rangeCount, rangesOf, parsed, listAnswer, parseNumber, parseOf, rangePlaces}
+use Rattle.spec_map.specs.trim.TrimList.{tokensOf, listTokens, tokensNumber, headNumber, listNumber, rangeCount, rangesOf, listAnswer, parseNumber, parseOf, rangePlaces}
 use Rattle.spec_map.proofs.trim.TokensLaws.{Ascending, zero-taken, number-table, tokens-one}
+use Rattle.spec_base.proofs.base.RefusalNumbers.{else-numbers, unless-numbers}
 
 -- ---- the numbers
--- one of two is from the table, where both are
-else-table : (P : ℕ → Type 0) (a b : ℕ) → P a → P b → P (a orElse b)
-unfolding _orElse_
-else-table P zero b h k = k
-else-table P (suc a) b h k = h
-
-unless-table : (P : ℕ → Type 0) (t : Bool) (n : ℕ) → P 0 → P n → P (faultUnless t n)
-unfolding faultUnless
-unless-table P true n h k = h
-unless-table P false n h k = k
-
 abbrev pub OfList : ℕ → Type 0
 OfList n = (n ≡ 0) ⊎ (((2 ≤ n) × (n ≤ 7)) ⊎ (n ≡ 20))
 
@@ -39,8 +28,8 @@ OfList n = (n ≡ 0) ⊎ (((2 ≤ n) × (n ≤ 7)) ⊎ (n ≡ 20))
 pub list-number-table : (s : List ℕ) → OfList (listNumber s)
 unfolding listNumber headNumber
 list-number-table s =
-    else-table OfList _ _
-    (else-table OfList _ _ (unless-table OfList (leb (length s) mostListBytes) 7 (inl refl) (inr (inl (omega arith, omega arith)))) (unless-table OfList (utf8 s) 20 (inl refl) (inr (inr refl))))
+    else-numbers OfList _ _
+    (else-numbers OfList _ _ (unless-numbers OfList (inl refl) (leb (length s) mostListBytes) 7 (inr (inl (omega arith, omega arith)))) (unless-numbers OfList (inl refl) (utf8 s) 20 (inr (inr refl))))
     (⊎-elim (λ e. inl e) (λ h. inr (inl h)) (number-table mostTrims 0 (listTokens s)))
 
 -- it is never 1, which a blank list had in document 01
@@ -51,17 +40,9 @@ never-1 s e = ⊎-elim (λ (z : listNumber s ≡ 0). omega (arith, e, z)) (λ h.
 pub parse-number-table : (s : List ℕ) (lent : ℕ) → (parseNumber s lent ≡ 16) ⊎ OfList (parseNumber s lent)
 unfolding parseNumber
 parse-number-table s lent =
-    else-table (λ (n : ℕ). (n ≡ 16) ⊎ OfList n) _ _ (unless-table (λ (n : ℕ). (n ≡ 16) ⊎ OfList n) (leb mostPlaces lent) 16 (inr (inl refl)) (inl refl)) (inr (list-number-table s))
+    else-numbers (λ (n : ℕ). (n ≡ 16) ⊎ OfList n) _ _ (unless-numbers (λ (n : ℕ). (n ≡ 16) ⊎ OfList n) (inr (inl refl)) (leb mostPlaces lent) 16 (inl refl)) (inr (list-number-table s))
 
 -- ---- a list whose number is 0
--- it passed the tests before its tokens
-pub list-head : (s : List ℕ) → listNumber s ≡ 0 → (length s ≤ mostListBytes) × (utf8 s ≡ true)
-unfolding listNumber headNumber
-list-head s z =
-    let h : _ × _ = else-zero (headNumber s) _ z in
-    let a : _ × _ = else-zero (faultUnless (leb (length s) mostListBytes) 7) _ (h .0) in
-    (leb-true _ _ (held _ 7 (λ e. omega arith) (a .0)), held _ 20 (λ e. omega arith) (a .1))
-
 tokens-zero : (s : List ℕ) → listNumber s ≡ 0 → tokensNumber mostTrims 0 (listTokens s) ≡ 0
 unfolding listNumber
 tokens-zero s z = else-zero (headNumber s) _ z .1
@@ -91,9 +72,6 @@ range-count-most s z = zero-taken mostTrims 0 (listTokens s) (tokens-zero s z) .
 pub ranges-length : (s : List ℕ) → listNumber s ≡ 0 → length (rangesOf s) ≡ 2 * rangeCount s
 unfolding rangeCount rangesOf
 ranges-length s z = zero-taken mostTrims 0 (listTokens s) (tokens-zero s z) .1
-
-pub ranges-fit : (s : List ℕ) → listNumber s ≡ 0 → length (rangesOf s) ≤ mostPlaces
-ranges-fit s z = omega (arith, ranges-length s z, range-count-most s z)
 
 -- its ranges ascend
 pub ranges-ascending : (s : List ℕ) → listNumber s ≡ 0 → Ascending 0 (rangesOf s)

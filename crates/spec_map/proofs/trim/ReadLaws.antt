@@ -1,11 +1,11 @@
 -- What the functions of `src/list.rt` return.
 use mathlib.Core.Path.{_≡_, refl, sym, ap, subst, _∙_}
-use mathlib.Core.Bool.{Bool, true, false, cond, not}
+use mathlib.Core.Bool.{Bool, true, false, cond}
 use mathlib.Core.List.{List, [], _∷_}
-use Prim.Native.Nat.{ℕ, zero, suc, _+_, _*_, _-_, _≤_, _<_}
+use Prim.Native.Nat.{ℕ, suc, _+_, _*_, _-_, _≤_, _<_}
 use native.Mathlib.Omega.{arith}
 use borrow.Author.Tests.{le-leb, lt-leb, eq-eqb, ne-eqb, eqb-true}
-use lib.Dec.{eqb, leb}
+use lib.Dec.{eqb}
 use lib.ListN.{length, take, drop, getD, set, length-drop}
 use lib.Seq.{sets}
 use Rattle.spec_base.specs.base.Limits.{mostListBytes, mostTrims, mostPlaces}
@@ -22,7 +22,7 @@ use Rattle.spec_map.specs.declared.trim.Token.{Token}
 use Rattle.spec_map.specs.declared.trim.Token.the-variants.{Range, Fault}
 use Rattle.spec_map.specs.declared.trim.Parsed.{Parsed}
 use Rattle.spec_map.specs.trim.Token.{mark, stepOf}
-use Rattle.spec_map.specs.trim.TrimList.{tokensOf, listTokens, tokensNumber, rangesIn, headNumber, listNumber, rangeCount, rangesOf, parsed, listAnswer, parseNumber, parseOf, rangePlaces}
+use Rattle.spec_map.specs.trim.TrimList.{tokensOf, listTokens, tokensNumber, rangesIn, headNumber, listNumber, rangeCount, rangesOf, parsed, listAnswer, parseOf, rangePlaces}
 use Rattle.spec_map.proofs.trim.TokensLaws.{tokens-turn, tokens-last, tokens-next, tokens-one, fault-some, number-fault, number-range, number-many, number-done, ranges-range, ranges-done, zero-taken}
 use Rattle.spec_map.proofs.trim.RangeLaws.{list-some, list-none, ranges-length, range-count-most, parse-lent, parse-short, places-written, places-kept}
 

@@ -1,24 +1,23 @@
 -- Laws of the tokens of a list, one after the other. Where their number is 0, their ranges ascend.
 use mathlib.Core.Path.{_≡_, refl, sym, ap, subst, _∙_}
 use mathlib.Core.Logic.{_⊎_, inl, inr}
-use mathlib.Core.Bool.{Bool, true, false, cond}
+use mathlib.Core.Bool.{cond}
 use mathlib.Core.List.{List, [], _∷_, _++_}
-use Prim.Native.Nat.{ℕ, zero, suc, _+_, _*_, _-_, _≤_, _<_}
+use Prim.Native.Nat.{ℕ, zero, suc, _+_, _*_, _≤_, _<_}
 use native.Mathlib.Omega.{arith}
 use borrow.Author.Tests.{lt-ltb, le-ltb}
-use lib.Dec.{eqb, ltb}
-use lib.ListN.{length, take, drop, getD}
+use lib.Dec.{ltb}
+use lib.ListN.{length, take, drop}
 use Rattle.spec_base.specs.base.Limits.{mostFrame}
 use Rattle.spec_base.specs.base.Refusal.{_orElse_}
 use Rattle.spec_base.proofs.base.Laws.{yes!, no! }
-use Rattle.spec_base.proofs.base.RefusalLaws.{else-none, else-found, else-zero}
-use Rattle.spec_text.specs.whitespace.White.{trim}
+use Rattle.spec_base.proofs.base.RefusalLaws.{else-none, else-found}
 use Rattle.spec_text.specs.pattern.Find.{first}
 use Rattle.spec_text.specs.pattern.Piece.{pieces}
 use Rattle.spec_text.proofs.pattern.PieceLaws.{pieces-head, pieces-one}
 use Rattle.spec_map.specs.declared.trim.Token.{Token}
 use Rattle.spec_map.specs.declared.trim.Token.the-variants.{Range, Fault}
-use Rattle.spec_map.specs.trim.Token.{mark, range, tokenOf, stepOf, tokenNumber, tokenRange, tokenEnd}
+use Rattle.spec_map.specs.trim.Token.{mark, range, stepOf, tokenNumber, tokenRange, tokenEnd}
 use Rattle.spec_map.specs.trim.TrimList.{tokensOf, tokensNumber, rangesIn}
 use Rattle.spec_map.proofs.trim.TokenLaws.{TokenKept, step-kept, step-above, step-own}
 

@@ -1,5 +1,5 @@
 -- Worked examples as theorems, by computation: document 01's list, a list for each number, and the edges between two numbers.
-use mathlib.Core.Path.{_≡_, refl, sym, ap, _∙_}
+use mathlib.Core.Path.{_≡_, refl}
 use mathlib.Core.List.{List, [], _∷_, map}
 use Prim.Native.Nat.{ℕ, _<_}
 use Rattle.spec_base.specs.base.Ascii.{ascii}

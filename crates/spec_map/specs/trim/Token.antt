@@ -1,6 +1,6 @@
 -- One token of a trim list, `Trim(a,b)`: the range that it says, or the number of its refusal, in document 01's order.
-use Prim.Native.Nat.{ℕ, zero, suc, _+_, _-_}
-use mathlib.Core.Bool.{Bool, true, false, cond}
+use Prim.Native.Nat.{ℕ, _+_, _-_}
+use mathlib.Core.Bool.{cond}
 use mathlib.Core.List.{List, [], _∷_}
 use lib.ListN.{length, take, drop, getD}
 use lib.Dec.{eqb, ltb}
@@ -11,7 +11,6 @@ use Rattle.spec_text.specs.pattern.Piece.{comma, pieces}
 use Rattle.spec_text.specs.text.Number.{number}
 use Rattle.spec_text.specs.declared.text.Number.{Number}
 use Rattle.spec_text.specs.declared.text.Number.the-variants.{Value, Bad}
-use Rattle.spec_sheet.specs.declared.order.DisplayIdx.{DisplayIdx}
 use Rattle.spec_map.specs.declared.trim.Token.{Token}
 use Rattle.spec_map.specs.declared.trim.Token.the-variants.{Range, Fault}
 

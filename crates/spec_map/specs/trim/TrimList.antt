@@ -1,9 +1,9 @@
 -- The trim list: tokens parted by `++` from the left, the ranges that they say, and the list's refusals in document 01's order.
 use Prim.Native.Nat.{ℕ, zero, suc}
-use mathlib.Core.Bool.{Bool, true, false, cond}
+use mathlib.Core.Bool.{cond}
 use mathlib.Core.List.{List, [], _∷_, _++_}
 use lib.ListN.{length}
-use lib.Dec.{eqb, ltb, leb}
+use lib.Dec.{eqb, leb}
 use Rattle.spec_base.specs.base.Limits.{mostListBytes, mostTrims, mostPlaces}
 use Rattle.spec_base.specs.base.Refusal.{_orElse_, faultUnless}
 use Rattle.spec_base.specs.base.Put.{put}

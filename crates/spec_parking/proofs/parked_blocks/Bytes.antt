@@ -55,15 +55,15 @@ sealed-length b body e = simp length-append (omega (arith, bytes-length b, bytes
 head-length : (b : ℕ) (body : List ℕ) → length body ≡ bodyLength → length (wordBytes b ++ body) ≡ 508
 head-length b body e = omega (arith, length-append (wordBytes b) body, bytes-length b)
 
-parts : (b : ℕ) (body r : List ℕ) → sealed b body ++ r ≡ (wordBytes b ++ body) ++ (wordBytes (sumWords (wordBytes b ++ body) 0 127 % 2 ^ 32) ++ r)
+pub block-parts : (b : ℕ) (body r : List ℕ) → sealed b body ++ r ≡ (wordBytes b ++ body) ++ (wordBytes (sumWords (wordBytes b ++ body) 0 127 % 2 ^ 32) ++ r)
 unfolding sealed
-parts b body r = simp append-assoc
+block-parts b body r = simp append-assoc
 
 -- at the head of a text
 sealed-number : (b : ℕ) (body r : List ℕ) → b < 2 ^ 32 → wordAt (sealed b body ++ r) 0 ≡ b
 sealed-number b body r h =
     let x = wordBytes (sumWords (wordBytes b ++ body) 0 127 % 2 ^ 32) ++ r in
-    ap (λ (l : List ℕ). wordAt l 0) (parts b body r ∙ append-assoc (wordBytes b) body x) ∙ word-is b (body ++ x) h
+    ap (λ (l : List ℕ). wordAt l 0) (block-parts b body r ∙ append-assoc (wordBytes b) body x) ∙ word-is b (body ++ x) h
 
 sealed-check : (b : ℕ) (body r : List ℕ) → length body ≡ bodyLength → wordAt (sealed b body ++ r) 127 ≡ sumWords (sealed b body ++ r) 0 127 % 2 ^ 32
 sealed-check b body r e =
@@ -73,7 +73,7 @@ sealed-check b body r e =
     let four : length p ≡ 4 * 127 = size ∙ refl in
     let at : wordAt (p ++ (wordBytes x ++ r)) (127 + 0) ≡ x = word-past p (wordBytes x ++ r) 127 0 four ∙ word-is x r (omega arith) in
     let sum : sumWords (p ++ (wordBytes x ++ r)) 0 127 ≡ sumWords p 0 127 = sum-within p (wordBytes x ++ r) 127 (omega arith) in
-    ap (λ (l : List ℕ). wordAt l 127) (parts b body r) ∙ at ∙ ap (λ (n : ℕ). n % 2 ^ 32) (sym sum) ∙ ap (λ (l : List ℕ). sumWords l 0 127 % 2 ^ 32) (sym (parts b body r))
+    ap (λ (l : List ℕ). wordAt l 127) (block-parts b body r) ∙ at ∙ ap (λ (n : ℕ). n % 2 ^ 32) (sym sum) ∙ ap (λ (l : List ℕ). sumWords l 0 127 % 2 ^ 32) (sym (block-parts b body r))
 
 -- block b behind b blocks
 pub block-holds : (p : List ℕ) (b : ℕ) (body r : List ℕ) → length p ≡ 512 * b → b < 2 ^ 32 → length body ≡ bodyLength → blockHolds (p ++ (sealed b body ++ r)) b ≡ true
@@ -156,7 +156,7 @@ pub head-word : (b : ℕ) (ws z r : List ℕ) (i : ℕ) → Words ws → i < len
 head-word b ws z r i h q =
     let x = wordBytes (sumWords (wordBytes b ++ (wordsBytes ws ++ z)) 0 127 % 2 ^ 32) ++ r in
     let four : length (wordBytes b) ≡ 4 * 1 = bytes-length b in
-    ap (λ (l : List ℕ). wordAt l (1 + i)) (parts b (wordsBytes ws ++ z) r ∙ append-assoc (wordBytes b) (wordsBytes ws ++ z) x ∙ ap (λ (l : List ℕ). wordBytes b ++ l) (append-assoc (wordsBytes ws) z x))
+    ap (λ (l : List ℕ). wordAt l (1 + i)) (block-parts b (wordsBytes ws ++ z) r ∙ append-assoc (wordBytes b) (wordsBytes ws ++ z) x ∙ ap (λ (l : List ℕ). wordBytes b ++ l) (append-assoc (wordsBytes ws) z x))
     ∙ word-past (wordBytes b) (wordsBytes ws ++ (z ++ x)) 1 i four
     ∙ words-at ws (z ++ x) i h q
 
@@ -176,6 +176,3 @@ all-length b (suc n) l q =
       sealed-length b (take bodyLength l) (length-take-le bodyLength l (omega arith)),
       all-length (suc b) n (drop bodyLength l) (omega (arith, length-drop bodyLength l)),
     )
-
-pub block-parts : (b : ℕ) (body r : List ℕ) → sealed b body ++ r ≡ (wordBytes b ++ body) ++ (wordBytes (sumWords (wordBytes b ++ body) 0 127 % 2 ^ 32) ++ r)
-block-parts b body r = parts b body r

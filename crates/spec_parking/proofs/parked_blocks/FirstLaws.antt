@@ -9,7 +9,7 @@ use lib.Seq.{length-take-le, take-all, take-at, drop-at, getD-drop, drop-drop}
 use native.Mathlib.Omega.{arith}
 use borrow.Author.Tests.{eq-eqb, ne-eqb, eqb-true, le-leb, lt-leb}
 use Rattle.spec_base.specs.base.Put.{put}
-use Rattle.spec_base.proofs.base.Laws.{and-left, and-right}
+use Rattle.spec_base.proofs.base.Laws.{and-left, and-right, and-assoc, and-false, and-true}
 use Rattle.spec_base.proofs.base.PutLaws.{put-nil}
 use Rattle.spec_sheet.specs.checked_blocks.Block.{wordAt, sumWords, blockHolds}
 use Rattle.spec_parking.specs.parked_blocks.Sealed.{sealedLength, bodyLength, roomLength, wordBytes, sealed, sealedAll, filled, rowOf, allHold, bodies, roomOf, allZero, isRow}
@@ -17,13 +17,13 @@ use Rattle.spec_parking.specs.parked_blocks.First.{blocksFor, firstBlock
 use Rattle.spec_parking.proofs.parked_blocks.Bytes.{word-past, word-within, word-is, bytes-length, sealed-length, all-length}
 use Rattle.spec_parking.proofs.parked_blocks.Again.{side-by-side, part-4, zero-list, block-sum}
 use Rattle.spec_parking.proofs.parked_blocks.WriteLaws.{zero-sum, take-zeros, drop-zeros, drop-filled, filled-size, blocks-few}
-use Rattle.spec_parking.proofs.parked_blocks.ReadLaws.{and-assoc, and-false, and-true, bodies-length, row-length}
+use Rattle.spec_parking.proofs.parked_blocks.ReadLaws.{bodies-length, row-length}
 
 -- ---- zeros
 zero-append : (a b : List ℕ) → allZero (a ++ b) ≡ (allZero a && allZero b)
 unfolding allZero
 zero-append [] b = refl
-zero-append (x ∷ a) b = ap (λ (t : Bool). eqb x 0 && t) (zero-append a b) ∙ and-assoc (eqb x 0) (allZero a) (allZero b)
+zero-append (x ∷ a) b = ap (λ (t : Bool). eqb x 0 && t) (zero-append a b) ∙ sym (and-assoc (eqb x 0) (allZero a) (allZero b))
 
 pub zero-drop : (n : ℕ) (l : List ℕ) → allZero l ≡ true → allZero (drop n l) ≡ true
 unfolding allZero
@@ -50,7 +50,7 @@ hold-split s b (suc n) m =
     let y : suc b + n ≡ b + suc n = omega arith in
     ap (allHold s b) z
     ∙ ap (λ (t : Bool). blockHolds s b && t) (hold-split s (suc b) n m ∙ ap (λ (i : ℕ). allHold s (suc b) n && allHold s i m) y)
-    ∙ and-assoc (blockHolds s b) (allHold s (suc b) n) (allHold s (b + suc n) m)
+    ∙ sym (and-assoc (blockHolds s b) (allHold s (suc b) n) (allHold s (b + suc n) m))
 
 bodies-split : (s : List ℕ) (b n m : ℕ) → bodies s b (n + m) ≡ bodies s b n ++ bodies s (b + n) m
 unfolding bodies
@@ -145,7 +145,7 @@ module _ (s : List ℕ) (b : ℕ) (size : 512 * b + 512 ≤ length s) where
       by-check t p true q =
           let z : eqb (wordAt s (128 * b + 127)) (sumWords s (128 * b) 127 % 2 ^ 32) ≡ t = ap (eqb (wordAt s (128 * b + 127))) (zero-sum-is q) ∙ p in
           rw (le-leb (512 * b + 512) (length s) size, numbered, z, q)
-      by-check t p false q = rw q (and-false t ∙ sym (and-false (blockHolds s b)))
+      by-check t p false q = rw q (sym (and-false t) ∙ and-false (blockHolds s b))
 
       blank-check : (c ≡ b → ⊥) → false ≡ Blank
       blank-check h = by-check false (ne-eqb (wordAt s (128 * b + 127)) b (λ z. h (f ∙ z))) (allZero Body) refl
@@ -170,7 +170,7 @@ module _ (s : List ℕ) (b : ℕ) (long : length s ≡ sealedLength) (few : b �
 -- ---- blank blocks
 swap : (a b c d : Bool) → ((a && b) && (c && d)) ≡ ((a && c) && (b && d))
 swap false b c d = refl
-swap true false c d = sym (and-false c)
+swap true false c d = and-false c
 swap true true c d = refl
 
 module _ (s : List ℕ) where
@@ -219,7 +219,7 @@ module _ (s : List ℕ) (k : ℕ) where
         ap (allHold s 0) z ∙ hold-split s 0 (k + 1) (17 - k) ∙ ap (λ (i : ℕ). allHold s 0 (k + 1) && allHold s i (17 - k)) y in
         let zeros : drop (bodyLength * k) (roomOf s) ≡ bodies s (k + 1) (17 - k) = room-behind s k size few ∙ ap (λ (i : ℕ). bodies s i (17 - k)) x in
         (λ i. (eq-eqb (length s) sealedLength size i && all i) && allZero (zeros i))
-        ∙ sym (and-assoc (allHold s 0 (k + 1)) (allHold s (k + 1) (17 - k)) (allZero (bodies s (k + 1) (17 - k))))
+        ∙ and-assoc (allHold s 0 (k + 1)) (allHold s (k + 1) (17 - k)) (allZero (bodies s (k + 1) (17 - k)))
 
     module _ (t : Bool) (e : t ≡ allHold s 0 (k + 1)) where
       pub short-first : t ≡ false → false ≡ shortRow s k
@@ -236,7 +236,7 @@ short-long s k t e f = row-length s (isRow s) refl (and-left (isRow s) _ (sym e 
 module _ (s room : List ℕ) (n : ℕ) where
   pub first-short : length room < roomLength → false ≡ unsealedFirst s n (length room)
   unfolding unsealedFirst
-  first-short h = sym (ap (λ (t : Bool). shortRow s (blocksFor n) && t) (lt-leb roomLength (length room) h) ∙ and-false (shortRow s (blocksFor n)))
+  first-short h = sym (ap (λ (t : Bool). shortRow s (blocksFor n) && t) (lt-leb roomLength (length room) h) ∙ sym (and-false (shortRow s (blocksFor n))))
 
   module _ (k : ℕ) (t : Bool) (g : k ≡ blocksFor n) (e : t ≡ shortRow s k) where
     is-short : (u : Bool) → t ≡ u → shortRow s (blocksFor n) ≡ u

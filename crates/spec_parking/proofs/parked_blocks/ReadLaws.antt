@@ -9,7 +9,7 @@ use lib.Seq.{drop-cons, length-take-le}
 use native.Mathlib.Omega.{arith}
 use borrow.Author.Tests.{eq-eqb, ne-eqb, eqb-true, eqb-false, le-leb, lt-leb}
 use Rattle.spec_base.specs.base.Put.{put, placedAt, placeAfter}
-use Rattle.spec_base.proofs.base.Laws.{and-left}
+use Rattle.spec_base.proofs.base.Laws.{and-left, and-assoc, and-false, and-true}
 use Rattle.spec_base.proofs.base.PutLaws.{put-nil, then-placed}
 use Rattle.spec_sheet.specs.checked_blocks.Block.{blockHolds}
 use Rattle.spec_parking.specs.parked_blocks.Sealed.{sealedLength, bodyLength, roomLength, allHold, bodies, roomOf, allZero, isRow, unsealed}
@@ -37,18 +37,6 @@ pub hold-start : (s : List ℕ) (n : ℕ) → allHold s 0 (n - 0) ≡ allHold s 
 hold-start s n = let z : n - 0 ≡ n = omega arith in ap (allHold s 0) z
 
 -- ---- zeros, by the largest byte
-pub and-assoc : (a b c : Bool) → (a && (b && c)) ≡ ((a && b) && c)
-and-assoc true b c = refl
-and-assoc false b c = refl
-
-pub and-false : (a : Bool) → (a && false) ≡ false
-and-false true = refl
-and-false false = refl
-
-pub and-true : (a : Bool) → (a && true) ≡ a
-and-true true = refl
-and-true false = refl
-
 max-zero : (a b : ℕ) → eqb (max a b) 0 ≡ (eqb a 0 && eqb b 0)
 max-zero a b = go (eqb a 0) (eqb b 0) refl refl
   where
@@ -63,7 +51,7 @@ zero-more s i total w h e inv =
     let y : suc i ≡ i + 1 = omega arith in
     let x = getD s i 0 in
     inv ∙ ap (λ (l : List ℕ). eqb total 0 && allZero l) (drop-cons s i 0 h ∙ ap (λ (j : ℕ). x ∷ drop j s) y)
-    ∙ and-assoc (eqb total 0) (eqb x 0) (allZero (drop (i + 1) s))
+    ∙ sym (and-assoc (eqb total 0) (eqb x 0) (allZero (drop (i + 1) s)))
     ∙ ap (λ (t : Bool). t && allZero (drop (i + 1) s)) (sym (max-zero total x) ∙ ap (λ (n : ℕ). eqb n 0) (sym e))
 
 pub zero-all : (s : List ℕ) (i total : ℕ) → length s ≤ i → allZero s ≡ (eqb total 0 && allZero (drop i s)) → eqb total 0 ≡ allZero s
@@ -140,7 +128,7 @@ unfolding isRow
 row-length s t e f = eqb-true (length s) sealedLength (and-left (eqb (length s) sealedLength) (allHold s 0 18) (sym e ∙ f))
 
 pub unseal-short : (s room : List ℕ) → length room < roomLength → false ≡ unsealed s (length room)
-unseal-short s room h = sym (ap (λ (t : Bool). isRow s && t) (lt-leb roomLength (length room) h) ∙ and-false (isRow s))
+unseal-short s room h = sym (ap (λ (t : Bool). isRow s && t) (lt-leb roomLength (length room) h) ∙ sym (and-false (isRow s)))
 
 pub unseal-no : (s room : List ℕ) (t : Bool) → t ≡ isRow s → t ≡ false → false ≡ unsealed s (length room)
 unseal-no s room t e f = ap (λ (u : Bool). u && leb roomLength (length room)) (sym f ∙ e)

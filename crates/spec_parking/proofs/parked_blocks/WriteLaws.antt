@@ -15,6 +15,7 @@ use Rattle.spec_sheet.specs.checked_blocks.Block.{wordAt, sumWords}
 use Rattle.spec_parking.specs.parked_blocks.Sealed.{sealedLength, bodyLength, roomLength, wordBytes, wordsBytes, sealed, sealedAll, filled, rowOf, rowIn}
 use Rattle.spec_parking.specs.parked_blocks.First.{blocksFor, firstBlocks, firstIn}
 use Rattle.spec_parking.proofs.parked_blocks.Bytes.{sum-within, words-append, bytes-length, words-length, sealed-length, all-length}
+use Rattle.spec_base.proofs.base.Laws.{zero-at}
 
 -- ---- one more element behind a piece
 putAt-snoc : (at : ℕ) (v l : List ℕ) (b : ℕ) → at + length v < length l → set (putAt at v l) (at + length v) b ≡ putAt at (v ++ (b ∷ [])) l
@@ -94,11 +95,6 @@ pub sum-all : (s : List ℕ) (m k total : ℕ) → k ≤ m → m ≤ k → total
 sum-all s m k total h g e = let z : k ≡ m = omega arith in e ∙ ap (λ (n : ℕ). sumWords s 0 n % 2 ^ 32) z
 
 -- zeros add nothing
-zero-at : (k j : ℕ) → _≡_ {A = ℕ} (getD (replicate k 0) j 0) 0
-zero-at zero j = refl
-zero-at (suc k) zero = refl
-zero-at (suc k) (suc j) = zero-at k j
-
 zero-behind : (p : List ℕ) (k j : ℕ) → length p ≤ j → getD (p ++ replicate k 0) j 0 ≡ 0
 zero-behind p k j h =
     let n : j ≡ length p + (j - length p) = omega arith in

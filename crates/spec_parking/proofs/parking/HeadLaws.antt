@@ -167,10 +167,6 @@ module _ (b room : List ℕ) where
       in-unsound p h z = by-parked false (sym h ∙ z)
 
 -- ---- the numbers
-pub head-is : (b : List ℕ) → headIn b ≡ headNumbers (sessionIn b)
-unfolding headIn
-head-is b = refl
-
 pub head-made : (s : List ℕ) (g : Config) (n : Counts) (m : Columns) (e o t l h : ℕ)
     → g ≡ sessionIn s .config → n ≡ sessionIn s .counts → m ≡ sessionIn s .columns
     → e ≡ wordAt s 4 → o ≡ wordAt s 5 → t ≡ wordAt s 6 → l ≡ wordAt s 7 → h ≡ wordAt s 16

@@ -13,7 +13,6 @@ use Rattle.spec_base.proofs.base.RefusalLaws.{else-none, else-found, else-here}
 use Rattle.spec_base.proofs.base.Laws.{and-left}
 use Rattle.spec_base.proofs.base.PutLaws.{put-nil}
 use Rattle.spec_caption.specs.caption_fate.Emit.{Emit, outputOf, warningsOf, placesOf}
-use Rattle.spec_format.specs.declared.ass_columns.Columns.{Columns}
 use Rattle.spec_session.specs.session_counts.Session.{Call}
 use Rattle.spec_session.specs.session_counts.Session as model
 use Rattle.spec_session.proofs.session_counts.Numbers.{OfCall, call-number, refused-same}

@@ -3,7 +3,7 @@ use mathlib.Core.Bool.{Bool, true, false, _&&_, _||_, cond}
 use mathlib.Core.List.{List, [], _∷_}
 use Prim.Native.Nat.{ℕ}
 use lib.Dec.{eqb}
-use lib.ListN.{length, take, drop}
+use lib.ListN.{take, drop}
 use Rattle.spec_base.specs.base.Limits.{mostHeld}
 use Rattle.spec_sheet.specs.checked_blocks.Block.{wordAt}
 use Rattle.spec_session.specs.session_counts.Session.{isOutcome}

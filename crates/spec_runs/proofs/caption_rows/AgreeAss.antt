@@ -2,7 +2,7 @@
 use mathlib.Core.Path.{_≡_, refl, sym, ap, ap₂, subst, _∙_}
 use mathlib.Core.Bool.{Bool, true, false, cond}
 use mathlib.Core.List.{List, [], _∷_, _++_, append-assoc, append-nil}
-use Prim.Native.Nat.{ℕ, zero, suc, _+_, _-_, _≤_, _<_}
+use Prim.Native.Nat.{ℕ, zero, suc, _+_, _-_}
 use native.Mathlib.Omega.{arith}
 use borrow.Author.Tests.{ne-eqb}
 use lib.Dec.{eqb, ltb}
@@ -13,7 +13,7 @@ use Rattle.spec_text.specs.text.Line.{linesOf, concat, lineCount, textOf, termi
 use Rattle.spec_caption.specs.declared.caption_stamp.Time.{Time}
 use Rattle.spec_caption.specs.declared.caption_stamp.Time.the-variants.{At, Bad}
 use Rattle.spec_caption.specs.caption_stamp.Read.{timeIn}
-use Rattle.spec_caption.specs.caption_fate.Says.{unplaced, short, reasonNumber, Cue, Part, stays, passes, cue, Fault, longLine, notUtf8, longBlock, badTime, badHeader, faultNumber}
+use Rattle.spec_caption.specs.caption_fate.Says.{unplaced, short, reasonNumber, Part, stays, passes, cue, Fault, longLine, notUtf8, longBlock, badTime, badHeader, faultNumber}
 use Rattle.spec_caption.specs.caption_fate.Bom.{behindBom}
 use Rattle.spec_format.specs.declared.ass_columns.Columns.{Columns}
 use Rattle.spec_format.specs.ass_columns.Columns.{columnsIn, fields, fieldAt}
@@ -24,9 +24,10 @@ use Rattle.spec_session.specs.session_counts.Reader.{Reading, fails, _⊕_}
 use Rattle.promise.specs.Plain.{bomLength, lineFault, unlessFault, lineThen, assRead}
 use Rattle.promise.proofs.LinesCut.{many-append, concat-append}
 use Rattle.spec_runs.specs.declared.caption_rows.Said.{Said}
-use Rattle.spec_runs.specs.caption_rows.Said.{wordsLength, atFault, captionSaid, partSaid, lineSaid}
-use Rattle.spec_runs.specs.caption_rows.Walk.{Walk, stopped, sixSaid, rowsSaid, onward, _then_, assTurn, assNext, assWalk}
+use Rattle.spec_runs.specs.caption_rows.Said.{wordsLength, atFault, partSaid, lineSaid}
+use Rattle.spec_runs.specs.caption_rows.Walk.{Walk, stopped, rowsSaid, onward, _then_, assTurn, assNext, assWalk}
 use Rattle.spec_runs.specs.caption_rows.Cues.{linesBefore, lineOf, lineAt, wordsAt, captionRow, rowsOf}
+use Rattle.spec_runs.proofs.caption_rows.WalkLaws.{ass-clause}
 
 -- ---- a walk and a reading agree
 pub record Agree (kind : ℕ) (text : List ℕ) (w : Walk) (r : Reading) : Type 0 where
@@ -35,10 +36,6 @@ pub record Agree (kind : ℕ) (text : List ℕ) (w : Walk) (r : Reading) : Type 
 
 pub agree-fails : (kind : ℕ) (text : List ℕ) (k n : ℕ) → Agree kind text (stopped k n) (fails k)
 agree-fails kind text k n = record { fault = refl; rows = refl }
-
-pub rows-append : (kind : ℕ) (text : List ℕ) (ps qs : List Part) → rowsOf kind text (ps ++ qs) ≡ rowsOf kind text ps ++ rowsOf kind text qs
-rows-append kind text [] qs = refl
-rows-append kind text (p ∷ ps) qs = ap (λ (x : List ℕ). captionRow kind text p ++ x) (rows-append kind text ps qs) ∙ sym (append-assoc (captionRow kind text p) (rowsOf kind text ps) (rowsOf kind text qs))
 
 -- one part more: its row is what was said
 pub agree-part : (kind : ℕ) (text : List ℕ) (s : Said) (p : Part) (w : Walk) (r : Reading) → s .number ≡ 0 → rowsSaid s ≡ captionRow kind text p → Agree kind text w r → Agree kind text (s then w) ((p ∷ []) ⊕ r)
@@ -131,10 +128,6 @@ module _ (text : List ℕ) (done : List (List ℕ)) (l : List ℕ) (ls : List (L
       let w : i ≡ lineAt text (q .line) = ei ∙ sym at-is ∙ ap (lineAt text) (sym h) in
       let v : l ≡ lineOf (q .line) (linesOf (behindBom text)) = sym this-is ∙ ap (λ (k : ℕ). lineOf k (linesOf (behindBom text))) (sym h) in
       (refl, ap₂ (λ (a : ℕ) (b : List ℕ). q .line ∷ 0 ∷ q .start ∷ q .stop ∷ (a + (length (textOf b) - wordsLength 0 q)) ∷ wordsLength 0 q ∷ []) w v)
-
-pub ass-clause : (x : ℕ) (c : Columns) (n i : ℕ) (y : List ℕ) (ls : List (List ℕ)) → assWalk x c n i (y ∷ ls) ≡ (assTurn x c n i y then assWalk 0 (assNext x c n y) (suc n) (i + length y) ls)
-unfolding assWalk
-ass-clause x c n i y ls = refl
 
 read-clause : (z : Reading) (x : ℕ) (c : Columns) (n : ℕ) (l : List ℕ) (ls : List (List ℕ)) → assRead z x c n (l ∷ ls) ≡ unlessFault (lineFault x l) (lineThen (lineSays c n l) (λ d. assRead z 0 d (suc n) ls))
 unfolding assRead

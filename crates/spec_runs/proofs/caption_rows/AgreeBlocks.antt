@@ -2,7 +2,7 @@
 use mathlib.Core.Path.{_≡_, refl, sym, ap, ap₂, subst, _∙_}
 use mathlib.Core.Bool.{Bool, true, false, cond}
 use mathlib.Core.List.{List, [], _∷_, _++_, append-assoc, append-nil}
-use Prim.Native.Nat.{ℕ, zero, suc, _+_, _-_, _≤_, _<_}
+use Prim.Native.Nat.{ℕ, suc, _+_, _-_}
 use native.Mathlib.Omega.{arith}
 use borrow.Author.Tests.{ne-eqb}
 use lib.Dec.{eqb, leb}
@@ -14,23 +14,23 @@ use Rattle.spec_text.specs.pattern.Find.{contains, upTo}
 use Rattle.spec_text.specs.text.Line.{linesOf, concat, lineCount, textOf, terminatorOf}
 use Rattle.spec_caption.specs.declared.caption_stamp.Time.{Time}
 use Rattle.spec_caption.specs.declared.caption_stamp.Time.the-variants.{At, Bad}
-use Rattle.spec_caption.specs.caption_fate.Says.{Piece, Cue, Part, stays, passes, cue, notUtf8, badTime, faultNumber}
+use Rattle.spec_caption.specs.caption_fate.Says.{Part, stays, cue, notUtf8, badTime}
 use Rattle.spec_caption.specs.caption_fate.Bom.{behindBom}
-use Rattle.spec_format.specs.block_timing.Style.{Style, styleOf, stampsIn, blankIn}
+use Rattle.spec_format.specs.block_timing.Style.{styleOf, stampsIn, blankIn}
 use Rattle.spec_format.specs.block_timing.Header.{headerDue}
 use Rattle.spec_format.specs.block_timing.Arrow.{arrow, Timing, untimed, timed, later, timingOf}
-use Rattle.spec_format.specs.block_cue.Block.{BlockSays, faulty as blockFaulty, says as blockSaying, blockFrame, blockCue, bothSay, endText, trailing, timingLineSays, timingSays, blockSays}
+use Rattle.spec_format.specs.block_cue.Block.{blockFrame, blockCue, bothSay, endText, trailing, timingLineSays, timingSays, blockSays}
 use Rattle.spec_session.specs.session_counts.Machine.{Machine, Says, faulty, says}
 use Rattle.spec_session.specs.session_counts.Reader.{Reading, reading, fails, _⊕_, readLine, readClose}
 use Rattle.spec_session.specs.kinds.Takes.{State, blankState, withBlock, ofBlock, closes, adds, blockTakes, takes, blockEnds, ends, machineOf}
 use Rattle.promise.specs.Plain.{bomLength, lineFault}
-use Rattle.promise.proofs.Bare.{endOf, readAll}
+use Rattle.promise.proofs.Bare.{readAll}
 use Rattle.promise.proofs.PlainBlocks.{due-past}
 use Rattle.promise.proofs.LinesCut.{Cut, cut-tail, cut-behind, cut-before, cut-lines, many-append, concat-append}
 use Rattle.spec_runs.specs.declared.caption_rows.Said.{Said}
-use Rattle.spec_runs.specs.caption_rows.Said.{wordsLength, atFault, quiet, captionSaid, partSaid, timingLine, heldSaid, blockSaid}
-use Rattle.spec_runs.specs.caption_rows.Walk.{Walk, stopped, rowsSaid, onward, _then_, blockTurn, blockWalk}
-use Rattle.spec_runs.specs.caption_rows.Cues.{linesBefore, lineAt, wordsAt, captionRow, rowsOf}
+use Rattle.spec_runs.specs.caption_rows.Said.{wordsLength, atFault, quiet, partSaid, heldSaid, blockSaid}
+use Rattle.spec_runs.specs.caption_rows.Walk.{Walk, stopped, _then_, blockTurn, blockWalk}
+use Rattle.spec_runs.specs.caption_rows.Cues.{linesBefore, lineAt, wordsAt}
 use Rattle.spec_runs.proofs.caption_rows.AgreeAss.{Agree, agree-fails, agree-part, agree-fault, before-lines}
 
 -- ---- the timing line parts the block's lines

@@ -1,29 +1,26 @@
 -- THE WALK IS THE PLAIN READER'S: `walk-plain`.
-use mathlib.Core.Path.{_≡_, refl, sym, ap, ap₂, subst, _∙_}
-use mathlib.Core.Bool.{Bool, true, false, cond, _&&_}
+use mathlib.Core.Path.{_≡_, refl, sym, ap, subst}
+use mathlib.Core.Bool.{Bool, true, false, _&&_}
 use mathlib.Core.List.{List, [], _∷_, _++_, append-nil}
-use Prim.Native.Nat.{ℕ, zero, suc, _+_, _≤_, _<_}
+use Prim.Native.Nat.{ℕ, zero, suc, _+_}
 use native.Mathlib.Omega.{arith}
 use borrow.Author.Tests.{ne-eqb}
-use lib.Dec.{eqb}
 use lib.ListN.{length}
 use Rattle.spec_text.specs.text.Line.{linesOf}
 use Rattle.spec_caption.specs.caption_time.Kind.{kindBad}
 use Rattle.spec_caption.proofs.caption_time.Limits.{by-kind}
-use Rattle.spec_caption.specs.caption_fate.Says.{Part, stays}
+use Rattle.spec_caption.specs.caption_fate.Says.{stays}
 use Rattle.spec_caption.specs.caption_fate.Bom.{startsBom, behindBom, bomWritten}
 use Rattle.spec_format.specs.ass_columns.Columns.{noColumns}
 use Rattle.spec_format.specs.block_timing.Header.{headerDue}
 use Rattle.spec_format.specs.whole.Srt.{blocksOf}
 use Rattle.spec_session.specs.session_counts.Reader.{Reading, fails, _⊕_}
-use Rattle.spec_session.specs.kinds.Takes.{machineOf, blankState}
-use Rattle.promise.specs.Plain.{bomLength, unlessFault, headFault, assRead, blocksRead, vttRead, linesSay, linesRead, opened, plainRead}
-use Rattle.promise.proofs.Bare.{readAll}
+use Rattle.promise.specs.Plain.{bomLength, unlessFault, headFault, assRead, blocksRead, vttRead, linesSay, opened, plainRead}
 use Rattle.promise.proofs.PlainBlocks.{due-past, block-lines}
 use Rattle.promise.proofs.LinesCut.{Cut, cut-tail, text-cut}
 use Rattle.spec_runs.specs.declared.caption_rows.Said.{Said}
 use Rattle.spec_runs.specs.caption_rows.Said.{atFault, quiet}
-use Rattle.spec_runs.specs.caption_rows.Walk.{Walk, stopped, _then_, assWalk, blockWalk, headTurn, vttWalk, walkBehind, walkOf}
+use Rattle.spec_runs.specs.caption_rows.Walk.{Walk, _then_, assWalk, blockWalk, headTurn, vttWalk, walkBehind, walkOf}
 use Rattle.spec_runs.proofs.caption_rows.AgreeAss.{Agree, agree-fails, agree-part, ass-agree}
 use Rattle.spec_runs.proofs.caption_rows.AgreeBlocks.{block-agree}
 

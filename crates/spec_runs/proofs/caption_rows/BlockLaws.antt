@@ -1,27 +1,25 @@
 -- Laws of what a block gives.
 use mathlib.Core.Path.{_≡_, refl, sym, ap, ap₂, _∙_}
-use mathlib.Core.Bool.{Bool, true, false, cond, true≢false}
-use mathlib.Core.List.{List, [], _∷_, _++_}
-use Prim.Native.Nat.{ℕ, zero, suc, _+_, _-_, _≤_, _<_}
+use mathlib.Core.Bool.{Bool, true, false, true≢false}
+use mathlib.Core.List.{List}
+use Prim.Native.Nat.{ℕ, _+_, _-_, _≤_}
 use native.Mathlib.Omega.{arith}
 use borrow.Author.Tests.{ne-eqb}
 use lib.Dec.{eqb}
-use lib.ListN.{length, take, drop, length-append}
+use lib.ListN.{length, take, drop}
 use Rattle.spec_text.specs.pattern.Find.{upTo}
 use Rattle.spec_text.specs.text.Line.{linesOf, concat, lineCount, textOf, terminatorOf}
-use Rattle.spec_text.proofs.text.LineLaws.{lines-joined}
 use Rattle.spec_caption.specs.declared.caption_stamp.Time.{Time}
 use Rattle.spec_caption.specs.declared.caption_stamp.Time.the-variants.{At, Bad}
 use Rattle.spec_caption.specs.caption_stamp.Read.{timeIn}
-use Rattle.spec_caption.specs.caption_fate.Says.{stays}
 use Rattle.spec_format.specs.declared.block_timing.Place.{Place}
 use Rattle.spec_format.specs.block_timing.Style.{endIn, stampsIn, styleOf}
 use Rattle.spec_format.specs.block_timing.Arrow.{arrow, afterArrow, Timing, untimed, timed, timingOf}
-use Rattle.spec_format.specs.block_timing.Place.{nowhere, somewhere, timingPlace}
+use Rattle.spec_format.specs.block_timing.Place.{timingPlace}
 use Rattle.spec_format.proofs.block_timing.PlaceLaws.{Stands, stands}
-use Rattle.spec_format.specs.block_cue.Block.{BlockSays, bothSay, blockFrame, endText, trailing, timingLineSays, timingSays, blockSays}
+use Rattle.spec_format.specs.block_cue.Block.{bothSay, blockFrame, endText, trailing, timingLineSays, timingSays, blockSays}
 use Rattle.spec_runs.specs.declared.caption_rows.Said.{Said}
-use Rattle.spec_runs.specs.caption_rows.Said.{wordsLength, atFault, quiet, captionSaid, partSaid, heldSaid, timesSaid, timingSaid, timingLine, blockSaid}
+use Rattle.spec_runs.specs.caption_rows.Said.{wordsLength, atFault, quiet, captionSaid, heldSaid, timesSaid, timingSaid, blockSaid}
 
 -- ---- the timing line
 module _ (kind n i k m : ℕ) (l T B u : List ℕ) (x : Time) (eT : T ≡ textOf l) (eB : B ≡ afterArrow T) (em : m ≡ endIn kind B) (eu : u ≡ upTo arrow T) (ex : x ≡ timeIn kind u) where

@@ -1,5 +1,5 @@
 -- A caption takes eight bytes or more of its text: `walk-within`. So six places for each eight bytes are enough: `places-sure`.
-use mathlib.Core.Path.{_≡_, refl, sym, ap, ap₂, subst, _∙_}
+use mathlib.Core.Path.{_≡_, refl, sym, ap, _∙_}
 use mathlib.Core.Bool.{Bool, true, false, cond}
 use mathlib.Core.List.{List, [], _∷_, _++_}
 use Prim.Native.Nat.{ℕ, zero, suc, _+_, _*_, _/_, _≤_}
@@ -20,8 +20,7 @@ use Rattle.spec_caption.specs.caption_fate.Bom.{startsBom, behindBom}
 use Rattle.spec_format.specs.declared.ass_columns.Columns.{Columns}
 use Rattle.spec_format.specs.ass_columns.Columns.{noColumns, columnsIn}
 use Rattle.spec_format.specs.ass_columns.Section.{eventsName, bracketed, inside, inSection}
-use Rattle.spec_format.specs.ass_line.Line.{formatWord, dialogueWord, commentWord, LineSays, says, captionSays, wordSays, textSays, lineSays}
-use Rattle.spec_format.proofs.ass_line.SayLaws.{starts-long}
+use Rattle.spec_format.specs.ass_line.Line.{formatWord, dialogueWord, commentWord, says, captionSays, wordSays, textSays, lineSays}
 use Rattle.spec_format.specs.block_timing.Style.{blankIn, styleOf, stampsIn}
 use Rattle.spec_format.specs.block_timing.Arrow.{arrow, Timing, untimed, timed, timingOf}
 use Rattle.spec_format.specs.block_timing.Place.{timingPlace}
@@ -34,7 +33,8 @@ use Rattle.spec_runs.specs.declared.caption_rows.Walked.{Walked}
 use Rattle.spec_runs.specs.caption_rows.Said.{atFault, quiet, lineSaid, heldSaid, blockSaid}
 use Rattle.spec_runs.specs.caption_rows.Walk.{Walk, stopped, rowsSaid, onward, _then_, assTurn, assNext, assWalk, blockTurn, blockWalk, headTurn, vttWalk, walkBehind, walkOf, WalkedBy}
 use Rattle.spec_runs.proofs.caption_rows.RowLaws.{row-long}
-use Rattle.spec_runs.proofs.caption_rows.TurnLaws.{text-room}
+use Rattle.spec_text.proofs.pattern.PieceLaws.{starts-long}
+use Rattle.spec_session.proofs.kinds.ColumnBounds.{text-length}
 
 -- ---- what was said of m bytes: a caption has eight of them
 abbrev Paid : (m : ℕ) → Said → Type 0
@@ -74,7 +74,7 @@ unfolding assTurn lineSays
 ass-paid x c n i l = go (eqb (lineFault x l) 0)
   where
     go : (t : Bool) → Paid (length l) (cond t (lineSaid (suc n) i (length (textOf l)) (textSays c n l (textOf l))) (atFault (lineFault x l) (suc n)))
-    go true = text-paid c n i (suc n) (length (textOf l)) (length l) l (textOf l) (text-room l)
+    go true = text-paid c n i (suc n) (length (textOf l)) (length l) l (textOf l) (text-length l)
     go false = omega arith
 
 -- ---- a block: its timing line has two times and an arrow

@@ -6,7 +6,7 @@ use lib.ListN.{replicate}
 use Rattle.spec_base.specs.base.Refusal.{_orElse_, faultUnless}
 use Rattle.spec_text.specs.utf8.Utf8.{leadLen, secondLow, secondHigh, tail, widthBy, charWidth, codeBy, codeHead, utf8From, utf8}
 use Rattle.spec_text.specs.whitespace.White.{whiteHigh, white, whiteHead, headFrom, trimHead}
-use Rattle.spec_text.specs.text.Line.{textOf, terminatorLength, blank}
+use Rattle.spec_text.specs.text.Line.{blank}
 use Rattle.spec_format.specs.ass_columns.Columns.{noColumns}
 use Rattle.spec_format.specs.block_timing.Style.{blankIn}
 use Rattle.promise.specs.Plain.{lineFault, headFault}

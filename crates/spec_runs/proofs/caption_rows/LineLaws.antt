@@ -2,7 +2,7 @@
 use mathlib.Core.Path.{_≡_, refl, sym, ap, ap₂, _∙_}
 use mathlib.Core.Bool.{Bool, true, false, cond}
 use mathlib.Core.List.{List, [], _∷_, _++_}
-use Prim.Native.Nat.{ℕ, zero, suc, _+_, _-_, _≤_, _<_, _^_}
+use Prim.Native.Nat.{ℕ, suc, _+_, _-_, _≤_, _<_, _^_}
 use native.Mathlib.Omega.{arith}
 use native.Mathlib.Numerals.{add-one}
 use borrow.Author.Tests.{eq-eqb, ne-eqb, leb-true, leb-false, ltb-false}
@@ -14,17 +14,17 @@ use Rattle.spec_text.specs.text.Line.{textOf, terminatorOf}
 use Rattle.spec_caption.specs.declared.caption_stamp.Time.{Time}
 use Rattle.spec_caption.specs.declared.caption_stamp.Time.the-variants.{At, Bad}
 use Rattle.spec_caption.specs.caption_stamp.Read.{timeIn}
-use Rattle.spec_caption.specs.caption_fate.Says.{Piece, bytes, start, stop, unplaced, short, stays, passes, cue}
+use Rattle.spec_caption.specs.caption_fate.Says.{bytes, start, stop, unplaced, short, stays, passes}
 use Rattle.spec_format.specs.declared.ass_columns.Columns.{Columns}
 use Rattle.spec_format.specs.ass_columns.Columns.{columnsIn, fields, fieldAt}
 use Rattle.spec_format.specs.ass_columns.Section.{eventsName, bracketed, inside, inSection}
 use Rattle.spec_format.proofs.ass_columns.FieldLaws.{fields-most}
-use Rattle.spec_format.specs.ass_write.Frame.{pieceAt, fieldPieces, lineFrame}
+use Rattle.spec_format.specs.ass_write.Frame.{pieceAt, fieldPieces}
 use Rattle.spec_format.specs.ass_line.Line.{formatWord, dialogueWord, commentWord, LineSays, says, lineCue, timesSay, captionSays, wordSays, textSays, lineSays}
 use Rattle.spec_format.specs.ass_line.AssThrough.{columnsAfter}
 use Rattle.spec_format.proofs.ass_line.SayLaws.{caption-start, caption-end, caption-few, caption-times, caption-columns}
 use Rattle.spec_runs.specs.declared.caption_rows.Said.{Said}
-use Rattle.spec_runs.specs.caption_rows.Said.{pieceLength, fieldLength, wordsLength, atFault, quiet, captionSaid, partSaid, lineSaid, lastWords}
+use Rattle.spec_runs.specs.caption_rows.Said.{pieceLength, fieldLength, wordsLength, atFault, captionSaid, lineSaid, lastWords}
 
 -- ---- the words
 pub words-end : (c : Columns) (fs : List (List ℕ)) → c .columns ≡ c .«end» → 0 ≡ lastWords c fs

@@ -1,14 +1,14 @@
 -- Laws of the whole call.
-use mathlib.Core.Path.{_≡_, refl, sym, ap, ap₂, subst, _∙_}
-use mathlib.Core.Bool.{Bool, true, false, not, cond, true≢false}
-use mathlib.Core.List.{List, [], _∷_, _++_}
-use Prim.Native.Nat.{ℕ, zero, suc, _+_, _*_, _≤_}
+use mathlib.Core.Path.{_≡_, refl, sym, ap, ap₂, _∙_}
+use mathlib.Core.Bool.{Bool, true, false, not, cond}
+use mathlib.Core.List.{List, [], _∷_}
+use Prim.Native.Nat.{ℕ, zero, suc, _*_, _≤_}
 use native.Mathlib.Omega.{arith}
-use borrow.Author.Tests.{leb-true, ne-eqb}
+use borrow.Author.Tests.{leb-true, ne-eqb, not-true}
 use lib.Dec.{eqb, leb}
-use lib.ListN.{length, length-append}
+use lib.ListN.{length}
 use Rattle.spec_base.specs.base.Limits.{mostTaken}
-use Rattle.spec_base.specs.base.Refusal.{_orElse_, faultUnless}
+use Rattle.spec_base.specs.base.Refusal.{_orElse_, faultUnless, unlessRefused}
 use Rattle.spec_base.specs.base.Put.{put}
 use Rattle.spec_base.proofs.base.PutLaws.{put-nil}
 use Rattle.spec_caption.specs.caption_time.Kind.{kindBad}
@@ -16,7 +16,7 @@ use Rattle.spec_caption.specs.caption_fate.Says.{Part, stays, passes, cue, capt
 use Rattle.promise.specs.Plain.{plainRead}
 use Rattle.spec_runs.specs.declared.caption_rows.Walked.{Walked}
 use Rattle.spec_runs.specs.caption_rows.Walk.{walkOf, WalkedBy}
-use Rattle.spec_runs.specs.caption_rows.Cues.{captionRow, rowsOf, cuesRefused, cuesNumber, unlessRefused, cuesTold, CuesRead}
+use Rattle.spec_runs.specs.caption_rows.Cues.{rowsOf, cuesRefused, cuesNumber, cuesTold, CuesRead}
 use Rattle.spec_runs.proofs.caption_rows.AgreeAss.{Agree}
 
 -- six numbers a caption
@@ -44,10 +44,6 @@ else-longer zero (suc b) c d n = refl
 else-longer zero zero (suc c) d n = refl
 else-longer zero zero zero d n = absurd (n refl)
 
-not-bad : (b : Bool) → not b ≡ true → b ≡ false
-not-bad false e = refl
-not-bad true e = absurd (true≢false (sym e))
-
 module _ (kind text told bad : ℕ) (e : bad ≡ (faultUnless (not (kindBad kind)) 16 orElse faultUnless (leb text mostTaken) 16 orElse faultUnless (leb 2 told) 16)) (z : bad ≡ 0) where
   parts : (faultUnless (not (kindBad kind)) 16 ≡ 0) × ((faultUnless (leb text mostTaken) 16 ≡ 0) × (faultUnless (leb 2 told) 16 ≡ 0))
   parts =
@@ -61,7 +57,7 @@ module _ (kind text told bad : ℕ) (e : bad ≡ (faultUnless (not (kindBad kind
   told-room = leb-true 2 told (unless-zero (leb 2 told) (parts .1 .1))
 
   pub kind-known : kindBad kind ≡ false
-  kind-known = not-bad (kindBad kind) (unless-zero (not (kindBad kind)) (parts .0))
+  kind-known = not-true (kindBad kind) (unless-zero (not (kindBad kind)) (parts .0))
 
 -- a refusal
 number-of : (kind : ℕ) (text : List ℕ) (a b k : ℕ) → cuesRefused kind text a b ≡ suc k → cuesNumber kind text a b ≡ suc k

@@ -1,16 +1,15 @@
 -- A refusal writes neither rows nor output, the seven told numbers of a text stand in their order, and where its pieces end: by computation.
 use mathlib.Core.Path.{_≡_, refl}
 use mathlib.Core.List.{List, [], _∷_}
-use Prim.Native.Nat.{ℕ}
+use Rattle.spec_base.specs.base.Refusal.{unlessRefused}
 use Rattle.spec_caption.specs.caption_fate.Fates.{passed, dropped, shifted, clipped}
 use Rattle.spec_caption.specs.caption_fate.Emit.{Emit, warning, emit, decided, outputOf, warningsOf, placesOf}
 use Rattle.spec_session.specs.session_counts.Counts.{howMany}
-use Rattle.spec_runs.specs.caption_rows.Cues.{unlessRefused}
 use Rattle.spec_runs.specs.one_call.Ran.{tellsOf}
-use Rattle.spec_runs.specs.one_call.Text.{toldOf, unlessRefused as textUnless}
+use Rattle.spec_runs.specs.one_call.Text.{toldOf}
 
-pub refused-rows : (unlessRefused 0 (7 ∷ []) ≡ 7 ∷ []) × (unlessRefused 16 (7 ∷ []) ≡ []) × (textUnless 0 (7 ∷ []) ≡ 7 ∷ []) × (textUnless 15 (7 ∷ []) ≡ [])
-refused-rows = (refl, refl, refl, refl)
+pub refused-rows : (unlessRefused 0 (7 ∷ []) ≡ 7 ∷ []) × (unlessRefused 15 (7 ∷ []) ≡ []) × (unlessRefused 16 (7 ∷ []) ≡ [])
+refused-rows = (refl, refl, refl)
 
 -- one caption shifted, two clipped, three dropped, four passed; eleven bytes written, two warnings, thirteen bytes taken
 abbrev emits : List Emit

@@ -5,10 +5,9 @@ use mathlib.Core.List.{List, [], _∷_, _++_, append-assoc, append-nil}
 use Prim.Native.Nat.{ℕ, zero, suc, _+_, _*_, _-_, _≤_, _<_}
 use native.Mathlib.Omega.{arith}
 use lib.Dec.{leb}
-use borrow.Author.Tests.{leb-true}
-use lib.ListN.{length, take, drop, length-append, length-take, length-drop}
+use lib.ListN.{length, length-append}
 use Rattle.spec_base.specs.base.Put.{put, putAt, placedAt, placeAfter}
-use Rattle.spec_base.proofs.base.PutLaws.{put-nil, length-put, putAt-nil, at-yes, at-no, after-yes, after-no, numbers-stored, then-placed}
+use Rattle.spec_base.proofs.base.PutLaws.{put-nil, putAt-nil, at-yes, at-no, after-yes, after-no, numbers-stored, then-placed, placed-length}
 use Rattle.spec_runs.specs.declared.caption_rows.Said.{Said}
 use Rattle.spec_runs.specs.declared.caption_rows.Walked.{Walked}
 use Rattle.spec_runs.specs.caption_rows.Walk.{Walk, stopped, sixSaid, rowsSaid, onward, _then_, WalkedBy}
@@ -115,14 +114,6 @@ row-long s = go (s .caption)
     go : (t : Bool) → length (cond t (sixSaid s) []) ≡ 6 * cond t 1 0
     go true = refl
     go false = refl
-
-pub placed-length : (p : ℕ) (v l : List ℕ) → length (placedAt p v l) ≡ length l
-unfolding placedAt putAt put
-placed-length p v l = go (leb (p + length v) (length l)) refl
-  where
-    go : (t : Bool) → leb (p + length v) (length l) ≡ t → length (cond t (take p l ++ (v ++ drop (length v) (drop p l))) l) ≡ length l
-    go true e = let h : p + length v ≤ length l = leb-true (p + length v) (length l) e in simp (length-append, length-take, length-drop) (omega arith)
-    go false e = refl
 
 pub going-step : (w rest : Walk) (k k′ p p′ : ℕ) (l₀ l l′ : List ℕ) (s : Said) → Going w (s then rest) k p l₀ l → s .number ≡ 0
     → p′ ≡ placeAfter p (rowsSaid s) l → l′ ≡ placedAt p (rowsSaid s) l → k′ ≡ k + cond (s .caption) 1 0 → Going w rest k′ p′ l₀ l′

@@ -1,19 +1,17 @@
 -- Laws of one line taken.
 use mathlib.Core.Path.{_≡_, refl, sym, ap, ap₂, _∙_}
 use mathlib.Core.Bool.{Bool, true, false, cond}
-use mathlib.Core.List.{List, [], _∷_, _++_}
-use Prim.Native.Nat.{ℕ, zero, suc, _+_, _-_, _≤_, _<_, _^_}
+use mathlib.Core.List.{List}
+use Prim.Native.Nat.{ℕ, suc, _+_, _≤_, _<_, _^_}
 use native.Mathlib.Omega.{arith}
 use native.Mathlib.Numerals.{add-one}
 use borrow.Author.Tests.{eq-eqb, ne-eqb, le-leb, lt-leb}
-use lib.Dec.{eqb, leb}
-use lib.ListN.{length, take, drop, length-append}
-use lib.Seq.{length-take-le}
+use lib.Dec.{eqb}
+use lib.ListN.{length}
 use Rattle.spec_base.specs.base.Limits.{mostLine, mostBlock}
 use Rattle.spec_base.specs.base.Refusal.{_orElse_, faultUnless}
 use Rattle.spec_text.specs.utf8.Utf8.{utf8}
-use Rattle.spec_text.specs.text.Line.{textOf, terminatorOf}
-use Rattle.spec_text.proofs.text.LineLaws.{text-terminator}
+use Rattle.spec_text.specs.text.Line.{textOf}
 use Rattle.spec_text.specs.pattern.Find.{starts}
 use Rattle.spec_caption.specs.caption_fate.Bom.{bom}
 use Rattle.spec_format.specs.declared.ass_columns.Columns.{Columns}
@@ -22,8 +20,9 @@ use Rattle.spec_format.specs.ass_line.AssThrough.{columnsAfter}
 use Rattle.spec_format.specs.block_timing.Style.{blankIn}
 use Rattle.promise.specs.Plain.{bomLength, lineFault}
 use Rattle.spec_runs.specs.declared.caption_rows.Said.{Said}
-use Rattle.spec_runs.specs.caption_rows.Said.{atFault, quiet, lineSaid, blockSaid}
+use Rattle.spec_runs.specs.caption_rows.Said.{atFault, lineSaid, blockSaid}
 use Rattle.spec_runs.specs.caption_rows.Walk.{assTurn, assNext, blockTurn, blockFrom, blockFirst}
+use Rattle.spec_session.proofs.kinds.ColumnBounds.{text-length}
 
 -- ---- 19, 20
 pub fault-19 : (x : ℕ) (l : List ℕ) → mostLine < x + length l → 19 ≡ lineFault x l
@@ -46,9 +45,6 @@ pub mark-no : (t : List ℕ) (b : Bool) → b ≡ starts bom t → b ≡ false �
 mark-no t b e f = ap (λ (x : Bool). cond x 3 0) (sym f ∙ e)
 
 -- ---- an ASS line
-pub text-room : (l : List ℕ) → length (textOf l) ≤ length l
-text-room l = let a : length (textOf l) + length (terminatorOf l) ≡ length l = sym (length-append (textOf l) (terminatorOf l)) ∙ ap length (text-terminator l) in omega arith
-
 pub ass-fault : (x : ℕ) (c : Columns) (n i f k : ℕ) (l : List ℕ) (t : Said) → f ≡ lineFault x l → (f ≡ 0 → ⊥) → k ≡ n + 1 → t ≡ atFault f k
     → (t ≡ assTurn x c n i l) × (c ≡ assNext x c n l)
 unfolding assTurn assNext
@@ -135,4 +131,4 @@ module _ (kind x i f : ℕ) (b : List ℕ) (n : ℕ) (l : List ℕ) (m : ℕ) (e
       open-first = rw (fine, open-line)
 
 pub ass-room : (i : ℕ) (l : List ℕ) → i + length l < 2 ^ 64 → i + length (textOf l) < 2 ^ 64
-ass-room i l h = omega (arith, text-room l)
+ass-room i l h = omega (arith, text-length l)

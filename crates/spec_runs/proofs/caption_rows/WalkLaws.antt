@@ -12,11 +12,10 @@ use lib.Seq.{length-take-le, drop-drop, take-add}
 use Rattle.spec_base.specs.base.Limits.{mostTaken, mostBlock}
 use Rattle.spec_base.specs.base.Refusal.{_orElse_, faultUnless}
 use Rattle.spec_base.specs.base.Put.{placedAt, placeAfter}
-use Rattle.spec_base.proofs.base.PutLaws.{put-nil}
+use Rattle.spec_base.proofs.base.PutLaws.{put-nil, placed-length}
 use Rattle.spec_base.proofs.base.RefusalLaws.{else-found}
 use Rattle.spec_text.specs.pattern.Find.{starts}
 use Rattle.spec_caption.specs.caption_fate.Bom.{bom, behindBom}
-use Rattle.spec_format.proofs.ass_line.SayLaws.{starts-long}
 use Rattle.spec_format.specs.block_timing.Header.{isHeader}
 use Rattle.promise.proofs.PlainVtt.{header-headed}
 use Rattle.spec_text.specs.text.Line.{lineLength, linesOf, textOf}
@@ -28,8 +27,9 @@ use Rattle.promise.specs.Plain.{bomLength, lineFault, headed, headFault}
 use Rattle.spec_runs.specs.declared.caption_rows.Said.{Said}
 use Rattle.spec_runs.specs.declared.caption_rows.Walked.{Walked}
 use Rattle.spec_runs.specs.caption_rows.Said.{atFault, quiet, blockSaid}
-use Rattle.spec_runs.specs.caption_rows.Walk.{Walk, stopped, rowsSaid, onward, _then_, assTurn, assNext, assWalk, blockTurn, blockFrom, blockFirst, blockWalk, headTurn, vttWalk, walkBehind, walkOf, lineFrom, between, WalkedBy}
-use Rattle.spec_runs.proofs.caption_rows.RowLaws.{Going, going-start, going-same, going-step, going-stop, going-end, placed-length}
+use Rattle.spec_runs.specs.caption_rows.Walk.{Walk, stopped, rowsSaid, _then_, assTurn, assNext, assWalk, blockTurn, blockFrom, blockFirst, blockWalk, headTurn, vttWalk, walkBehind, walkOf, lineFrom, between, WalkedBy}
+use Rattle.spec_runs.proofs.caption_rows.RowLaws.{Going, going-start, going-same, going-step, going-stop, going-end}
+use Rattle.spec_text.proofs.pattern.PieceLaws.{starts-long}
 
 at-most : (b : Bool) → cond b 1 0 ≤ 1
 at-most true = omega arith
@@ -78,11 +78,11 @@ ass-start text mark l h =
       short = h .1;
     }
 
-ass-clause : (x : ℕ) (c : Columns) (n i : ℕ) (y : List ℕ) (ls : List (List ℕ)) → assWalk x c n i (y ∷ ls) ≡ (assTurn x c n i y then assWalk 0 (assNext x c n y) (suc n) (i + length y) ls)
+pub ass-clause : (x : ℕ) (c : Columns) (n i : ℕ) (y : List ℕ) (ls : List (List ℕ)) → assWalk x c n i (y ∷ ls) ≡ (assTurn x c n i y then assWalk 0 (assNext x c n y) (suc n) (i + length y) ls)
 unfolding assWalk
 ass-clause x c n i y ls = refl
 
-ass-none : (x : ℕ) (c : Columns) (n i : ℕ) → assWalk x c n i [] ≡ stopped 0 0
+pub ass-none : (x : ℕ) (c : Columns) (n i : ℕ) → assWalk x c n i [] ≡ stopped 0 0
 unfolding assWalk
 ass-none x c n i = refl
 
@@ -221,9 +221,6 @@ module _ (kind : ℕ) (text : List ℕ) (start mark lines : ℕ) (l₀ l : List 
 
   pub block-count : k + 1 < 2 ^ 64
   block-count = omega (arith, a .fewer, a .few, a .inside, a .short)
-
-  pub block-open : f ≤ i
-  block-open = a .open-in
 
   pub block-known : 1 ≤ kind
   block-known = a .known

@@ -1,11 +1,11 @@
 -- ASS: each row stands on its line, and its words are the last field.
 use mathlib.Core.Path.{_≡_, refl, sym, ap, ap₂, subst, _∙_}
 use mathlib.Core.Logic.{_⊎_, inl, inr}
-use mathlib.Core.Bool.{Bool, true, false, cond, true≢false}
+use mathlib.Core.Bool.{Bool, true, false, cond}
 use mathlib.Core.List.{List, [], _∷_, _++_, append-assoc, append-nil}
 use Prim.Native.Nat.{ℕ, zero, suc, _+_, _-_, _≤_}
 use native.Mathlib.Omega.{arith}
-use borrow.Author.Tests.{eqb-true, ltb-false}
+use borrow.Author.Tests.{ltb-false}
 use lib.Dec.{eqb, ltb}
 use lib.ListN.{length, take, drop, length-append, take-append-drop}
 use Rattle.spec_text.specs.whitespace.White.{trim}
@@ -21,7 +21,7 @@ use Rattle.spec_caption.specs.caption_fate.Bom.{behindBom}
 use Rattle.spec_format.specs.declared.ass_columns.Columns.{Columns}
 use Rattle.spec_format.specs.ass_columns.Columns.{columnsIn, fields, fieldAt, noColumns}
 use Rattle.spec_format.specs.ass_columns.Section.{eventsName, bracketed, inside, inSection}
-use Rattle.spec_format.proofs.ass_columns.FieldLaws.{fields-most}
+use Rattle.spec_format.proofs.ass_columns.FieldLaws.{fields-most, at-zero}
 use Rattle.spec_format.specs.ass_line.Line.{formatWord, dialogueWord, commentWord, LineSays, faulty, says, timesSay, captionSays, wordSays, textSays, lineSays}
 use Rattle.spec_format.specs.ass_line.AssThrough.{columnsAfter}
 use Rattle.spec_format.specs.whole.Ass.{columnsBehind}
@@ -31,10 +31,11 @@ use Rattle.spec_runs.specs.declared.caption_rows.Said.{Said}
 use Rattle.spec_runs.specs.caption_rows.Said.{wordsLength, lastWords, atFault, partSaid, lineSaid}
 use Rattle.spec_runs.specs.caption_rows.Walk.{Walk, rowsSaid, _then_, assTurn, assNext, assWalk}
 use Rattle.spec_runs.proofs.caption_rows.LineLaws.{frame-words}
-use Rattle.spec_runs.proofs.caption_rows.AgreeAss.{ass-clause, turn-bad, turn-good, next-good}
+use Rattle.spec_runs.proofs.caption_rows.AgreeAss.{turn-bad, turn-good, next-good}
 use Rattle.spec_runs.specs.cueplaces.Rows.{bytesAt, byteBehind, lastField, FieldWords, LineWords, LineRow, RowsStand}
-use Rattle.spec_runs.proofs.cueplaces.AssStops.{walk-none}
 use Rattle.spec_runs.proofs.cueplaces.Bytes.{bytes-there, at-end}
+use Rattle.spec_text.proofs.pattern.PieceLaws.{starts-cut}
+use Rattle.spec_runs.proofs.caption_rows.WalkLaws.{ass-clause, ass-none}
 
 -- ---- the last of all fields is the end of their text
 pub record Ends (s end : List ℕ) : Type 0 where
@@ -61,10 +62,6 @@ last-ends (suc n) s e = go (ltb (first comma s) (length s)) e (last-ends n (drop
 
 none-ends : (s : List ℕ) → Ends s []
 none-ends s = record { front = s; is = sym (append-nil s) }
-
-at-zero : (fs : List (List ℕ)) → fieldAt 0 fs ≡ []
-unfolding fieldAt
-at-zero fs = refl
 
 field-ends : (c : Columns) (r : List ℕ) → length (fields (c .columns) r) ≡ c .columns → Ends r (lastField c (fields (c .columns) r))
 field-ends c r e = go (eqb (c .columns) (c .«end»)) (eqb (c .columns) (c .start))
@@ -129,17 +126,6 @@ module _ (c : Columns) (n : ℕ) (l w r : List ℕ) (named : (w ≡ dialogueWord
           times-on (let h : c .columns ≤ length (fields (c .columns) r) = ltb-false (length (fields (c .columns) r)) (c .columns) q in omega (arith, fields-most (c .columns) r))
           (timeIn 0 (fieldAt (c .start) (fields (c .columns) r))) (timeIn 0 (fieldAt (c .«end») (fields (c .columns) r)))
 
--- a word at the head of a text
-head-word : (p s : List ℕ) → starts p s ≡ true → s ≡ p ++ drop (length p) s
-unfolding starts
-head-word [] s e = refl
-head-word (a ∷ p) [] e = absurd (true≢false (sym e))
-head-word (a ∷ p) (b ∷ s) e = go (eqb a b) refl e (head-word p s)
-  where
-    go : (t : Bool) → eqb a b ≡ t → cond t (starts p s) false ≡ true → (starts p s ≡ true → s ≡ p ++ drop (length p) s) → b ∷ s ≡ a ∷ (p ++ drop (length p) s)
-    go true q f ih = ap₂ (λ (y : ℕ) (z : List ℕ). y ∷ z) (sym (eqb-true a b q)) (ih f)
-    go false q f ih = absurd (true≢false (sym f))
-
 word-on : (c : Columns) (n : ℕ) (l t : List ℕ) → textOf l ≡ t → SaysOn c (suc n) l (wordSays c n l t)
 unfolding wordSays
 word-on c n l t et = go (starts formatWord t) (starts dialogueWord t) refl (starts commentWord t) refl
@@ -147,8 +133,8 @@ word-on c n l t et = go (starts formatWord t) (starts dialogueWord t) refl (star
     go : (x y : Bool) → starts dialogueWord t ≡ y → (z : Bool) → starts commentWord t ≡ z
         → SaysOn c (suc n) l (cond x (says (columnsIn (drop 7 t)) (stays l)) (cond y (captionSays c (suc n) l dialogueWord (drop 9 t)) (cond z (captionSays c (suc n) l commentWord (drop 8 t)) (says c (stays l)))))
     go true y p z q = tt
-    go false true p z q = caption-on c (suc n) l dialogueWord (drop 9 t) (inl refl) (et ∙ head-word dialogueWord t p)
-    go false false p true q = caption-on c (suc n) l commentWord (drop 8 t) (inr refl) (et ∙ head-word commentWord t q)
+    go false true p z q = caption-on c (suc n) l dialogueWord (drop 9 t) (inl refl) (et ∙ starts-cut dialogueWord t p)
+    go false false p true q = caption-on c (suc n) l commentWord (drop 8 t) (inr refl) (et ∙ starts-cut commentWord t q)
     go false false p false q = tt
 
 line-on : (c : Columns) (n : ℕ) (l : List ℕ) → SaysOn c (suc n) l (lineSays c n l)
@@ -251,7 +237,7 @@ part-then i k (cue q) w = refl
 
 pub ass-rows : (text : List ℕ) (ls done : List (List ℕ)) (x : ℕ) (c : Columns) (n i : ℕ) → linesOf (behindBom text) ≡ done ++ ls → n ≡ lineCount done → i ≡ byteBehind text done → c ≡ columnsBehind noColumns 0 done
     → RowsStand 0 text n (assWalk x c n i ls .rows)
-ass-rows text [] done x c n i e en ei ec = subst (λ (w : Walk). RowsStand 0 text n (w .rows)) (sym (walk-none x c n i)) tt
+ass-rows text [] done x c n i e en ei ec = subst (λ (w : Walk). RowsStand 0 text n (w .rows)) (sym (ass-none x c n i)) tt
 ass-rows text (l ∷ ls) done x c n i e en ei ec =
     subst (λ (w : Walk). RowsStand 0 text n (w .rows)) (sym (ass-clause x c n i l ls)) (go (lineFault x l) refl (λ d q. ass-rows text ls (done ++ (l ∷ [])) 0 d (suc n) (i + length l) more counted placed q))
   where

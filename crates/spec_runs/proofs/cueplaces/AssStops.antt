@@ -23,9 +23,9 @@ use Rattle.spec_format.specs.ass_line.Line.{formatWord, dialogueWord, commentWo
 use Rattle.promise.specs.Plain.{lineFault}
 use Rattle.spec_runs.specs.declared.caption_rows.Said.{Said}
 use Rattle.spec_runs.specs.caption_rows.Said.{atFault, lineSaid}
-use Rattle.spec_runs.specs.caption_rows.Walk.{Walk, stopped, assTurn, assNext, assWalk}
-use Rattle.spec_runs.proofs.caption_rows.AgreeAss.{ass-clause}
+use Rattle.spec_runs.specs.caption_rows.Walk.{Walk, assTurn, assNext, assWalk}
 use Rattle.spec_runs.proofs.cueplaces.Stops.{Stop, stop-now, stop-later, on-fault, on-line, at-fault, at-line, zero-suc}
+use Rattle.spec_runs.proofs.caption_rows.WalkLaws.{ass-clause, ass-none}
 
 turn-line : (x : ℕ) (c : Columns) (n i : ℕ) (l : List ℕ) (k : ℕ) → assTurn x c n i l .number ≡ suc k → assTurn x c n i l .line ≡ suc n
 unfolding assTurn
@@ -100,10 +100,6 @@ turn-only x c n i l e = go (eqb (lineFault x l) 0) (lineSays c n l) (line-only c
     go true (says d (cue q)) h e = omega arith
     go false y h e = checks-only x l e
 
-pub walk-none : (x : ℕ) (c : Columns) (n i : ℕ) → assWalk x c n i [] ≡ stopped 0 0
-unfolding assWalk
-walk-none x c n i = refl
-
 module _ (x : ℕ) (c : Columns) (n i : ℕ) (l : List ℕ) where
   abbrev S : Said
   S = assTurn x c n i l
@@ -125,7 +121,7 @@ module _ (x : ℕ) (c : Columns) (n i : ℕ) (l : List ℕ) where
 
 -- no fault, no line
 pub ass-quiet : (ls : List (List ℕ)) (x : ℕ) (c : Columns) (n i : ℕ) → assWalk x c n i ls .fault ≡ 0 → assWalk x c n i ls .line ≡ 0
-ass-quiet [] x c n i e = ap (λ (w : Walk). w .line) (walk-none x c n i)
+ass-quiet [] x c n i e = ap (λ (w : Walk). w .line) (ass-none x c n i)
 ass-quiet (l ∷ ls) x c n i e = go (assTurn x c n i l .number) refl (ass-quiet ls 0 (assNext x c n l) (suc n) (i + length l))
   where
     go : (t : ℕ) → assTurn x c n i l .number ≡ t
@@ -136,11 +132,11 @@ ass-quiet (l ∷ ls) x c n i e = go (assTurn x c n i l .number) refl (ass-quiet 
 
 pub ass-stop : (ls : List (List ℕ)) (x : ℕ) (c : Columns) (n i k : ℕ) → assWalk x c n i ls .fault ≡ suc k
     → Stop (assWalk x c n i) ls (suc k) (λ p. assWalk x c n i ls .line ≡ suc n + p)
-ass-stop [] x c n i k e = zero-suc k (sym (ap (λ (w : Walk). w .fault) (walk-none x c n i)) ∙ e)
+ass-stop [] x c n i k e = zero-suc k (sym (ap (λ (w : Walk). w .fault) (ass-none x c n i)) ∙ e)
 ass-stop (l ∷ ls) x c n i k e = go (assTurn x c n i l .number) refl (ass-stop ls 0 (assNext x c n l) (suc n) (i + length l) k)
   where
     none : assWalk x c n i [] .fault ≡ suc k → ⊥
-    none q = zero-suc k (sym (ap (λ (w : Walk). w .fault) (walk-none x c n i)) ∙ q)
+    none q = zero-suc k (sym (ap (λ (w : Walk). w .fault) (ass-none x c n i)) ∙ q)
 
     further : (p a : ℕ) → assWalk x c n i (l ∷ ls) .line ≡ a → a ≡ suc (suc n) + p → assWalk x c n i (l ∷ ls) .line ≡ suc n + suc p
     further p a u v = u ∙ v ∙ (let z : suc (suc n) + p ≡ suc n + suc p = omega arith in z)
@@ -159,7 +155,7 @@ ass-stop (l ∷ ls) x c n i k e = go (assTurn x c n i l .number) refl (ass-stop 
 
 -- there is no block in ASS
 pub ass-short : (ls : List (List ℕ)) (x : ℕ) (c : Columns) (n i : ℕ) → assWalk x c n i ls .fault ≡ 21 → ⊥
-ass-short [] x c n i e = zero-suc 20 (sym (ap (λ (w : Walk). w .fault) (walk-none x c n i)) ∙ e)
+ass-short [] x c n i e = zero-suc 20 (sym (ap (λ (w : Walk). w .fault) (ass-none x c n i)) ∙ e)
 ass-short (l ∷ ls) x c n i e = go (assTurn x c n i l .number) refl (ass-short ls 0 (assNext x c n l) (suc n) (i + length l))
   where
     go : (t : ℕ) → assTurn x c n i l .number ≡ t → (assWalk 0 (assNext x c n l) (suc n) (i + length l) ls .fault ≡ 21 → ⊥) → ⊥

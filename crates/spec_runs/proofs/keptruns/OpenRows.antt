@@ -1,6 +1,6 @@
 -- Open over bytes: its numbers, the first words that it stores, and that a refusal stores nothing. By computation.
 use mathlib.Core.Path.{_≡_, refl}
-use mathlib.Core.List.{List, [], _∷_}
+use mathlib.Core.List.{[], _∷_}
 use lib.ListN.{take, replicate}
 use Rattle.spec_base.specs.base.Put.{put}
 use Rattle.spec_base.specs.base.Refusal.{_orElse_, faultUnless}

@@ -1,10 +1,9 @@
 -- Demand 3 over the bytes of a session: `kept-promise`, `kept-chain`.
-use mathlib.Core.Path.{_≡_, refl, sym, ap, ap₂, subst, _∙_}
+use mathlib.Core.Path.{_≡_, refl, sym, ap, subst, _∙_}
 use mathlib.Core.Logic.{inr}
 use mathlib.Core.Bool.{Bool, true, false, cond}
 use mathlib.Core.List.{List, [], _∷_, _++_}
-use Prim.Native.Nat.{ℕ, _≤_}
-use lib.Dec.{eqb}
+use Prim.Native.Nat.{ℕ}
 use lib.ListN.{length, take}
 use Rattle.spec_base.specs.base.Put.{put}
 use Rattle.spec_base.proofs.base.RefusalLaws.{else-zero}
@@ -31,7 +30,7 @@ use Rattle.promise.proofs.TheDemand.{demand-opened}
 use Rattle.spec_runs.proofs.parkruns.Walk.{At, at-native, at-next}
 use Rattle.spec_runs.proofs.parkruns.Two.{sound, at-open}
 use Rattle.spec_parking.specs.session_bytes.ByteCalls.{openNumber, openBytes, refuses, toldIn}
-use Rattle.spec_runs.specs.keptruns.Kept.{Left, KeptCall, keptCallOf, keptCalls, leftBy, Leaves, KeptMet, KeptRan, textLeft, warningsLeft, keptOutcome}
+use Rattle.spec_runs.specs.keptruns.Kept.{Left, KeptCall, keptCallOf, keptCalls, Leaves, KeptRan, textLeft, warningsLeft, keptOutcome}
 use Rattle.spec_runs.specs.keptruns.Kept as kept
 use Rattle.spec_runs.specs.keptruns.Claims.{firstBytes, KeptPromise}
 use Rattle.spec_runs.proofs.keptruns.Steps.{none-emitted, names, number-is, text-is, places-are, bytes-are}

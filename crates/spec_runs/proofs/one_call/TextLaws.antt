@@ -1,7 +1,7 @@
 -- A text that has been fed, and its finish.
 use mathlib.Core.Path.{_≡_, refl, sym, ap, subst, _∙_}
 use mathlib.Core.Bool.{Bool, true, false, cond}
-use mathlib.Core.List.{List, [], _++_}
+use mathlib.Core.List.{List, _++_}
 use Prim.Native.Nat.{ℕ, _+_, _-_, _*_, _≤_, _<_}
 use native.Mathlib.Omega.{arith}
 use lib.Dec.{ltb}
@@ -10,10 +10,10 @@ use lib.Seq.{take-add, take-all}
 use borrow.Author.Tests.{ltb-true, ltb-false, lt-ltb, le-ltb}
 use Rattle.spec_base.specs.base.Limits.{mostTaken, leastOutput, leastPlaces}
 use Rattle.spec_base.specs.base.Put.{put}
-use Rattle.spec_base.proofs.base.PutLaws.{put-nil, length-put, length-tail}
+use Rattle.spec_base.proofs.base.PutLaws.{length-put}
 use Rattle.spec_caption.specs.declared.caption_fate.Config.{Config}
 use Rattle.spec_caption.specs.caption_fate.Says.{Part}
-use Rattle.spec_caption.specs.caption_fate.Emit.{emitsOf, outputOf, warningsOf, placesOf}
+use Rattle.spec_caption.specs.caption_fate.Emit.{outputOf, warningsOf, placesOf}
 use Rattle.spec_session.specs.declared.session_counts.Counts.{Counts}
 use Rattle.spec_session.specs.session_counts.Counts.{countsOf}
 use Rattle.spec_session.specs.session_counts.Reader.{Reading, reading}
@@ -32,6 +32,7 @@ use Rattle.spec_runs.specs.declared.one_call.Ran.{Ran}
 use Rattle.spec_runs.specs.one_call.Text.{outputFor, placesFor, emitsFor}
 use Rattle.spec_runs.specs.one_call.Ran.{RanText}
 use Rattle.spec_runs.proofs.one_call.StandLaws.{Stands, Over, stands-room, partsBehind, led-end, wrote-behind, over-plain}
+use Rattle.spec_base.proofs.base.PartLaws.{rest-length}
 
 -- the first i bytes have been fed
 pub record At (c : Config) (m text : List ℕ) (i : ℕ) (s : Session) (o w : ℕ) (out₀ out places₀ places : List ℕ) : Type 0 where
@@ -43,10 +44,6 @@ pub record At (c : Config) (m text : List ℕ) (i : ℕ) (s : Session) (o w : �
   pub stands : Stands c m opens (take i text) s o w out₀ out places₀ places
 
 -- ---- the start
-pub none-wrote : (c : Config) (m out places : List ℕ) → Wrote c m [] 0 0 out out places places
-unfolding emitsOf outputOf warningsOf placesOf
-none-wrote c m out places = record { written = refl; warned = refl; text = sym (put-nil out); warnings = sym (put-nil places) }
-
 abbrev pub ownOf : Session → Config
 ownOf s = configOf (s .config .kind) (s .config .timescale)
 
@@ -61,7 +58,7 @@ back-length : (a : ℕ) (l y : List ℕ) → a ≤ length l → length y ≡ len
 back-length a l y h e =
     let p = length-append (take a l) (y ++ drop (length l - a) (drop a l)) in
     let q = length-append y (drop (length l - a) (drop a l)) in
-    omega (arith, p, q, length-take a l, length-drop (length l - a) (drop a l), length-drop a l, length-tail a l)
+    omega (arith, p, q, length-take a l, length-drop (length l - a) (drop a l), length-drop a l, rest-length a l)
 
 -- ---- a call more
 module _ (c : Config) (m text : List ℕ) (i : ℕ) (s : Session) (o w : ℕ) (out₀ out places₀ places : List ℕ) (A : At c m text i s o w out₀ out places₀ places) where
@@ -86,10 +83,10 @@ module _ (c : Config) (m text : List ℕ) (i : ℕ) (s : Session) (o w : ℕ) (o
   at-room = (omega (arith, few .0, A .output, out-long), omega (arith, few .1, A .warned, places-long))
 
   enough : leastOutput ≤ length (lent o out)
-  enough = omega (arith, length-tail o out, at-room .0)
+  enough = omega (arith, rest-length o out, at-room .0)
 
   enough-places : leastPlaces ≤ length (lent w places)
-  enough-places = omega (arith, length-tail w places, at-room .1)
+  enough-places = omega (arith, rest-length w places, at-room .1)
 
   -- what a call wrote fits behind what was written, and the buffers keep their lengths
   pub at-sums : (x : Call) (r : Fed) (u u′ v v′ : List ℕ) → Answered s x r u u′ v v′ → (o + r .written ≤ 4294967295) × (w + r .warned ≤ 4294967295)

@@ -8,7 +8,7 @@ use lib.Dec.{leb}
 use lib.ListN.{length, set}
 use borrow.Author.Tests.{ne-eqb, leb-true}
 use Rattle.spec_base.specs.base.Limits.{mostTaken}
-use Rattle.spec_base.specs.base.Refusal.{_orElse_, faultUnless}
+use Rattle.spec_base.specs.base.Refusal.{_orElse_, faultUnless, unlessRefused}
 use Rattle.spec_base.specs.base.Put.{put}
 use Rattle.spec_base.proofs.base.RefusalLaws.{else-none, else-found, else-zero, held}
 use Rattle.spec_base.proofs.base.PutLaws.{put-nil, sets-put}
@@ -31,7 +31,7 @@ use Rattle.spec_session.specs.session.SessionCalls.{openOf, OpenAnswered}
 use Rattle.promise.specs.Plain.{plainRead}
 use Rattle.promise.specs.Promise.{configOf}
 use Rattle.spec_runs.specs.declared.one_call.Ran.{Ran}
-use Rattle.spec_runs.specs.one_call.Text.{outputFor, placesFor, lengthsFault, refusedWith, emitsFor, textNumber, unlessRefused, toldOf, Retimed}
+use Rattle.spec_runs.specs.one_call.Text.{outputFor, placesFor, lengthsFault, refusedWith, emitsFor, textNumber, toldOf, Retimed}
 use Rattle.spec_runs.specs.one_call.Ran.{Ready, RanText, tellsOf}
 
 -- ---- seven numbers stored

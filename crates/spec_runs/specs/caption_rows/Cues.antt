@@ -1,13 +1,13 @@
 -- The captions of a whole text, by the plain reader (promise/specs/Plain): six numbers a caption, in the text's order; how many there are; and the line of the
 -- first fault. With a fault the captions before its line or block are told, as the retimer writes them.
 use mathlib.Core.Path.{_≡_}
-use mathlib.Core.Bool.{Bool, true, not, cond}
+use mathlib.Core.Bool.{true, not, cond}
 use mathlib.Core.List.{List, [], _∷_, _++_}
 use Prim.Native.Nat.{ℕ, zero, suc, _+_, _*_, _-_}
 use lib.Dec.{eqb, leb}
 use lib.ListN.{length}
 use Rattle.spec_base.specs.base.Limits.{mostTaken}
-use Rattle.spec_base.specs.base.Refusal.{_orElse_, faultUnless}
+use Rattle.spec_base.specs.base.Refusal.{_orElse_, faultUnless, unlessRefused}
 use Rattle.spec_base.specs.base.Put.{put}
 use Rattle.spec_text.specs.text.Line.{linesOf, concat, textOf}
 use Rattle.spec_caption.specs.caption_time.Kind.{kindBad}
@@ -61,10 +61,6 @@ cuesRefused kind t lent told =
 -- the number: a refusal, else the reader's first fault
 unfoldable pub cuesNumber : (kind : ℕ) → (text : List ℕ) → (lent told : ℕ) → ℕ
 cuesNumber kind t lent told = cuesRefused kind t lent told orElse plainRead kind true t .fault
-
--- refused, nothing is written
-abbrev pub unlessRefused : (refusal : ℕ) → List ℕ → List ℕ
-unlessRefused k v = cond (eqb k 0) v []
 
 -- how many captions, and the line of the fault (0: none)
 unfoldable pub cuesTold : (kind : ℕ) → (text : List ℕ) → List ℕ

@@ -1,7 +1,7 @@
 -- What a line or a block gives: a fault with its line, nothing, or a caption with the place of its words.
-use mathlib.Core.Bool.{Bool, true, false, cond}
+use mathlib.Core.Bool.{true, false, cond}
 use mathlib.Core.List.{List, [], _∷_}
-use Prim.Native.Nat.{ℕ, zero, suc, _+_, _-_}
+use Prim.Native.Nat.{ℕ, _+_, _-_}
 use lib.Dec.{eqb}
 use lib.ListN.{length}
 use Rattle.spec_text.specs.text.Line.{linesOf, lineCount, textOf}

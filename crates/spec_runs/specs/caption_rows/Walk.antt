@@ -1,6 +1,6 @@
 -- A whole text walked line by line: the first fault and its line, and the rows of the captions before it. Over what lines and blocks say (spec_format/specs/ass_line/Line,
 -- spec_format/specs/block_cue/Block) and the plain reader's checks of a line. `walk-plain` (proofs) says that fault and rows are the plain reader's.
-use mathlib.Core.Bool.{Bool, true, false, cond}
+use mathlib.Core.Bool.{cond}
 use mathlib.Core.List.{List, [], _∷_, _++_}
 use Prim.Native.Nat.{ℕ, zero, suc, _+_, _-_, _*_, _≤_}
 use mathlib.Core.Path.{_≡_}

@@ -16,7 +16,6 @@ use Rattle.spec_caption.specs.caption_fate.Says.{Part}
 use Rattle.spec_caption.specs.caption_fate.Emit.{Emit, Warning, outputOf, warningsOf, placesOf, emitsOf}
 use Rattle.spec_caption.proofs.caption_fate.FineLaws.{Set}
 use Rattle.spec_format.specs.declared.ass_columns.Columns.{Columns}
-use Rattle.spec_format.specs.ass_line.Line.{lineSays, says as lineSaid}
 use Rattle.spec_session.specs.session_counts.Machine.{Run, going, stopped, run, finishRun}
 use Rattle.spec_session.specs.session_counts.Session.{Session, Call, feed, finish, lentOf, argumentBad, gate, foreign, settle, resume, accepted, respond, answer}
 use Rattle.spec_session.proofs.session_counts.Emits.{parts-none}
@@ -29,7 +28,7 @@ use Rattle.spec_session.specs.kinds.Takes.{State}
 use Rattle.spec_session.specs.kinds.Kit.{kit}
 use Rattle.spec_session.proofs.kinds.KindLaws.{known-three, lawful, lawful-fit, lawful-size, lawful-pending, size}
 use Rattle.spec_session.proofs.kinds.Native.{Native, is-native}
-use Rattle.spec_session.proofs.kinds.KindRoom.{Slim, ass-roomy, srt-roomy, vtt-roomy}
+use Rattle.spec_session.proofs.kinds.KindRoom.{ass-roomy, srt-roomy, vtt-roomy}
 
 pub record Fits (es : List Emit) : Type 0 where
   pub out : length (outputOf es) ≤ leastOutput

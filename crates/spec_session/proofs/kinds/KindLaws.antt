@@ -245,7 +245,7 @@ Rows s = lineCount (s .block)
 abbrev pub Lined : State → Says State → Type 0
 Lined s x = Kept (λ t. Rows t ≤ suc (Rows s)) x
 
-count-snoc : (ks : List (List ℕ)) (l : List ℕ) → lineCount (ks ++ (l ∷ [])) ≡ suc (lineCount ks)
+pub count-snoc : (ks : List (List ℕ)) (l : List ℕ) → lineCount (ks ++ (l ∷ [])) ≡ suc (lineCount ks)
 count-snoc [] l = refl
 count-snoc (k ∷ ks) l = ap suc (count-snoc ks l)
 

@@ -17,7 +17,6 @@ use Rattle.spec_caption.specs.declared.caption_fate.Config.{Config}
 use Rattle.spec_caption.specs.caption_fate.Says.{Part, stays, Fault, notUtf8, badHeader}
 use Rattle.spec_caption.specs.caption_fate.Emit.{emitOf}
 use Rattle.spec_caption.proofs.caption_fate.FineLaws.{Set}
-use Rattle.spec_format.specs.declared.ass_columns.Columns.{Columns}
 use Rattle.spec_format.specs.ass_line.Line.{LineSays, lineSays, faulty as lineFaulty, says as lineSaid}
 use Rattle.spec_format.proofs.ass_line.LineFits.{line-fits}
 use Rattle.spec_format.specs.block_timing.Style.{styleOf, blankIn}
@@ -26,10 +25,11 @@ use Rattle.spec_format.specs.block_cue.Block.{BlockSays, blockSays, faulty as b
 use Rattle.spec_format.proofs.block_cue.Fits.{block-fits}
 use Rattle.spec_format.proofs.block_cue.FineBlock.{lines-held, lines-open}
 use Rattle.spec_session.specs.session_counts.Machine.{Says, faulty, says}
-use Rattle.spec_session.proofs.session_counts.Room.{outLen, warnLen, out-none, warn-none, out-cons, warn-cons, out-stay, warn-stay, RoomOf, Leaves, Roomy}
+use Rattle.spec_session.proofs.session_counts.Room.{outLen, warnLen, out-none, warn-none, out-cons, warn-cons, out-stay, warn-stay, RoomOf, Roomy}
 use Rattle.spec_session.specs.kinds.Takes.{State, ofLine, lineTakes, withBlock, ofBlock, closes, adds, blockTakes, headTakes, takes}
 use Rattle.spec_session.specs.kinds.Kit.{kit}
 use Rattle.spec_session.proofs.kinds.KindLaws.{takes-ass, takes-srt, takes-vtt, ends-ass, ends-srt, ends-vtt, concat-snoc, size, ass-laws, srt-laws, vtt-laws}
+use Rattle.spec_session.proofs.session_counts.Keeps.{Kept}
 
 module _ (c : Config) (m : List Segment) where
   abbrev Of : State → List ℕ → Says State → Type 0
@@ -62,7 +62,7 @@ module _ (c : Config) (set : Set c) (g : List ℕ) (good : mapBad g ≡ false) w
   unfolding lineTakes
   ass-step s n l = checked c assMap (Of c assMap s l) (utf8 l) (ofLine s (lineSays (s .columns) n l)) notUtf8 tt (λ e. said-room s n l (lineSays (s .columns) n l) refl)
 
-  no-last : (x : Says State) → Leaves (λ s. Unit {0}) x
+  no-last : (x : Says State) → Kept (λ s. Unit {0}) x
   no-last (faulty f) = tt
   no-last (says t ps) = tt
 
@@ -104,42 +104,42 @@ module _ (j : ℕ) (some : NotEmpty j) where
   parsed-more : (s : State) (l : List ℕ) → Finished (s .block) → blankIn (suc j) l ≡ false → hasLf l ≡ false → Parsed (withBlock (s .block ++ (l ∷ [])) s)
   parsed-more s l f b e = ap linesOf (concat-snoc (s .block) l) ∙ lines-open (s .block) f l (some l b) e
 
-  last-block : (s : State) (more : List Part) (x : BlockSays) → Leaves Parsed (ofBlock s more x)
+  last-block : (s : State) (more : List Part) (x : BlockSays) → Kept Parsed (ofBlock s more x)
   last-block s more (blockFaulty f) = tt
   last-block s more (blockSaid p) = parsed-none s
 
-  last-closes : (s : State) (n : ℕ) (b : List (List ℕ)) (more : List Part) → Leaves Parsed (closes (styleOf (suc j)) s n b more)
+  last-closes : (s : State) (n : ℕ) (b : List (List ℕ)) (more : List Part) → Kept Parsed (closes (styleOf (suc j)) s n b more)
   last-closes s n [] more = parsed-none s
   last-closes s n (k ∷ ks) more = last-block s more (blockSays (styleOf (suc j)) (suc n - lineCount (k ∷ ks)) (k ∷ ks))
 
-  last-adds : (t : Bool) (s : State) (l : List ℕ) → Finished (s .block) → blankIn (suc j) l ≡ false → hasLf l ≡ false → Leaves Parsed (adds t s l)
+  last-adds : (t : Bool) (s : State) (l : List ℕ) → Finished (s .block) → blankIn (suc j) l ≡ false → hasLf l ≡ false → Kept Parsed (adds t s l)
   last-adds true s l f b e = parsed-more s l f b e
   last-adds false s l f b e = tt
 
   last-blank : (t : Bool) (s : State) (n : ℕ) (l : List ℕ) → Finished (s .block) → blankIn (suc j) l ≡ t → hasLf l ≡ false
-      → Leaves Parsed (cond t (closes (styleOf (suc j)) s n (s .block) (stays l ∷ [])) (adds (leb (length (concat (s .block)) + length l) mostBlock) s l))
+      → Kept Parsed (cond t (closes (styleOf (suc j)) s n (s .block) (stays l ∷ [])) (adds (leb (length (concat (s .block)) + length l) mostBlock) s l))
   last-blank true s n l f b e = last-closes s n (s .block) (stays l ∷ [])
   last-blank false s n l f b e = last-adds (leb (length (concat (s .block)) + length l) mostBlock) s l f b e
 
-  pub block-end : (s : State) (n : ℕ) (l : List ℕ) → Finished (s .block) → hasLf l ≡ false → Leaves Parsed (blockTakes (styleOf (suc j)) s n l)
+  pub block-end : (s : State) (n : ℕ) (l : List ℕ) → Finished (s .block) → hasLf l ≡ false → Kept Parsed (blockTakes (styleOf (suc j)) s n l)
   unfolding blockTakes
   block-end s n l f e = checked-last (utf8 l) _ (last-blank (blankIn (suc j) l) s n l f refl e)
     where
-      checked-last : (u : Bool) (x : Says State) → Leaves Parsed x → Leaves Parsed (cond u x (faulty notUtf8))
+      checked-last : (u : Bool) (x : Says State) → Kept Parsed x → Kept Parsed (cond u x (faulty notUtf8))
       checked-last true x a = a
       checked-last false x a = tt
 
 -- WebVTT: a last line of either sort
-head-end : (s : State) (l : List ℕ) → Parsed s → Leaves Parsed (headTakes s l)
+head-end : (s : State) (l : List ℕ) → Parsed s → Kept Parsed (headTakes s l)
 unfolding headTakes
 head-end s l h = go (utf8 l) (isHeader l)
   where
-    go : (u b : Bool) → Leaves Parsed (cond u (cond b (says s (stays l ∷ [])) (faulty badHeader)) (faulty notUtf8))
+    go : (u b : Bool) → Kept Parsed (cond u (cond b (says s (stays l ∷ [])) (faulty badHeader)) (faulty notUtf8))
     go true true = h
     go true false = tt
     go false b = tt
 
-pub vtt-end : (s : State) (n : ℕ) (l : List ℕ) → Finished (s .block) → hasLf l ≡ false → (b : Bool) → Leaves Parsed (cond b (headTakes s l) (blockTakes (styleOf 2) s n l))
+pub vtt-end : (s : State) (n : ℕ) (l : List ℕ) → Finished (s .block) → hasLf l ≡ false → (b : Bool) → Kept Parsed (cond b (headTakes s l) (blockTakes (styleOf 2) s n l))
 vtt-end s n l f e true = head-end s l (lines-held (s .block) f)
 vtt-end s n l f e false = block-end 1 vtt-some s n l f e
 
@@ -198,7 +198,7 @@ module _ (c : Config) (set : Set c) (g : List ℕ) (good : mapBad g ≡ false) w
         Last = Parsed;
         fit-last = λ s f. lines-held (s .block) (f .block);
         steps = λ s n l f h. subst (Of c n₁ s l) (sym (takes-srt s n l)) (block-step 0 c set g good s n l (lines-held (s .block) (f .block)));
-        lasts = λ s n l f h e. subst (Leaves Parsed) (sym (takes-srt s n l)) (block-end 0 srt-some s n l (f .block) e);
+        lasts = λ s n l f h e. subst (Kept Parsed) (sym (takes-srt s n l)) (block-end 0 srt-some s n l (f .block) e);
         closes =
             λ s n h. subst (Of c n₁ s []) (sym (ends-srt s n))
             (closes-room 0 c set g good s n [] (s .block) [] refl h (rw (out-none c n₁) (omega arith)) (warn-none c n₁));
@@ -227,6 +227,6 @@ module _ (c : Config) (set : Set c) (g : List ℕ) (good : mapBad g ≡ false) w
         Last = Parsed;
         fit-last = λ s f. lines-held (s .block) (f .block);
         steps = λ s n l f h. subst (Of c n₁ s l) (sym (takes-vtt s n l)) (vtt-room s n l (lines-held (s .block) (f .block)) (headerDue 2 n (s .block)));
-        lasts = λ s n l f h e. subst (Leaves Parsed) (sym (takes-vtt s n l)) (vtt-end s n l (f .block) e (headerDue 2 n (s .block)));
+        lasts = λ s n l f h e. subst (Kept Parsed) (sym (takes-vtt s n l)) (vtt-end s n l (f .block) e (headerDue 2 n (s .block)));
         closes = λ s n h. subst (Of c n₁ s []) (sym (ends-vtt s n)) (vtt-closes s n h (headerDue 2 n (s .block)));
       }

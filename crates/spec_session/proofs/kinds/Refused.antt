@@ -1,19 +1,17 @@
 -- The session that a refused open returns is ended, and passes 17: every call with it answers 18.
-use mathlib.Core.Path.{_≡_, refl, sym, ap, _∙_}
-use mathlib.Core.Bool.{Bool, true, false, _||_}
-use mathlib.Core.List.{List, [], _∷_}
-use Prim.Native.Nat.{ℕ}
+use mathlib.Core.Path.{_≡_, refl, ap}
+use mathlib.Core.Bool.{Bool, true, false}
+use mathlib.Core.List.{[], _∷_}
 use native.Mathlib.Omega.{arith}
 use Rattle.spec_caption.specs.caption_time.Kind.{kindBad}
 use Rattle.spec_caption.specs.caption_time.Convert.{timescaleBad}
 use Rattle.spec_map.specs.segment.Segment.{mapBad}
-use Rattle.spec_format.specs.declared.ass_columns.Columns.{Columns}
 use Rattle.spec_session.specs.session_counts.Counts.{noCounts}
 use Rattle.spec_session.specs.session_counts.Session.{isOutcome, outcomeBad, configBad, Call, lentOf, argumentBad, gate, foreign, noSession, respond, answer}
 use Rattle.spec_session.proofs.session_counts.Native.{not-foreign}
 use Rattle.spec_session.proofs.session_counts.CutLaws.{has-none}
 use Rattle.spec_session.specs.kinds.Takes.{noColumns, blankState}
-use Rattle.spec_session.specs.kinds.Kit.{kit, strange}
+use Rattle.spec_session.specs.kinds.Kit.{kit}
 use Rattle.spec_session.proofs.kinds.KindLaws.{ass-laws}
 
 config-good : configBad (record { kind = 0; timescale = 1 }) ≡ false

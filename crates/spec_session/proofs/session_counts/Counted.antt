@@ -2,7 +2,7 @@
 use mathlib.Core.Path.{_≡_, refl, ap, _∙_}
 use mathlib.Core.Bool.{Bool, true, false}
 use mathlib.Core.List.{List, [], _∷_}
-use Prim.Native.Nat.{ℕ, suc, _+_}
+use Prim.Native.Nat.{ℕ, _+_}
 use native.Mathlib.Omega.{arith}
 use Rattle.spec_caption.specs.caption_fate.Fates.{passed, dropped, shifted, clipped}
 use Rattle.spec_caption.specs.caption_fate.Emit.{Caption, none, decided, Emit}

@@ -1,5 +1,4 @@
 -- What every line keeps of a state and of the number of lines before it, a run keeps.
-use mathlib.Core.Path.{refl}
 use mathlib.Core.Bool.{Bool, true, false, _&&_}
 use mathlib.Core.List.{List, [], _∷_, _++_}
 use Prim.Native.Nat.{ℕ, suc}

@@ -3,22 +3,15 @@ use mathlib.Core.Path.{_≡_, refl, ap, _∙_}
 use mathlib.Core.Bool.{Bool, true, false, not, _||_}
 use mathlib.Core.List.{List}
 use Prim.Native.Nat.{ℕ, _+_}
-use lib.Dec.{ltb, leb}
+use lib.Dec.{ltb}
 use lib.ListN.{length}
-use borrow.Author.Tests.{ltb-true, ltb-false, le-leb, lt-leb}
 use Rattle.spec_base.specs.base.Limits.{mostPiece, leastOutput, leastPlaces, mostTaken}
 use Rattle.spec_base.specs.base.Refusal.{_orElse_, faultUnless}
 use Rattle.spec_map.specs.segment.Segment.{mapBad}
 use Rattle.spec_session.specs.session_counts.Reader.{Reading}
 use Rattle.spec_session.specs.session_counts.Session.{Call, lentOf, pieceOf, argumentBad, Gate, refuse, admit, gate}
 use Rattle.spec_session.specs.session_counts.Calls.{Reader, ReaderAnswer, readerAccepts, readerRefusal, readerBy, readerAnswer}
-
-leb-not : (a b : ℕ) → leb a b ≡ not (ltb b a)
-leb-not a b = go (ltb b a) refl
-  where
-    go : (t : Bool) → ltb b a ≡ t → leb a b ≡ not t
-    go true e = lt-leb a b (ltb-true b a e)
-    go false e = le-leb a b (ltb-false b a e)
+use Rattle.spec_base.proofs.base.Laws.{leb-not}
 
 abbrev refusedBy : Gate → ℕ
 refusedBy (refuse k) = k

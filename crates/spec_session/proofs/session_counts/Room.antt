@@ -22,6 +22,7 @@ use Rattle.spec_session.specs.session_counts.Session.{Kit}
 use Rattle.spec_session.proofs.session_counts.OpenLines.{bom-length, bom-open, equals-length}
 use Rattle.spec_session.proofs.session_counts.Laws.{Lawful}
 use Rattle.spec_session.proofs.session_counts.Native.{Ok, step-ok}
+use Rattle.spec_session.proofs.session_counts.Keeps.{Kept}
 
 -- bytes written, and warnings given, for parts through a map
 module _ (c : Config) (m : List Segment) where
@@ -90,18 +91,13 @@ module _ {σ : Type 0} (c : Config) (m : List Segment) (size : σ → ℕ) (φ :
   Room b (going s n h ps) = GoingRoom b s h ps
   Room b (stopped k ps) = StoppedRoom b ps
 
--- a state that a line leaves
-abbrev pub Leaves : {σ : Type 0} → (σ → Type 0) → Says σ → Type 0
-Leaves P (faulty f) = Unit {0}
-Leaves P (says t ps) = P t
-
 -- what the kinds must show: a line from a state that fits; a finish, also after a last line without LF
 pub record Roomy {σ κ : Type 0} (K : Kit σ κ) (kind : ℕ) (L : Lawful K kind) (c : Config) (m : List Segment) (φ : ℕ) : Type 1 where
   pub positive : 1 ≤ φ
   pub Last : σ → Type 0
   pub fit-last : (s : σ) → L .Fit s → Last s
   pub steps : (s : σ) (n : ℕ) (l : List ℕ) → L .Fit s → length l ≤ mostLine → RoomOf c m (L .size) φ s l (K .machine kind .step s n l)
-  pub lasts : (s : σ) (n : ℕ) (l : List ℕ) → L .Fit s → length l ≤ mostLine → hasLf l ≡ false → Leaves Last (K .machine kind .step s n l)
+  pub lasts : (s : σ) (n : ℕ) (l : List ℕ) → L .Fit s → length l ≤ mostLine → hasLf l ≡ false → Kept Last (K .machine kind .step s n l)
   pub closes : (s : σ) (n : ℕ) → Last s → RoomOf c m (L .size) φ s [] (K .machine kind .close s n)
 
 module _ {σ κ : Type 0} (K : Kit σ κ) (kind : ℕ) (L : Lawful K kind) (c : Config) (m : List Segment) (φ : ℕ) (R : Roomy K kind L c m φ) where
@@ -141,11 +137,11 @@ module _ {σ κ : Type 0} (K : Kit σ κ) (kind : ℕ) (L : Lawful K kind) (c : 
   pub line-room : (s : σ) (n : ℕ) (l : List ℕ) → L .Fit s → length l ≤ mostLine → Of s l (takeLine M s n l)
   line-room s n l f h = with-room (eqb n 0 && hasBom l) s n l refl f h
 
-  bom-last : (x : Says σ) → Leaves (R .Last) x → Leaves (R .Last) (withBom x)
+  bom-last : (x : Says σ) → Kept (R .Last) x → Kept (R .Last) (withBom x)
   bom-last (faulty f) o = tt
   bom-last (says t ps) o = o
 
-  with-last : (b : Bool) (s : σ) (n : ℕ) (l : List ℕ) → (eqb n 0 && hasBom l) ≡ b → L .Fit s → length l ≤ mostLine → hasLf l ≡ false → Leaves (R .Last) (lineWith M b s n l)
+  with-last : (b : Bool) (s : σ) (n : ℕ) (l : List ℕ) → (eqb n 0 && hasBom l) ≡ b → L .Fit s → length l ≤ mostLine → hasLf l ≡ false → Kept (R .Last) (lineWith M b s n l)
   with-last true s n l q f h e =
       bom-last (M .step s n (drop 3 l)) (R .lasts s n (drop 3 l) f (omega (arith, length-drop 3 l)) (bom-open l (and-right (eqb n 0) (hasBom l) q) e))
   with-last false s n l q f h e = R .lasts s n l f h e
@@ -191,7 +187,7 @@ module _ {σ κ : Type 0} (K : Kit σ κ) (kind : ℕ) (L : Lawful K kind) (c : 
         warn = rw (warn-append c m ps new) (omega (arith, g .warn, o .warn));
       }
 
-  last-room : (b : ℕ) (s : σ) (n : ℕ) (h : List ℕ) (ps : List Part) (x : Says σ) → Going b s h ps → Of s h x → Leaves (R .Last) x → Has b (lastEnd M n ps x)
+  last-room : (b : ℕ) (s : σ) (n : ℕ) (h : List ℕ) (ps : List Part) (x : Says σ) → Going b s h ps → Of s h x → Kept (R .Last) x → Has b (lastEnd M n ps x)
   last-room b s n h ps (faulty f) g o l = stop b s h ps g
   last-room b s n h ps (says t new) g o l =
       close-room b t [] (ps ++ new) (M .close t (suc n))

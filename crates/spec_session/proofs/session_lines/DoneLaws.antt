@@ -296,7 +296,7 @@ bom-small n l = go (eqb n 0) (hasBom l) refl
     go true false e = omega arith
     go true true e = omega (arith, bom-length l e)
 
-skip-small : (c : Config) (m : List Segment) (k : Columns) (b : ℕ) (x : Says State) → takenIn c m k b x .skip ≤ b
+pub skip-small : (c : Config) (m : List Segment) (k : Columns) (b : ℕ) (x : Says State) → takenIn c m k b x .skip ≤ b
 skip-small c m k b (faulty f) = omega arith
 skip-small c m k b (says s ps) = go (strangeIn c m ps)
   where

@@ -37,7 +37,7 @@ use Rattle.spec_format.specs.block_cue.BlockThrough.{blockAnswerIn, blockIn}
 use Rattle.spec_format.proofs.block_cue.Fits.{block-in-fits}
 use Rattle.spec_session.specs.declared.session_counts.Counts.{Counts}
 use Rattle.spec_session.specs.session_counts.Counts.{count, countAll}
-use Rattle.spec_session.specs.session_counts.Machine.{Says, faulty, says}
+use Rattle.spec_session.specs.session_counts.Machine.{says}
 use Rattle.spec_session.proofs.session_counts.Emits.{output-append, warnings-append, count-append}
 use Rattle.spec_session.proofs.session_counts.Resume.{fault-number}
 use Rattle.spec_session.specs.kinds.Takes.{State, blankState, ofLine, lineTakes, ofBlock, closes, blockTakes, headTakes, takes}

@@ -1,6 +1,4 @@
 use native.Mathlib.Omega.{arith}
-use Prim.Native.Nat.{_≤_}
-use lib.ListN.{length}
 use Rattle.spec_base.proofs.base.PutLaws.{at-back, placed-room}
 use Rattle.spec_format.proofs.ass_write.WriteLaws.{at-start, frame-room, line-written}
 use borrow.Author.Needs.{needs}

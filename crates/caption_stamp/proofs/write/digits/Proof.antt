@@ -1,5 +1,5 @@
 use native.Mathlib.Omega.{arith}
-use Prim.Native.Nat.{_+_, _-_, _≤_}
+use Prim.Native.Nat.{_+_, _≤_}
 use mathlib.Core.Path.{_≡_}
 use Rattle.spec_caption.specs.caption_stamp.Write.{width}
 use Rattle.spec_caption.proofs.caption_stamp.Pad.{width-small, width-big}

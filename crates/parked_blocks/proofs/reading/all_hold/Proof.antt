@@ -1,6 +1,6 @@
 use Rattle.spec_parking.proofs.parked_blocks.ReadLaws.{hold-start, hold-step, hold-no, hold-all}
 use native.Mathlib.Omega.{arith}
-use mathlib.Core.Path.{_≡_, refl}
+use mathlib.Core.Path.{_≡_}
 use Prim.Native.Nat.{_≤_, _-_}
 use Rattle.spec_parking.specs.parked_blocks.Sealed.{allHold}
 use borrow.Author.Needs.{needs}
