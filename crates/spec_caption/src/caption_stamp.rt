@@ -1,4 +1,4 @@
-// Types that the definitions of stamp name.
+// Types that the definitions of caption_stamp name.
 
 // A time that was read, in units, and the mark before its fraction.
 pub enum Time {

@@ -1,4 +1,4 @@
-// Types that the definitions of time name.
+// Types that the definitions of caption_time name.
 
 // What a lone conversion hands back: 0 and the value, or the number of its refusal and 0.
 pub struct Converted {

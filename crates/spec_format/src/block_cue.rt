@@ -1,4 +1,4 @@
-// Types that the definitions of block name.
+// Types that the definitions of block_cue name.
 
 // The times of a timing line, each with its mark.
 pub struct Times {

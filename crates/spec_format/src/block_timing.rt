@@ -1,4 +1,4 @@
-// Types that the definitions of timing name.
+// Types that the definitions of block_timing name.
 
 // Where the timing line stands in a block: its first byte, its length, and how many lines are before it.
 pub struct Place {

@@ -1,4 +1,4 @@
-// Types that the definitions of mapread name.
+// Types that the definitions of map_json_read name.
 
 // A map read: `places` are the numbers written, six to a segment.
 pub struct Taken {

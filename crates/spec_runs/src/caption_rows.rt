@@ -1,4 +1,4 @@
-// Types that the definitions of cues name.
+// Types that the definitions of caption_rows name.
 
 // A fault's number and line; else whether there is a caption: line, warning (0, 1, 2), start, end, and where its words stand.
 pub struct Said {

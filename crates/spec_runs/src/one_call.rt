@@ -1,4 +1,4 @@
-// Types that the definitions of atonce name.
+// Types that the definitions of one_call name.
 use spec_session::session_counts::Counts;
 
 // What the calls told together.

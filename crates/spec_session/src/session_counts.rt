@@ -1,4 +1,4 @@
-// Types that the definitions of machine name.
+// Types that the definitions of session_counts name.
 
 pub struct Counts {
     pub shifted: u32,

@@ -1,4 +1,4 @@
-// Types that the definitions of lines name.
+// Types that the definitions of session_lines name.
 use crate::session_counts::Counts;
 use spec_format::ass_columns::Columns;
 
