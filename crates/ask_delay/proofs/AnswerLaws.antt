@@ -14,9 +14,9 @@ use Rattle.spec_base.specs.base.Limits.{mostUnits}
 use Rattle.spec_base.specs.base.Refusal.{faultUnless}
 use Rattle.spec_base.proofs.base.RefusalLaws.{held, else-zero}
 use Rattle.spec_base.proofs.base.Laws.{yes!, no! }
-use Rattle.spec_caption.specs.caption_time.Kind.{kindBad}
-use Rattle.spec_caption.specs.caption_time.Convert.{timescaleBad}
-use Rattle.spec_caption.proofs.caption_time.Limits.{units-low}
+use Rattle.spec_time.specs.caption_time.Kind.{kindBad}
+use Rattle.spec_time.specs.caption_time.Convert.{timescaleBad}
+use Rattle.spec_time.proofs.caption_time.Limits.{units-low}
 use Rattle.spec_map.specs.segment.Segment.{segmentsOf, mapBad}
 use Rattle.spec_caption.specs.declared.caption_fate.Config.{Config}
 use Rattle.ask_delay.specs.declared.choosing.Chosen.{Chosen}

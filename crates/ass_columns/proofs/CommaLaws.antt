@@ -11,8 +11,8 @@ use lib.Dec.{eqb, leb, ltb}
 use lib.ListN.{length, take, drop, getD, length-drop}
 use Rattle.spec_text.specs.pattern.Find.{starts, first, contains, upTo, past}
 use Rattle.spec_text.specs.pattern.Piece.{comma}
-use Rattle.spec_format.specs.ass_columns.Columns.{fields}
-use Rattle.spec_format.proofs.ass_columns.FieldLaws.{fields-more, fields-last}
+use Rattle.spec_ass.specs.ass_columns.Columns.{fields}
+use Rattle.spec_ass.proofs.ass_columns.FieldLaws.{fields-more, fields-last}
 
 -- n fields are there
 abbrev There : ℕ → List ℕ → Bool

@@ -5,7 +5,7 @@ ghost use Prim.Native.Nat.{_≤_};
 ghost use lib.Dec.{eqb, leb};
 ghost use lib.ListN.{length, drop};
 ghost use Rattle.spec_text.specs.pattern.Find.{first};
-ghost use Rattle.spec_format.specs.ass_columns.Columns.{fields, fieldAt};
+ghost use Rattle.spec_ass.specs.ass_columns.Columns.{fields, fieldAt};
 ghost use Rattle.spec_text.specs.pattern.Piece.{comma};
 
 // How many bytes the first of at most `left` fields has.

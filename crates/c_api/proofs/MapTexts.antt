@@ -8,12 +8,12 @@ use lib.ListN.{length}
 use Rattle.spec_base.specs.base.Put.{put}
 use Rattle.spec_base.specs.base.Refusal.{leftIn}
 use Rattle.spec_map.specs.segment.Segment.{segmentsOf, flatOf}
-use Rattle.spec_json.specs.declared.map_json_write.Wrote.{Wrote}
-use Rattle.spec_json.specs.map_json_write.Text.{mapText}
-use Rattle.spec_json.specs.map_json_write.Reads.{mapSaid}
-use Rattle.spec_json.specs.map_json_write.MapWritten.{writeNumber, whenDone, Writes}
-use Rattle.spec_json.specs.declared.map_json_read.Taken.{Taken}
-use Rattle.spec_json.specs.map_json_read.MapRead.{readNumber, valueWhenDone, Reads}
+use Rattle.spec_map_json.specs.declared.map_json_write.Wrote.{Wrote}
+use Rattle.spec_map_json.specs.map_json_write.Text.{mapText}
+use Rattle.spec_map_json.specs.map_json_write.Reads.{mapSaid}
+use Rattle.spec_map_json.specs.map_json_write.MapWritten.{writeNumber, whenDone, Writes}
+use Rattle.spec_map_json.specs.declared.map_json_read.Taken.{Taken}
+use Rattle.spec_map_json.specs.map_json_read.MapRead.{readNumber, valueWhenDone, Reads}
 
 length-left : (b : Bool) (x : List ℕ) (n : ℕ) → cond b (length (cond b x [])) n ≡ cond b (length x) n
 length-left true x n = refl

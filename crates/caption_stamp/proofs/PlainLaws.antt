@@ -15,11 +15,11 @@ use Rattle.spec_text.specs.pattern.Find.{starts, first, contains, upTo, past}
 use Rattle.spec_text.specs.pattern.Piece.{comma}
 use Rattle.spec_text.proofs.pattern.Free.{Free, first-free, up-byte, past-byte}
 use Rattle.spec_text.specs.whitespace.White.{trim}
-use Rattle.spec_caption.specs.declared.caption_stamp.Time.{Time}
-use Rattle.spec_caption.specs.declared.caption_stamp.Time.the-variants.{At}
-use Rattle.spec_caption.specs.caption_time.Kind.{kindBad, unitsOf, markOf}
-use Rattle.spec_caption.specs.caption_stamp.Read.{colon, markIn, timeWith, timeIn}
-use Rattle.spec_caption.proofs.caption_stamp.Reading.{read-some}
+use Rattle.spec_time.specs.declared.caption_stamp.Time.{Time}
+use Rattle.spec_time.specs.declared.caption_stamp.Time.the-variants.{At}
+use Rattle.spec_time.specs.caption_time.Kind.{kindBad, unitsOf, markOf}
+use Rattle.spec_time.specs.caption_stamp.Read.{colon, markIn, timeWith, timeIn}
+use Rattle.spec_time.proofs.caption_stamp.Reading.{read-some}
 use Rattle.caption_stamp.specs.Plain.{noUnits, Pair, Parts, Read}
 
 -- ---- a list by its bytes

@@ -3,9 +3,9 @@ use mathlib.Core.Path.{_≡_}
 use mathlib.Core.List.{List}
 use Prim.Native.Nat.{ℕ, _+_, _-_, _*_, _≤_, _<_}
 use Rattle.spec_base.specs.base.Limits.{mostMinutes, mostSeconds}
-use Rattle.spec_caption.specs.declared.caption_stamp.Time.the-variants.{At}
-use Rattle.spec_caption.specs.caption_time.Kind.{unitsOf, markOf}
-use Rattle.spec_caption.specs.caption_stamp.Read.{markIn, timeWith}
+use Rattle.spec_time.specs.declared.caption_stamp.Time.the-variants.{At}
+use Rattle.spec_time.specs.caption_time.Kind.{unitsOf, markOf}
+use Rattle.spec_time.specs.caption_stamp.Read.{markIn, timeWith}
 
 -- more than the units of a time with two digits of hours
 abbrev pub noUnits : ℕ

@@ -2,13 +2,13 @@
 use caption_time::kind_bad;
 use caption_time::mark_of;
 use caption_time::units_of;
-use spec_caption::caption_stamp::Time;
+use spec_time::caption_stamp::Time;
 use text::Number;
 ghost use mathlib.Core.Path.{_≡_};
 ghost use Prim.Native.Nat.{_+_, _*_, _≤_, _<_};
 ghost use Rattle.spec_base.specs.base.Limits.{mostHours, mostMinutes, mostSeconds};
 ghost use Rattle.spec_text.specs.pattern.Find.{upTo, past};
-ghost use Rattle.spec_caption.specs.caption_stamp.Read.{colon, timeFrom, timeWith, wideBy, wideFrom, minutesOn, vttTime, markIn, timeIn, Below};
+ghost use Rattle.spec_time.specs.caption_stamp.Read.{colon, timeFrom, timeWith, wideBy, wideFrom, minutesOn, vttTime, markIn, timeIn, Below};
 ghost use Rattle.caption_stamp.specs.Plain.{noUnits, Pair, Parts, Read};
 
 // More than the units of a time with two digits of hours.

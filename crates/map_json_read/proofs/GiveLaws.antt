@@ -14,7 +14,7 @@ use Rattle.spec_base.specs.base.Put.{put, placed, placedLength}
 use Rattle.spec_base.proofs.base.Laws.{yes!, no!, and-left, and-right}
 use Rattle.spec_base.proofs.base.PutLaws.{take-put, put-nil, placed-yes, length-yes}
 use Rattle.spec_base.proofs.base.Refusals.{stops-bad, goes-bad, stops-over, goes-under, last-over, last-under, stops-good, goes-good}
-use Rattle.spec_caption.specs.caption_time.Convert.{timescaleBad}
+use Rattle.spec_time.specs.caption_time.Convert.{timescaleBad}
 use Rattle.spec_map.specs.segment.Segment.{mapBad}
 use Rattle.spec_map.proofs.segment.SegmentLaws.{left-many, flat-length}
 use Rattle.spec_text.specs.utf8.Utf8.{utf8}
@@ -22,16 +22,16 @@ use Rattle.spec_json.specs.json.Space.{padded}
 use Rattle.spec_json.specs.json.Value.{valueWidth}
 use Rattle.spec_json.specs.json.Str.{stringBytes}
 use Rattle.spec_json.specs.json.Member.{Member, bare, elementsOf, membersOf, fieldOf}
-use Rattle.spec_json.specs.map_json_write.Names.{timescaleName, rateNumName, rateDenName, inputName, framesName, segmentsName, mostPath}
-use Rattle.spec_json.specs.map_json_write.Reads.{short, pathSaid, listSaid, numberOf, segmentsFrom, shallow, fieldsSaid, fields, isMapText, mapSaid}
+use Rattle.spec_map_json.specs.map_json_write.Names.{timescaleName, rateNumName, rateDenName, inputName, framesName, segmentsName, mostPath}
+use Rattle.spec_map_json.specs.map_json_write.Reads.{short, pathSaid, listSaid, numberOf, segmentsFrom, shallow, fieldsSaid, fields, isMapText, mapSaid}
 use Rattle.map_json_read.specs.declared.fields.Heads.{Heads}
 use Rattle.map_json_read.specs.declared.fields.HeadSlots.{HeadSlots}
 use Rattle.map_json_read.specs.declared.reading.Parts.{Parts}
-use Rattle.spec_json.specs.declared.map_json_read.Taken.{Taken}
+use Rattle.spec_map_json.specs.declared.map_json_read.Taken.{Taken}
 use Rattle.map_json_read.specs.Slots.{headsIn}
 use Rattle.map_json_segments.specs.Listed.{ListRead, listSaidIn}
 use Rattle.map_json_read.specs.Steps.{objectOf, HeadsOf, flatIn, Gathered, PartsOf, saidNumber, listBad, askNumber, Asked, Gives}
-use Rattle.spec_json.specs.map_json_read.MapRead.{noneTaken, readNumber, Reads}
+use Rattle.spec_map_json.specs.map_json_read.MapRead.{noneTaken, readNumber, Reads}
 use Rattle.map_json_segments.proofs.ListLaws.{list-back}
 use Rattle.map_json_segments.proofs.NumberLaws.{said-value}
 use Rattle.map_json_read.proofs.PartLaws.{object-says}

@@ -17,8 +17,8 @@ use Rattle.spec_json.specs.json.Walk.{itemWidth, rowOf}
 use Rattle.spec_json.specs.json.Member.{Member, bare, membersOf, valuesOf, fieldOf}
 use Rattle.spec_json.proofs.json.ItemLaws.{value-le, lead-space, item-some}
 use Rattle.spec_json.proofs.json.FrontRows.{members-front, row-object, row-members, no-row}
-use Rattle.spec_json.specs.map_json_write.Names.{timescaleName, rateNumName, rateDenName, inputName, framesName, segmentsName, mostPath}
-use Rattle.spec_json.specs.map_json_write.Reads.{short, pathSaid, listSaid, shallow, fieldsSaid, isMapText}
+use Rattle.spec_map_json.specs.map_json_write.Names.{timescaleName, rateNumName, rateDenName, inputName, framesName, segmentsName, mostPath}
+use Rattle.spec_map_json.specs.map_json_write.Reads.{short, pathSaid, listSaid, shallow, fieldsSaid, isMapText}
 use Rattle.map_json_read.specs.declared.fields.Heads.{Heads}
 use Rattle.map_json_read.specs.declared.walk.Walk.{Walk}
 use Rattle.map_json_segments.specs.Slots.{gathered}

@@ -23,8 +23,8 @@ use Rattle.spec_json.specs.json.Walk.{itemWidth, rowOf}
 use Rattle.spec_json.specs.json.Member.{Member, elementsOf, memberOf, membersOf, valuesOf, single, fieldOf}
 use Rattle.spec_json.proofs.json.ItemLaws.{parts-in, item-le, row-bad, row-end, row-stop, row-again, row-in, row-fits-1, row-fits-2, row-fits-3, row-over}
 use Rattle.spec_json.proofs.json.FrontRows.{parts-member}
-use Rattle.spec_json.specs.map_json_write.Names.{timescaleName, rateNumName, rateDenName, inputName, framesName, segmentsName, mostPath}
-use Rattle.spec_json.specs.map_json_write.Reads.{isKnown, shallow, pathSaid, listSaid, segmentsFrom}
+use Rattle.spec_map_json.specs.map_json_write.Names.{timescaleName, rateNumName, rateDenName, inputName, framesName, segmentsName, mostPath}
+use Rattle.spec_map_json.specs.map_json_write.Reads.{isKnown, shallow, pathSaid, listSaid, segmentsFrom}
 use Rattle.map_json_read.specs.declared.fields.Heads.{Heads}
 use Rattle.map_json_read.specs.declared.fields.HeadSlots.{HeadSlots}
 use Rattle.map_json_read.specs.declared.reading.Parts.{Parts}

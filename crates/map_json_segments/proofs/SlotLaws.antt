@@ -18,8 +18,8 @@ use Rattle.spec_json.specs.json.Num.{isPlain}
 use Rattle.spec_json.specs.json.Plain.{plainOf}
 use Rattle.spec_json.specs.json.Str.{stringBytes}
 use Rattle.spec_json.specs.json.Member.{Member, membersOf, valuesOf, single, fieldOf}
-use Rattle.spec_json.specs.map_json_write.Names.{firstName, lastName, sourceName, countName, outputName, durationName, mostWord}
-use Rattle.spec_json.specs.map_json_write.Reads.{short, long, segmentSaid, segmentFrom}
+use Rattle.spec_map_json.specs.map_json_write.Names.{firstName, lastName, sourceName, countName, outputName, durationName, mostWord}
+use Rattle.spec_map_json.specs.map_json_write.Reads.{short, long, segmentSaid, segmentFrom}
 use Rattle.map_json_segments.specs.declared.number.Numbers.{Numbers}
 use Rattle.map_json_segments.specs.declared.number.Slot.{Slot}
 use Rattle.map_json_segments.specs.declared.number.Slots.{Slots}

@@ -12,12 +12,12 @@ use Rattle.spec_base.specs.base.Refusal.{_orElse_, faultUnless}
 use Rattle.spec_base.specs.base.Put.{put}
 use Rattle.spec_base.proofs.base.PutLaws.{put-nil, putAt-zero}
 use Rattle.spec_text.specs.utf8.Utf8.{utf8}
-use Rattle.spec_caption.specs.caption_time.Convert.{timescaleBad}
+use Rattle.spec_time.specs.caption_time.Convert.{timescaleBad}
 use Rattle.spec_map.specs.segment.Segment.{segmentsOf, anyBad, mapBad}
-use Rattle.spec_json.specs.map_json_write.Names.{mostPath}
-use Rattle.spec_json.specs.map_json_write.Text.{mapText}
+use Rattle.spec_map_json.specs.map_json_write.Names.{mostPath}
+use Rattle.spec_map_json.specs.map_json_write.Text.{mapText}
 use Rattle.map_json_write.specs.Written.{Written}
-use Rattle.spec_json.specs.map_json_write.MapWritten.{askedNumber, writeNumber, whenDone, Writes}
+use Rattle.spec_map_json.specs.map_json_write.MapWritten.{askedNumber, writeNumber, whenDone, Writes}
 use Rattle.spec_base.proofs.base.RefusalLaws.{else-found}
 
 abbrev byTests : (a b c d : Bool) → ℕ

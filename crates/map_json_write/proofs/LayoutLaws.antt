@@ -11,8 +11,8 @@ use Rattle.spec_map.proofs.segment.SegmentLaws.{segments-cut, segments-short}
 use Rattle.spec_json.specs.json.Member.{Member}
 use Rattle.spec_json.specs.json.Quote.{escaped, escapedAll, quoted, decimal}
 use Rattle.spec_json.specs.json.Pretty.{itemLines, memberLine, memberLines, prettyObject, prettyArray}
-use Rattle.spec_json.specs.map_json_write.Text.{field, line0, line2, line4, line6, segmentFirst, segmentRest, segmentText, segmentTexts, listText, mapRest, mapText}
-use Rattle.spec_json.specs.map_json_write.Names.{timescaleName, rateNumName, rateDenName, inputName, framesName, segmentsName}
+use Rattle.spec_map_json.specs.map_json_write.Text.{field, line0, line2, line4, line6, segmentFirst, segmentRest, segmentText, segmentTexts, listText, mapRest, mapText}
+use Rattle.spec_map_json.specs.map_json_write.Names.{timescaleName, rateNumName, rateDenName, inputName, framesName, segmentsName}
 use Rattle.map_json_write.specs.Written.{Written, threeText, segmentAt, frontText, backText, ratesText, pathText, headText, tailText, restText}
 use Rattle.map_json_write.proofs.WrittenLaws.{written-then, written-is}
 use Rattle.spec_base.proofs.base.PutLaws.{putAt-nil}

@@ -7,8 +7,8 @@ use lib.ListN.{length, take, drop, length-append, length-drop}
 use lib.Seq.{drop-drop, length-take-le, take-at, drop-at}
 use Rattle.spec_base.specs.base.Put.{put, putAt, placed, placedAt}
 use Rattle.spec_base.proofs.base.PutLaws.{at-yes, placed-yes, tail-back, length-put}
-use Rattle.spec_caption.specs.caption_stamp.Write.{pad, width}
-use Rattle.spec_caption.proofs.caption_stamp.Pad.{pad-length, width-bound}
+use Rattle.spec_time.specs.caption_stamp.Write.{pad, width}
+use Rattle.spec_time.proofs.caption_stamp.Pad.{pad-length, width-bound}
 use Rattle.spec_json.specs.json.Quote.{decimal}
 use Rattle.map_json_write.specs.Written.{Written, threeText}
 use Rattle.spec_base.proofs.base.PartLaws.{rest-length}

@@ -10,8 +10,8 @@ use lib.Seq.{length-take-le}
 use lib.ListN.{length, take, drop, getD, replicate, length-append, length-drop, length-replicate}
 use Rattle.spec_base.specs.base.Put.{put, putAt, placed, placedLength, placedAt, placeAfter}
 use Rattle.spec_base.proofs.base.PutLaws.{put-at-front, putAt-put, putAt-nil, then-put, at-yes, after-yes, placed-yes, placed-no, length-yes, length-no, length-tail, tail-back, length-put}
-use Rattle.spec_caption.specs.caption_stamp.Write.{pad, width}
-use Rattle.spec_caption.proofs.caption_stamp.Pad.{pad-length}
+use Rattle.spec_time.specs.caption_stamp.Write.{pad, width}
+use Rattle.spec_time.proofs.caption_stamp.Pad.{pad-length}
 use Rattle.spec_json.specs.json.Quote.{decimal}
 use Rattle.number_lines.specs.Line.{spaced, numbersText, lineText, printedLength}
 

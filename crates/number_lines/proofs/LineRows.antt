@@ -2,7 +2,7 @@
 use mathlib.Core.Path.{_≡_, refl}
 use mathlib.Core.List.{[], _∷_, _++_}
 use Rattle.spec_base.specs.base.Ascii.{ascii}
-use Rattle.spec_caption.specs.caption_stamp.Write.{pad, widthUnder, width}
+use Rattle.spec_time.specs.caption_stamp.Write.{pad, widthUnder, width}
 use Rattle.spec_json.specs.json.Quote.{decimal}
 use Rattle.number_lines.specs.Line.{spaced, numbersText, lineText, printedLength}
 

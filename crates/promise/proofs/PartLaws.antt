@@ -5,9 +5,9 @@ use mathlib.Core.List.{List, [], _∷_, _++_, List·Memᴰ·not-nil}
 use Prim.Native.Nat.{ℕ, suc, _+_, _<_}
 use native.Mathlib.Omega.{arith}
 use lib.Dec.{ltb}
-use Rattle.spec_caption.specs.caption_time.Kind.{unitsOf}
-use Rattle.spec_caption.specs.caption_time.Convert.{ticksOf}
-use Rattle.spec_caption.specs.caption_stamp.Write.{timeText}
+use Rattle.spec_time.specs.caption_time.Kind.{unitsOf}
+use Rattle.spec_time.specs.caption_time.Convert.{ticksOf}
+use Rattle.spec_time.specs.caption_stamp.Write.{timeText}
 use Rattle.spec_map.specs.declared.segment.Segment.{Segment}
 use Rattle.spec_map.specs.segment.Segment.{sourceOf, sourceEnd}
 use Rattle.spec_caption.specs.declared.caption_fate.Config.{Config}
@@ -21,8 +21,8 @@ use Rattle.spec_caption.specs.caption_fate.Fates.{passed, dropped, shifted, cli
 use Rattle.spec_caption.specs.caption_fate.Says.{Reason, unplaced, short, Cue, Part, stays, passes, cue}
 use Rattle.spec_caption.specs.caption_fate.Emit.{Warning, warnIf, decided, Emit, render, cueEmit, emitBy, emitOf, emitsOf, warningsOf}
 use Rattle.spec_caption.proofs.caption_fate.FateLaws.{met, fate-right, none-more}
-use Rattle.spec_session.specs.declared.session_counts.Counts.{Counts}
-use Rattle.spec_session.specs.session_counts.Counts.{noCounts, countFate, countAll, countsOf}
+use Rattle.spec_machine.specs.declared.session_counts.Counts.{Counts}
+use Rattle.spec_machine.specs.session_counts.Counts.{noCounts, countFate, countAll, countsOf}
 use Rattle.promise.specs.Demand.{lostAmong, Warned, Leaves, CueRight, PartRight, AllRight, passings}
 
 -- ---- the first segment that is met, and those behind it

@@ -13,18 +13,18 @@ use Rattle.spec_base.proofs.base.RefusalLaws.{else-none, else-zero}
 use Rattle.spec_text.specs.utf8.Utf8.{utf8}
 use Rattle.spec_text.specs.text.Line.{concat, lineCount}
 use Rattle.spec_caption.specs.caption_fate.Says.{Part, stays, notUtf8}
-use Rattle.spec_format.specs.block_timing.Style.{styleOf, blankIn}
-use Rattle.spec_format.specs.block_timing.Header.{headerDue}
-use Rattle.spec_format.specs.block_cue.Block.{BlockSays, blockSays, faulty as blockFaulty, says as blockSaid}
+use Rattle.spec_cue.specs.block_timing.Style.{styleOf, blankIn}
+use Rattle.spec_cue.specs.block_timing.Header.{headerDue}
+use Rattle.spec_cue.specs.block_cue.Block.{BlockSays, blockSays, faulty as blockFaulty, says as blockSaid}
 use Rattle.spec_format.specs.whole.Srt.{Block, blockOf, ontoBlock, ontoBlanks, blankOnto, blocksOf}
-use Rattle.spec_session.specs.session_counts.Machine.{Machine, Says, faulty}
-use Rattle.spec_session.specs.session_counts.Reader.{Reading, fails, _⊕_, readLine, readClose}
-use Rattle.spec_session.specs.kinds.Takes.{State, blankState, withBlock, ofBlock, closes, adds, blockTakes, takes, blockEnds, ends, machineOf}
+use Rattle.spec_machine.specs.session_counts.Machine.{Machine, Says, faulty}
+use Rattle.spec_machine.specs.session_counts.Reader.{Reading, fails, _⊕_, readLine, readClose}
+use Rattle.spec_machine.specs.kinds.Takes.{State, blankState, withBlock, ofBlock, closes, adds, blockTakes, takes, blockEnds, ends, machineOf}
 use Rattle.promise.specs.Plain.{lineFault, bodyLineFault, unlessFault, bodyFault, blockThen, bodyThen, blanksThen, bomBehind, closesBlock, blocksRead, restFault}
 use Rattle.spec_format.proofs.whole.BlockShape.{blocks-none, blocks-blank, blocks-body}
 use Rattle.promise.proofs.Bare.{passed, endOf, readAll}
 use Rattle.promise.proofs.PlainAss.{rest-behind, ending}
-use Rattle.spec_session.proofs.kinds.KindLaws.{count-snoc}
+use Rattle.spec_machine.proofs.kinds.KindLaws.{count-snoc}
 
 -- ---- the blocks of lines behind the lines that are held
 abbrev prefix : List (List ℕ) → List Block → List Block

@@ -11,12 +11,12 @@ use Rattle.spec_text.specs.utf8.Utf8.{utf8}
 use Rattle.spec_text.specs.pattern.Find.{starts, equals}
 use Rattle.spec_text.specs.text.Line.{textOf}
 use Rattle.spec_caption.specs.caption_fate.Says.{stays, notUtf8, badHeader}
-use Rattle.spec_format.specs.block_timing.Header.{webvtt, partsWord, isHeader, headerDue}
+use Rattle.spec_cue.specs.block_timing.Header.{webvtt, partsWord, isHeader, headerDue}
 use Rattle.spec_format.specs.whole.Srt.{blocksOf}
-use Rattle.spec_session.specs.session_counts.Machine.{Machine, Says, faulty, says}
-use Rattle.spec_session.specs.session_counts.Reader.{Reading, fails, _⊕_, readLine, readClose}
-use Rattle.spec_session.specs.kinds.Takes.{State, blankState, headTakes, takes, ends, machineOf}
-use Rattle.spec_session.proofs.kinds.KindLaws.{takes-vtt, ends-vtt}
+use Rattle.spec_machine.specs.session_counts.Machine.{Machine, Says, faulty, says}
+use Rattle.spec_machine.specs.session_counts.Reader.{Reading, fails, _⊕_, readLine, readClose}
+use Rattle.spec_machine.specs.kinds.Takes.{State, blankState, headTakes, takes, ends, machineOf}
+use Rattle.spec_machine.proofs.kinds.KindLaws.{takes-vtt, ends-vtt}
 use Rattle.promise.specs.Plain.{lineFault, unlessFault, headed, headFault, vttRead, blocksRead}
 use Rattle.promise.proofs.Bare.{passed, endOf, readAll}
 use Rattle.promise.proofs.PlainAss.{rest-behind, ending}

@@ -7,19 +7,19 @@ use native.Mathlib.Omega.{arith}
 use lib.ListN.{length}
 use Rattle.spec_base.specs.base.Limits.{mostHeld}
 use Rattle.spec_sheet.proofs.sheet.SheetLaws.{sound-head}
-use Rattle.spec_caption.specs.caption_time.Kind.{kindBad}
-use Rattle.spec_caption.specs.caption_time.Convert.{timescaleBad}
-use Rattle.spec_caption.proofs.caption_time.Limits.{timescale-good}
+use Rattle.spec_time.specs.caption_time.Kind.{kindBad}
+use Rattle.spec_time.specs.caption_time.Convert.{timescaleBad}
+use Rattle.spec_time.proofs.caption_time.Limits.{timescale-good}
 use Rattle.spec_map.specs.declared.segment.Segment.{Segment}
 use Rattle.spec_map.specs.segment.Segment.{flatOf, mapBad}
 use Rattle.spec_map.specs.segmap.Map.{mapOf, mapNumber}
 use Rattle.spec_map.proofs.segment.SegmentLaws.{flat-back}
 use Rattle.spec_map.proofs.segmap.Built.{map-number, made-parts, made-timescale, made-good}
-use Rattle.spec_format.specs.declared.ass_columns.Columns.{Columns}
-use Rattle.spec_session.specs.session_counts.Session.{Gate, refuse, admit, gate, openBy, openSession}
-use Rattle.spec_session.specs.session_counts.Session as model
-use Rattle.spec_session.proofs.session_counts.Numbers.{opens-fresh}
-use Rattle.spec_session.specs.kinds.Kit.{kit}
+use Rattle.spec_ass.specs.declared.ass_columns.Columns.{Columns}
+use Rattle.spec_machine.specs.session_counts.Session.{Gate, refuse, admit, gate, openBy, openSession}
+use Rattle.spec_machine.specs.session_counts.Session as model
+use Rattle.spec_machine.proofs.session_counts.Numbers.{opens-fresh}
+use Rattle.spec_machine.specs.kinds.Kit.{kit}
 use Rattle.spec_session.specs.session_state.View.{view, stored}
 use Rattle.spec_session.proofs.session_state.ViewLaws.{view-stored, padded-length}
 use Rattle.spec_session.specs.declared.session.Opened.{Opened}

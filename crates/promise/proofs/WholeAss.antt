@@ -10,12 +10,12 @@ use Rattle.spec_base.proofs.base.Laws.{and-true}
 use Rattle.spec_text.specs.text.Line.{linesOf, lineCount}
 use Rattle.spec_caption.specs.caption_fate.Says.{Part, Fault, longLine, notUtf8, longBlock, badTime, badHeader, faultNumber}
 use Rattle.spec_caption.specs.caption_fate.Bom.{startsBom, behindBom, bomWritten}
-use Rattle.spec_format.specs.declared.ass_columns.Columns.{Columns}
-use Rattle.spec_format.specs.ass_line.Line.{LineSays, lineSays, faulty as lineFaulty, says as lineSaid}
-use Rattle.spec_format.specs.ass_line.AssThrough.{columnsAfter}
-use Rattle.spec_format.specs.ass_columns.Columns.{noColumns}
+use Rattle.spec_ass.specs.declared.ass_columns.Columns.{Columns}
+use Rattle.spec_ass.specs.ass_line.Line.{LineSays, lineSays, faulty as lineFaulty, says as lineSaid}
+use Rattle.spec_ass.specs.ass_line.AssThrough.{columnsAfter}
+use Rattle.spec_ass.specs.ass_columns.Columns.{noColumns}
 use Rattle.spec_format.specs.whole.Ass.{saidThen, linesSaid, columnsBehind, assSaid}
-use Rattle.spec_session.specs.session_counts.Reader.{Reading, fails}
+use Rattle.spec_machine.specs.session_counts.Reader.{Reading, fails}
 use Rattle.promise.specs.Plain.{bomLength, lineFault, unlessFault, lineThen, assRead, bomBehind, linesSay, opened, bomBack, plainRead}
 use Rattle.promise.specs.Whole.{AssWhole, timeFault, AssStops, AssBefore}
 use Rattle.promise.proofs.PlainBlocks.{mark-zero}

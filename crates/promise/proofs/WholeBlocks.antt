@@ -7,11 +7,11 @@ use native.Mathlib.Omega.{arith}
 use Rattle.spec_base.specs.base.Refusal.{_orElse_}
 use Rattle.spec_text.specs.text.Line.{lineCount}
 use Rattle.spec_caption.specs.caption_fate.Says.{Part, stays, faultNumber}
-use Rattle.spec_format.specs.block_timing.Style.{styleOf}
-use Rattle.spec_format.specs.block_cue.Block.{BlockSays, blockSays, faulty as blockFaulty, says as blockSaid}
+use Rattle.spec_cue.specs.block_timing.Style.{styleOf}
+use Rattle.spec_cue.specs.block_cue.Block.{BlockSays, blockSays, faulty as blockFaulty, says as blockSaid}
 use Rattle.spec_format.specs.whole.Srt.{Block, blockOf, blockSaidThen, bodySaid, blocksSaid}
 use Rattle.spec_format.proofs.whole.BlockShape.{blockLines, AllBlank, Lines, BlankBehind, Others, Blocks, lines-more, others-blocks}
-use Rattle.spec_session.specs.session_counts.Reader.{Reading, fails, _⊕_}
+use Rattle.spec_machine.specs.session_counts.Reader.{Reading, fails, _⊕_}
 use Rattle.promise.specs.Plain.{lineFault, unlessFault, bodyFault, blockThen, bodyThen, blanksThen, bomBehind, closesBlock, blocksRead}
 use Rattle.promise.specs.Whole.{blockTimeFault, bodyTimeFault, firstBlankFault, blockFault, BlocksStop, endsBlank}
 use Rattle.promise.proofs.LinesCut.{many-append}

@@ -11,7 +11,7 @@ use Rattle.spec_base.proofs.base.RefusalLaws.{else-zero}
 use Rattle.spec_text.specs.text.Line.{linesOf, lineCount}
 use Rattle.spec_caption.specs.caption_fate.Says.{Part}
 use Rattle.spec_caption.specs.caption_fate.Bom.{startsBom, behindBom}
-use Rattle.spec_format.specs.block_timing.Style.{blankIn}
+use Rattle.spec_cue.specs.block_timing.Style.{blankIn}
 use Rattle.spec_format.specs.whole.Srt.{Block, ontoBlock, ontoBlanks, blankOnto, blocksOf, blocksSaid, srtSaid}
 use Rattle.spec_format.proofs.whole.BlockShape.{blockLines, blocks-joined, blocks-shape, blocks-only, blocks-blank, blocks-body}
 use Rattle.promise.specs.Plain.{bomLength, lineFault, bodyLineFault, bodyFault, bomBehind, blocksRead, linesSay, opened, bomBack, plainRead}

@@ -13,7 +13,7 @@ use Rattle.spec_caption.specs.caption_fate.Bom.{startsBom, behindBom, bomWritte
 use Rattle.spec_format.specs.whole.Srt.{Block, blocksOf, blocksSaid}
 use Rattle.spec_format.specs.whole.Vtt.{headSaid, vttSaid}
 use Rattle.spec_format.proofs.whole.BlockShape.{blockLines, blocks-joined, blocks-shape, blocks-only}
-use Rattle.spec_session.specs.session_counts.Reader.{Reading, fails, _⊕_}
+use Rattle.spec_machine.specs.session_counts.Reader.{Reading, fails, _⊕_}
 use Rattle.promise.specs.Plain.{bomLength, unlessFault, bomBehind, headFault, vttRead, linesSay, opened, plainRead}
 use Rattle.promise.specs.Whole.{VttWhole, BlocksStop, FirstStops, VttAtFirst, VttBehind, VttBefore}
 use Rattle.promise.proofs.WholeAss.{mark-back}

@@ -10,7 +10,7 @@ use spec_session::session::Going;
 use spec_session::session::Opened;
 ghost use mathlib.Core.Path.{_≡_};
 ghost use lib.ListN.{length};
-ghost use Rattle.spec_session.specs.kinds.Takes.{noColumns};
+ghost use Rattle.spec_machine.specs.kinds.Takes.{noColumns};
 ghost use Rattle.spec_session.specs.session.SessionCalls.{Answered, OpenAnswered, feedCall, finishCall, openOf, lengthsBad, refusalOf, beginAt, endedSession, unchangedFed, endedFed, heldFed};
 
 // 16, by the lengths.

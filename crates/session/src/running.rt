@@ -12,9 +12,9 @@ ghost use Prim.Native.Nat.{ℕ, _≤_, _<_, _+_, _-_, _^_};
 ghost use lib.Dec.{eqb};
 ghost use lib.ListN.{length, take, drop};
 ghost use Rattle.spec_caption.specs.caption_fate.Says.{Part};
-ghost use Rattle.spec_session.specs.declared.session_counts.Counts.{Counts};
-ghost use Rattle.spec_session.specs.session_counts.Machine.{Run, going, lineEnd, takeLine, byteStep, run};
-ghost use Rattle.spec_session.specs.kinds.Takes.{State, machineOf};
+ghost use Rattle.spec_machine.specs.declared.session_counts.Counts.{Counts};
+ghost use Rattle.spec_machine.specs.session_counts.Machine.{Run, going, lineEnd, takeLine, byteStep, run};
+ghost use Rattle.spec_machine.specs.kinds.Takes.{State, machineOf};
 ghost use Rattle.spec_session.specs.session_lines.Done.{Ready, Parsed};
 ghost use Rattle.spec_session.specs.session.Stand.{Joins, Shows, Room, ByteRoom, Opening, ParsedIn, resumeAt, stoppedAt, holdingTo, linedTo};
 

@@ -2,8 +2,8 @@
 use ass_columns::Columns;
 use caption_fate::Config;
 ghost use mathlib.Core.Path.{_≡_};
-ghost use Rattle.spec_session.specs.session_counts.Session.{configBad, isOutcome, outcomeBad};
-ghost use Rattle.spec_session.specs.kinds.Kit.{columnsBad};
+ghost use Rattle.spec_machine.specs.session_counts.Session.{configBad, isOutcome, outcomeBad};
+ghost use Rattle.spec_machine.specs.kinds.Kit.{columnsBad};
 
 // Whether there is no such kind, or the timescale is out of range.
 pub fn config_bad(config: Config) -> bool

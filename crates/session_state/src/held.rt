@@ -5,9 +5,9 @@ ghost use lib.Dec.{eqb};
 ghost use lib.ListN.{length};
 ghost use Rattle.spec_text.specs.utf8.Utf8.{utf8};
 ghost use Rattle.spec_text.specs.text.Line.{concat, linesOf, lineCount};
-ghost use Rattle.spec_format.specs.block_timing.Style.{blankIn};
-ghost use Rattle.spec_session.specs.session_counts.Cut.{closedLines};
-ghost use Rattle.spec_session.specs.kinds.Kit.{linesBad, heldBad};
+ghost use Rattle.spec_cue.specs.block_timing.Style.{blankIn};
+ghost use Rattle.spec_machine.specs.session_counts.Cut.{closedLines};
+ghost use Rattle.spec_machine.specs.kinds.Kit.{linesBad, heldBad};
 
 // How many bytes the finished lines have together: all up to the last LF.
 pub fn block_end(held: &[u8]) -> usize

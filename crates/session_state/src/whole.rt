@@ -13,10 +13,10 @@ ghost use mathlib.Core.Bool.{_||_};
 ghost use lib.Dec.{ltb};
 ghost use lib.ListN.{length};
 ghost use Rattle.spec_text.specs.text.Line.{lineCount};
-ghost use Rattle.spec_session.specs.session_counts.Cut.{closedLines};
-ghost use Rattle.spec_session.specs.session_counts.Session.{outcomeBad};
-ghost use Rattle.spec_session.specs.session_counts.Session as model;
-ghost use Rattle.spec_session.specs.kinds.Kit.{kit, strange};
+ghost use Rattle.spec_machine.specs.session_counts.Cut.{closedLines};
+ghost use Rattle.spec_machine.specs.session_counts.Session.{outcomeBad};
+ghost use Rattle.spec_machine.specs.session_counts.Session as model;
+ghost use Rattle.spec_machine.specs.kinds.Kit.{kit, strange};
 ghost use Rattle.spec_session.specs.session_state.Head.{viewOf};
 ghost use Rattle.spec_session.specs.session_state.View.{foreignOf};
 

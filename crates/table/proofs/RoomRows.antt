@@ -9,9 +9,9 @@ use Rattle.spec_text.specs.pattern.Find.{equals}
 use Rattle.spec_text.specs.text.Line.{textOf, terminatorLength}
 use Rattle.spec_caption.specs.caption_fate.Emit.{emitBy}
 use Rattle.spec_caption.specs.caption_fate.Told.{partIn}
-use Rattle.spec_format.specs.ass_columns.Section.{bracketed, inside}
-use Rattle.spec_format.specs.ass_line.Line.{textSays, lineSays}
-use Rattle.spec_format.specs.ass_line.AssThrough.{lineIn, columnsNext}
+use Rattle.spec_ass.specs.ass_columns.Section.{bracketed, inside}
+use Rattle.spec_ass.specs.ass_line.Line.{textSays, lineSays}
+use Rattle.spec_ass.specs.ass_line.AssThrough.{lineIn, columnsNext}
 use Rattle.table.specs.Example.{setting}
 use Rattle.table.specs.Table.{lf, outside, inEvents}
 

@@ -16,9 +16,9 @@ use Rattle.spec_sheet.specs.checked_blocks.Block.{wordAt}
 use Rattle.spec_sheet.specs.sheet_frames.Frames.{recordWord, decodeOf, syncOf, durationOf, longOf, ticksFrom}
 use Rattle.sheet_vectors.specs.Small.{smallSheet}
 use Rattle.sheet_vectors.proofs.Vectors.{small-number, small-timescale, small-frames}
-use Rattle.spec_map.specs.trim.Token.{rangeOf, boundsOf, pairOf, closedOf, tokenOf, behindEnd, stepOf, tokenNumber, tokenRange, tokenEnd}
-use Rattle.spec_map.specs.trim.TrimList.{tokensOf, listTokens, tokensNumber, rangesIn, headNumber, listNumber, rangesOf}
-use Rattle.spec_map.specs.plan.Snap.{lastBelow, firstFrom, floorSync, ceilSync, snapStart, snapEnd, snapAll, overlapsFault}
+use Rattle.spec_trim.specs.trim.Token.{rangeOf, boundsOf, pairOf, closedOf, tokenOf, behindEnd, stepOf, tokenNumber, tokenRange, tokenEnd}
+use Rattle.spec_trim.specs.trim.TrimList.{tokensOf, listTokens, tokensNumber, rangesIn, headNumber, listNumber, rangesOf}
+use Rattle.spec_trim.specs.plan.Snap.{lastBelow, firstFrom, floorSync, ceilSync, snapStart, snapEnd, snapAll, overlapsFault}
 use Rattle.spec_map.specs.segment.Segment.{segment}
 use Rattle.spec_map.specs.segmap.Build.{sourceStart, rangeTicks, rangeFault, rangesFault, segmentIn, segmentsIn, keptNumber, keptTicks}
 use Rattle.spec_map.specs.segmap.Map.{rangesFor, snappedOf, cutNumber, mapNumber, Map, mapAnswer, mapOf}

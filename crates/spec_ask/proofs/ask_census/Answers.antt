@@ -9,8 +9,8 @@ use borrow.Author.Tests.{eq-eqb, ne-eqb, leb-true, not-true}
 use Rattle.spec_base.specs.base.Refusal.{faultUnless}
 use Rattle.spec_base.proofs.base.RefusalLaws.{held, else-zero}
 use Rattle.spec_base.proofs.base.Laws.{yes!, no! }
-use Rattle.spec_caption.specs.caption_time.Kind.{kindBad, unitsOf}
-use Rattle.spec_caption.specs.caption_time.Convert.{timescaleBad}
+use Rattle.spec_time.specs.caption_time.Kind.{kindBad, unitsOf}
+use Rattle.spec_time.specs.caption_time.Convert.{timescaleBad}
 use Rattle.spec_map.specs.segment.Segment.{segmentsOf, mapBad}
 use Rattle.spec_caption.specs.declared.caption_fate.Config.{Config}
 use Rattle.spec_ask.specs.ask_order.Ascending.{ascends}

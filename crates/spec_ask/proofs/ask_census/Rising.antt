@@ -7,8 +7,8 @@ use native.Mathlib.Omega.{arith}
 use native.Mathlib.Nat.{le-trans}
 use lib.Dec.{eqb}
 use borrow.Author.Tests.{eqb-true}
-use Rattle.spec_caption.specs.caption_time.Convert.{endUnits}
-use Rattle.spec_caption.proofs.caption_time.Conversions.{end-mono}
+use Rattle.spec_time.specs.caption_time.Convert.{endUnits}
+use Rattle.spec_time.proofs.caption_time.Conversions.{end-mono}
 use Rattle.spec_map.specs.declared.segment.Segment.{Segment}
 use Rattle.spec_map.specs.segment.Segment.{sourceOf, sourceEnd}
 use Rattle.spec_ask.specs.ask_order.Ascending.{outputEnd, ascendsFrom}

@@ -9,9 +9,9 @@ use mir.Val.{Fits}
 use lib.Dec.{eqb}
 use lib.ListN.{length, drop, getD}
 use borrow.Author.Tests.{eqb-true}
-use Rattle.spec_caption.specs.caption_time.Kind.{kindBad, unitsOf}
-use Rattle.spec_caption.specs.caption_time.Convert.{timescaleBad}
-use Rattle.spec_caption.proofs.caption_time.Limits.{timescale-low, units-low}
+use Rattle.spec_time.specs.caption_time.Kind.{kindBad, unitsOf}
+use Rattle.spec_time.specs.caption_time.Convert.{timescaleBad}
+use Rattle.spec_time.proofs.caption_time.Limits.{timescale-low, units-low}
 use Rattle.spec_map.specs.declared.segment.Segment.{Segment}
 use Rattle.spec_map.specs.segment.Segment.{segment, segmentsOf, sourceOf, segmentBad, anyBad, endBad, mapBad}
 use Rattle.spec_map.proofs.segment.SegmentLaws.{segments-cut, segments-short, any-good}

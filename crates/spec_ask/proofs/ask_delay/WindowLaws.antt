@@ -9,10 +9,10 @@ use lib.Dec.{ltb, leb, eqb}
 use lib.ListN.{length, getD, drop, length-drop}
 use lib.Seq.{drop-drop}
 use borrow.Author.Tests.{lt-ltb, le-ltb, le-leb, lt-leb, ltb-true, ltb-false, leb-true, leb-false, eqb-true}
-use Rattle.spec_caption.specs.caption_time.Kind.{kindBad, unitsOf}
-use Rattle.spec_caption.specs.caption_time.Convert.{scaledUp, timescaleBad, endUnits, endWithin, coreHolds, coreTicks}
-use Rattle.spec_caption.proofs.caption_time.Scale.{quotient-below, up-down}
-use Rattle.spec_caption.proofs.caption_time.Limits.{core-within, units-high}
+use Rattle.spec_time.specs.caption_time.Kind.{kindBad, unitsOf}
+use Rattle.spec_time.specs.caption_time.Convert.{scaledUp, timescaleBad, endUnits, endWithin, coreHolds, coreTicks}
+use Rattle.spec_time.proofs.caption_time.Scale.{quotient-below, up-down}
+use Rattle.spec_time.proofs.caption_time.Limits.{core-within, units-high}
 use Rattle.spec_map.specs.declared.segment.Segment.{Segment}
 use Rattle.spec_map.specs.segment.Segment.{segment, segmentsOf, sourceOf, segmentBad, anyBad, endBad, mapBad}
 use Rattle.spec_map.proofs.segment.SegmentLaws.{segments-cut, segments-short, any-good}

@@ -14,9 +14,9 @@ use Rattle.spec_base.specs.base.Refusal.{faultUnless}
 use Rattle.spec_base.specs.base.Put.{put}
 use Rattle.spec_base.proofs.base.RefusalLaws.{held, else-zero}
 use Rattle.spec_base.proofs.base.Laws.{yes!, no!, cond-left, cond-right}
-use Rattle.spec_caption.specs.caption_time.Kind.{kindBad, unitsOf}
-use Rattle.spec_caption.specs.caption_time.Convert.{timescaleBad, ticksOf, ticksWithin}
-use Rattle.spec_caption.proofs.caption_time.Limits.{ticks-within, timescale-low, timescale-high}
+use Rattle.spec_time.specs.caption_time.Kind.{kindBad, unitsOf}
+use Rattle.spec_time.specs.caption_time.Convert.{timescaleBad, ticksOf, ticksWithin}
+use Rattle.spec_time.proofs.caption_time.Limits.{ticks-within, timescale-low, timescale-high}
 use Rattle.spec_map.specs.declared.segment.Segment.{Segment}
 use Rattle.spec_map.specs.segment.Segment.{sourceOf, sourceEnd, segmentsOf, segmentBad, anyBad, endBad, mapBad}
 use Rattle.spec_map.proofs.segment.SegmentLaws.{end-good, any-good}

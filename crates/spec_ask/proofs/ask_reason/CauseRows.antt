@@ -2,8 +2,8 @@
 use mathlib.Core.Path.{_≡_, refl}
 use mathlib.Core.List.{[], _∷_}
 use Rattle.spec_base.specs.base.Refusal.{_orElse_, faultUnless}
-use Rattle.spec_caption.specs.caption_time.Kind.{kindBad}
-use Rattle.spec_caption.specs.caption_time.Convert.{timescaleBad}
+use Rattle.spec_time.specs.caption_time.Kind.{kindBad}
+use Rattle.spec_time.specs.caption_time.Convert.{timescaleBad}
 use Rattle.spec_map.specs.segment.Segment.{segmentsOf, anyBad, mapBad}
 use Rattle.spec_ask.specs.ask_reason.Reason.{causeParts, whyNumber}
 

@@ -11,9 +11,9 @@ use Rattle.spec_base.specs.base.Limits.{mostUnits}
 use Rattle.spec_base.specs.base.Refusal.{_orElse_, faultUnless}
 use Rattle.spec_base.specs.base.Put.{put}
 use Rattle.spec_base.proofs.base.PutLaws.{take-put}
-use Rattle.spec_caption.specs.caption_time.Kind.{kindBad, unitsOf}
-use Rattle.spec_caption.specs.caption_time.Convert.{ticksOf, timescaleBad}
-use Rattle.spec_caption.proofs.caption_time.Limits.{units-high}
+use Rattle.spec_time.specs.caption_time.Kind.{kindBad, unitsOf}
+use Rattle.spec_time.specs.caption_time.Convert.{ticksOf, timescaleBad}
+use Rattle.spec_time.proofs.caption_time.Limits.{units-high}
 use Rattle.spec_map.specs.declared.segment.Segment.{Segment}
 use Rattle.spec_map.specs.segment.Segment.{sourceOf, sourceEnd, segmentsOf, mapBad}
 use Rattle.spec_caption.specs.declared.caption_fate.Config.{Config}

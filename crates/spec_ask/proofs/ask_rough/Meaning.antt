@@ -9,8 +9,8 @@ use lib.Dec.{leb}
 use borrow.Author.Tests.{leb-true, le-leb, eq-eqb}
 use Rattle.spec_base.specs.base.Refusal.{_orElse_, faultUnless}
 use Rattle.spec_base.proofs.base.RefusalLaws.{held, else-zero}
-use Rattle.spec_caption.specs.caption_time.Kind.{unitsOf}
-use Rattle.spec_caption.specs.caption_time.Convert.{ticksOf}
+use Rattle.spec_time.specs.caption_time.Kind.{unitsOf}
+use Rattle.spec_time.specs.caption_time.Convert.{ticksOf}
 use Rattle.spec_map.specs.declared.segment.Segment.{Segment}
 use Rattle.spec_map.specs.segment.Segment.{segmentsOf, mapBad}
 use Rattle.spec_caption.specs.declared.caption_fate.Config.{Config}

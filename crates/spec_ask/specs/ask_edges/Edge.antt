@@ -4,7 +4,7 @@ use mathlib.Core.Bool.{Bool, true, false, _&&_, cond}
 use mathlib.Core.List.{List, [], _∷_}
 use Prim.Native.Nat.{ℕ, suc, _+_}
 use lib.Dec.{ltb, leb, eqb}
-use Rattle.spec_caption.specs.caption_time.Convert.{endUnits, endWithin}
+use Rattle.spec_time.specs.caption_time.Convert.{endUnits, endWithin}
 use Rattle.spec_map.specs.declared.segment.Segment.{Segment}
 use Rattle.spec_map.specs.segment.Segment.{sourceOf, endBad}
 use Rattle.spec_ask.specs.declared.ask_edges.Edge.{Edge}

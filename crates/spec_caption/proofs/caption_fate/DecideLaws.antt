@@ -6,7 +6,7 @@ use Prim.Native.Nat.{ℕ, suc, _+_, _-_, _≤_, _<_, min, max}
 use native.Mathlib.Omega.{arith}
 use lib.Dec.{ltb}
 use Rattle.spec_base.specs.base.Limits.{mostTicks}
-use Rattle.spec_caption.specs.caption_time.Convert.{ticksWithin, startWithin, endWithin}
+use Rattle.spec_time.specs.caption_time.Convert.{ticksWithin, startWithin, endWithin}
 use Rattle.spec_map.specs.declared.segment.Segment.{Segment}
 use Rattle.spec_map.specs.segment.Segment.{endBad}
 use Rattle.spec_map.proofs.segment.SegmentLaws.{end-good}

@@ -7,9 +7,9 @@ use Prim.Native.Nat.{ℕ, suc, _+_, _≤_, _<_, min, max}
 use native.Mathlib.Omega.{arith}
 use lib.Dec.{ltb}
 use borrow.Author.Tests.{lt-ltb}
-use Rattle.spec_caption.specs.caption_time.Kind.{unitsOf}
-use Rattle.spec_caption.specs.caption_time.Convert.{ticksOf, startUnits, endUnits}
-use Rattle.spec_caption.proofs.caption_time.Drift.{near-start, near-end}
+use Rattle.spec_time.specs.caption_time.Kind.{unitsOf}
+use Rattle.spec_time.specs.caption_time.Convert.{ticksOf, startUnits, endUnits}
+use Rattle.spec_time.proofs.caption_time.Drift.{near-start, near-end}
 use Rattle.spec_map.specs.declared.segment.Segment.{Segment}
 use Rattle.spec_map.specs.segment.Segment.{sourceOf, outputStartOf, sourceEnd}
 use Rattle.spec_caption.specs.declared.caption_fate.Config.{Config}

@@ -6,9 +6,9 @@ use Prim.Native.Nat.{ℕ, suc, _+_, _≤_, min, max}
 use native.Mathlib.Omega.{arith}
 use lib.Dec.{ltb}
 use Rattle.spec_base.specs.base.Limits.{mostFrame}
-use Rattle.spec_caption.specs.caption_time.Kind.{kindBad, unitsOf}
-use Rattle.spec_caption.specs.caption_time.Convert.{ticksOf, timescaleBad, ticksWithin, startWithin, endWithin, coreTimescale, coreUnits, coreTicks}
-use Rattle.spec_caption.proofs.caption_time.Limits.{Within, ticks-within, start-within, end-within, timescale-low, timescale-high}
+use Rattle.spec_time.specs.caption_time.Kind.{kindBad, unitsOf}
+use Rattle.spec_time.specs.caption_time.Convert.{ticksOf, timescaleBad, ticksWithin, startWithin, endWithin, coreTimescale, coreUnits, coreTicks}
+use Rattle.spec_time.proofs.caption_time.Limits.{Within, ticks-within, start-within, end-within, timescale-low, timescale-high}
 use Rattle.spec_map.specs.declared.segment.Segment.{Segment}
 use Rattle.spec_map.specs.segment.Segment.{sourceOf, outputStartOf, segmentsOf, endBad, segmentBad, anyBad, mapBad}
 use Rattle.spec_caption.specs.declared.caption_fate.Config.{Config}

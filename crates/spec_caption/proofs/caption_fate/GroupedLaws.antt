@@ -25,7 +25,7 @@ use Rattle.spec_caption.specs.caption_fate.Lost.{lostRule}
 use Rattle.spec_caption.specs.declared.caption_fate.Config.{Config}
 use Rattle.spec_caption.specs.declared.caption_fate.Retimed.{Retimed}
 use Rattle.spec_caption.specs.declared.caption_fate.Decision.the-variants.{Kept}
-use Rattle.spec_caption.specs.caption_time.Convert.{ticksWithin, startWithin, endWithin}
+use Rattle.spec_time.specs.caption_time.Convert.{ticksWithin, startWithin, endWithin}
 use Rattle.spec_caption.specs.caption_fate.Decide.{retimedBy, decideIn}
 use Rattle.spec_caption.proofs.caption_fate.DecideLaws.{decide-kept}
 use Rattle.spec_caption.proofs.caption_fate.HitLaws.{headOf, met-is, isHit, lost-found, no-hit, behindOf}

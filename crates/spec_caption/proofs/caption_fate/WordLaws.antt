@@ -4,8 +4,8 @@ use mathlib.Core.List.{List}
 use Prim.Native.Nat.{ℕ, _*_, _≤_, _<_, _^_}
 use native.Mathlib.Omega.{arith}
 use native.Mathlib.Nat.{le-refl, mul-le-mul}
-use Rattle.spec_caption.specs.caption_time.Convert.{coreTicks, startWithin, endWithin}
-use Rattle.spec_caption.proofs.caption_time.Limits.{start-word, end-word}
+use Rattle.spec_time.specs.caption_time.Convert.{coreTicks, startWithin, endWithin}
+use Rattle.spec_time.proofs.caption_time.Limits.{start-word, end-word}
 use Rattle.spec_map.specs.declared.segment.Segment.{Segment}
 use Rattle.spec_map.specs.segment.Segment.{sourceOf, outputStartOf, endBad}
 use Rattle.spec_caption.specs.declared.caption_fate.Config.{Config}

@@ -12,29 +12,29 @@ use Rattle.spec_text.specs.pattern.Find.{starts, equals}
 use Rattle.spec_text.specs.text.Line.{textOf, terminatorOf}
 use Rattle.spec_text.proofs.whitespace.Laws.{white-ascii, head-none}
 use Rattle.spec_text.proofs.text.LineEnds.{lastOf, last-append, last-some, Ended, ended-swap, text-again, terminator-again, line-ended}
-use Rattle.spec_caption.specs.declared.caption_stamp.Time.{Time}
-use Rattle.spec_caption.specs.declared.caption_stamp.Time.the-variants.{At, Bad}
-use Rattle.spec_caption.specs.caption_time.Kind.{kindBad, unitsOf, markOf, fractionDigits, hourDigits}
-use Rattle.spec_caption.specs.caption_stamp.Read.{markIn, timeIn}
-use Rattle.spec_caption.specs.caption_stamp.Write.{pad, widest, textWith, timeText}
+use Rattle.spec_time.specs.declared.caption_stamp.Time.{Time}
+use Rattle.spec_time.specs.declared.caption_stamp.Time.the-variants.{At, Bad}
+use Rattle.spec_time.specs.caption_time.Kind.{kindBad, unitsOf, markOf, fractionDigits, hourDigits}
+use Rattle.spec_time.specs.caption_stamp.Read.{markIn, timeIn}
+use Rattle.spec_time.specs.caption_stamp.Write.{pad, widest, textWith, timeText}
 use Rattle.spec_text.proofs.pattern.Free.{Free, none-free}
-use Rattle.spec_caption.proofs.caption_stamp.Reading.{time-long, time-mark}
-use Rattle.spec_caption.proofs.caption_stamp.ReadFree.{read-free}
-use Rattle.spec_caption.proofs.caption_stamp.Written.{text-some}
-use Rattle.spec_caption.proofs.caption_stamp.RoundTrip.{ass-back, text-free}
+use Rattle.spec_time.proofs.caption_stamp.Reading.{time-long, time-mark}
+use Rattle.spec_time.proofs.caption_stamp.ReadFree.{read-free}
+use Rattle.spec_time.proofs.caption_stamp.Written.{text-some}
+use Rattle.spec_time.proofs.caption_stamp.RoundTrip.{ass-back, text-free}
 use Rattle.spec_caption.specs.caption_fate.Says.{Piece, bytes, start, stop, unplaced, short, Cue, withTimes, stays, passes, cue}
 use Rattle.spec_caption.specs.caption_fate.Emit.{render}
-use Rattle.spec_format.specs.declared.ass_columns.Columns.{Columns}
-use Rattle.spec_format.specs.ass_columns.Columns.{columnsIn, fields, fieldAt}
-use Rattle.spec_format.specs.ass_columns.Section.{eventsName, bracketed, inside, inSection}
-use Rattle.spec_format.specs.ass_write.Tags.{holdsAny, tagged}
-use Rattle.spec_format.specs.ass_write.Frame.{fieldPieces, lineFrame}
-use Rattle.spec_format.proofs.ass_columns.ColumnLaws.{Apart, format-apart}
-use Rattle.spec_format.proofs.ass_columns.FieldLaws.{at-none, fields-most}
-use Rattle.spec_format.proofs.ass_write.FieldBack.{newField, newFields, new-length, new-start, new-end, new-at, new-pieces, written, fields-back, last-back}
-use Rattle.spec_format.specs.ass_line.Line.{formatWord, dialogueWord, commentWord, LineSays, faulty, says, lineCue, timesSay, captionSays, wordSays, textSays, lineSays}
-use Rattle.spec_format.specs.ass_line.AssThrough.{columnsAfter}
-use Rattle.spec_format.proofs.ass_line.SayLaws.{caption-times, caption-columns}
+use Rattle.spec_ass.specs.declared.ass_columns.Columns.{Columns}
+use Rattle.spec_ass.specs.ass_columns.Columns.{columnsIn, fields, fieldAt}
+use Rattle.spec_ass.specs.ass_columns.Section.{eventsName, bracketed, inside, inSection}
+use Rattle.spec_ass.specs.ass_write.Tags.{holdsAny, tagged}
+use Rattle.spec_ass.specs.ass_write.Frame.{fieldPieces, lineFrame}
+use Rattle.spec_ass.proofs.ass_columns.ColumnLaws.{Apart, format-apart}
+use Rattle.spec_ass.proofs.ass_columns.FieldLaws.{at-none, fields-most}
+use Rattle.spec_ass.proofs.ass_write.FieldBack.{newField, newFields, new-length, new-start, new-end, new-at, new-pieces, written, fields-back, last-back}
+use Rattle.spec_ass.specs.ass_line.Line.{formatWord, dialogueWord, commentWord, LineSays, faulty, says, lineCue, timesSay, captionSays, wordSays, textSays, lineSays}
+use Rattle.spec_ass.specs.ass_line.AssThrough.{columnsAfter}
+use Rattle.spec_ass.proofs.ass_line.SayLaws.{caption-times, caption-columns}
 use Rattle.spec_text.proofs.pattern.PieceLaws.{starts-cut}
 
 -- ---- a written time: no comma, no `\`, and a digit at its end

@@ -13,22 +13,22 @@ use Rattle.spec_text.specs.pattern.Piece.{comma}
 use Rattle.spec_text.proofs.pattern.PieceLaws.{joined, starts-cut}
 use Rattle.spec_text.specs.text.Line.{linesOf, concat, lineCount, textOf, terminatorOf}
 use Rattle.spec_text.proofs.text.LineLaws.{text-terminator, lines-joined}
-use Rattle.spec_caption.specs.declared.caption_stamp.Time.{Time}
-use Rattle.spec_caption.specs.declared.caption_stamp.Time.the-variants.{At, Bad}
-use Rattle.spec_caption.specs.caption_stamp.Read.{timeIn}
-use Rattle.spec_caption.proofs.caption_stamp.Reading.{time-long}
+use Rattle.spec_time.specs.declared.caption_stamp.Time.{Time}
+use Rattle.spec_time.specs.declared.caption_stamp.Time.the-variants.{At, Bad}
+use Rattle.spec_time.specs.caption_stamp.Read.{timeIn}
+use Rattle.spec_time.proofs.caption_stamp.Reading.{time-long}
 use Rattle.spec_caption.specs.caption_fate.Says.{Piece, bytes, start, stop, unplaced, short, Cue, stays, passes, cue}
 use Rattle.spec_caption.specs.caption_fate.Emit.{render}
-use Rattle.spec_format.specs.declared.ass_columns.Columns.{Columns}
-use Rattle.spec_format.specs.ass_columns.Columns.{columnsIn, fields, fieldAt}
-use Rattle.spec_format.specs.ass_columns.Section.{eventsName, bracketed, inside, inSection}
-use Rattle.spec_format.specs.ass_write.Frame.{pieceAt, fieldPieces, lineFrame}
-use Rattle.spec_format.specs.ass_line.Line.{formatWord, dialogueWord, commentWord, LineSays, faulty, says, timesSay, captionSays, wordSays, textSays, lineSays}
-use Rattle.spec_format.specs.block_timing.Style.{stampsIn, styleOf}
-use Rattle.spec_format.specs.block_timing.Arrow
-use Rattle.spec_format.specs.block_timing.Arrow.{arrow, afterArrow, later, timingOf, Timing}
-use Rattle.spec_format.specs.block_cue.Block.{BlockSays, blockFrame, bothSay, endText, trailing, timingLineSays, timingSays, blockSays}
-use Rattle.spec_format.specs.block_cue.Block as block
+use Rattle.spec_ass.specs.declared.ass_columns.Columns.{Columns}
+use Rattle.spec_ass.specs.ass_columns.Columns.{columnsIn, fields, fieldAt}
+use Rattle.spec_ass.specs.ass_columns.Section.{eventsName, bracketed, inside, inSection}
+use Rattle.spec_ass.specs.ass_write.Frame.{pieceAt, fieldPieces, lineFrame}
+use Rattle.spec_ass.specs.ass_line.Line.{formatWord, dialogueWord, commentWord, LineSays, faulty, says, timesSay, captionSays, wordSays, textSays, lineSays}
+use Rattle.spec_cue.specs.block_timing.Style.{stampsIn, styleOf}
+use Rattle.spec_cue.specs.block_timing.Arrow
+use Rattle.spec_cue.specs.block_timing.Arrow.{arrow, afterArrow, later, timingOf, Timing}
+use Rattle.spec_cue.specs.block_cue.Block.{BlockSays, blockFrame, bothSay, endText, trailing, timingLineSays, timingSays, blockSays}
+use Rattle.spec_cue.specs.block_cue.Block as block
 use Rattle.spec_format.specs.back.Stands.{LineStands, oldFrame, BlockStands}
 use Rattle.spec_format.proofs.back.AssLine.{frame-is}
 use Rattle.spec_format.proofs.back.TimingBlock.{Drops, head-drops, Swaps, timing-swaps, concat-at}

@@ -11,11 +11,11 @@ use borrow.Author.Tests.{le-leb, ne-eqb, eqb-true}
 use Rattle.spec_text.specs.text.Number.{digit, digits, valueFrom}
 use Rattle.spec_text.specs.text.Line.{isEmpty}
 use Rattle.spec_text.proofs.text.Laws.{digit-some}
-use Rattle.spec_caption.specs.caption_stamp.Write.{pad, width}
-use Rattle.spec_caption.proofs.caption_stamp.Pad.{width-small, width-big, width-pow, tenths}
+use Rattle.spec_time.specs.caption_stamp.Write.{pad, width}
+use Rattle.spec_time.proofs.caption_stamp.Pad.{width-small, width-big, width-pow, tenths}
 use Rattle.spec_json.specs.json.Num.{digitRun, intWidth, minusWidth, fracWidth, isExp, expWidth, tailWidth, numberWidth, isPlain}
 use Rattle.spec_json.specs.json.Quote.{decimal}
-use Rattle.spec_caption.proofs.caption_stamp.RoundTrip.{value-nil, value-pad, digits-snoc, digits-true, Digits}
+use Rattle.spec_time.proofs.caption_stamp.RoundTrip.{value-nil, value-pad, digits-snoc, digits-true, Digits}
 use Rattle.spec_json.proofs.json.FrontLaws.{number-with}
 
 -- ---- rows of digits

@@ -9,8 +9,8 @@ use borrow.Author.Tests.{le-leb, lt-leb}
 use Rattle.spec_base.specs.base.Refusal.{_orElse_, faultUnless}
 use Rattle.spec_sheet.specs.sheet_frames.Frames.{framesOf, decodeOf, syncOf, ticksFrom}
 use Rattle.spec_text.specs.text.Line.{blank}
-use Rattle.spec_map.specs.plan.Snap.{lastBelow, firstFrom, floorSync, ceilSync, snapStart, snapEnd, snapAll, overlapsFault}
-use Rattle.spec_map.proofs.plan.SnapMeaning.{NoSync, LastSync, FirstSync, floor-only, ceil-only}
+use Rattle.spec_trim.specs.plan.Snap.{lastBelow, firstFrom, floorSync, ceilSync, snapStart, snapEnd, snapAll, overlapsFault}
+use Rattle.spec_trim.proofs.plan.SnapMeaning.{NoSync, LastSync, FirstSync, floor-only, ceil-only}
 use Rattle.spec_map.specs.segment.Segment.{segment}
 use Rattle.spec_map.specs.segmap.Build.{sourceStart, rangeTicks, rangeFault, rangesFault, segmentIn, segmentsIn}
 use Rattle.spec_map.specs.segmap.Map.{rangesFor, snappedOf}

@@ -21,10 +21,10 @@ use Rattle.spec_sheet.proofs.sheet_permutation.NamedLaws.{sum, display-sum}
 use Rattle.spec_sheet.specs.sheet.Sheet.{sheetFault, sheetNumber}
 use Rattle.spec_base.proofs.base.RefusalNumbers.{else-numbers, unless-numbers}
 use Rattle.spec_sheet.proofs.sheet.SheetLaws.{SheetNumber, sheet-numbers, sheet-short, checked, sound-head}
-use Rattle.spec_map.specs.trim.TrimList.{listNumber}
-use Rattle.spec_map.proofs.trim.RangeLaws.{OfList, list-number-table}
-use Rattle.spec_map.specs.plan.Snap.{overlapsFault}
-use Rattle.spec_map.proofs.plan.SnapMeaning.{Bounded, snap-bounded, overlap-numbers, overlap-apart}
+use Rattle.spec_trim.specs.trim.TrimList.{listNumber}
+use Rattle.spec_trim.proofs.trim.RangeLaws.{OfList, list-number-table}
+use Rattle.spec_trim.specs.plan.Snap.{overlapsFault}
+use Rattle.spec_trim.proofs.plan.SnapMeaning.{Bounded, snap-bounded, overlap-numbers, overlap-apart}
 use Rattle.spec_map.specs.declared.segment.Segment.{Segment}
 use Rattle.spec_map.specs.declared.segmap.Made.{Made}
 use Rattle.spec_map.specs.segment.Segment.{segment, flatOf, endBad, segmentBad, anyBad, mapBad}

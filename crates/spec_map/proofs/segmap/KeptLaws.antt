@@ -12,7 +12,7 @@ use Rattle.spec_base.specs.base.Put.{put}
 use Rattle.spec_base.specs.base.Refusal.{faultUnless}
 use Rattle.spec_base.proofs.base.PutLaws.{take-put}
 use Rattle.spec_base.proofs.base.RefusalLaws.{else-here, else-next, unless-held, unless-failed}
-use Rattle.spec_map.specs.plan.Snap.{overlapsFault}
+use Rattle.spec_trim.specs.plan.Snap.{overlapsFault}
 use Rattle.spec_map.specs.declared.segment.Segment.{Segment}
 use Rattle.spec_map.proofs.segment.SegmentLaws.{flat-length}
 use Rattle.spec_map.specs.segment.Segment.{flatOf}

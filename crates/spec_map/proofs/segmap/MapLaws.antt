@@ -20,11 +20,11 @@ use Rattle.spec_sheet.specs.declared.sheet.Head.{Head}
 use Rattle.spec_sheet.specs.declared.sheet.Sheet.{Sheet}
 use Rattle.spec_sheet.specs.declared.sheet.Sheet.the-variants.{Sound, Refused}
 use Rattle.spec_sheet.proofs.sheet.SheetLaws.{sound-head, checked, sound-answer, refused-answer}
-use Rattle.spec_map.specs.trim.TrimList.{rangesIn, listNumber, rangesOf, rangeCount, parsed, listAnswer, parseOf, rangePlaces}
-use Rattle.spec_map.specs.declared.trim.Parsed.{Parsed}
-use Rattle.spec_map.proofs.trim.RangeLaws.{parse-number, parse-lent, range-count-most, ranges-length, answered-count, places-front, places-written, none-blank, list-none}
-use Rattle.spec_map.specs.plan.Snap.{snapAll}
-use Rattle.spec_map.proofs.plan.SnapLaws.{snap-length}
+use Rattle.spec_trim.specs.trim.TrimList.{rangesIn, listNumber, rangesOf, rangeCount, parsed, listAnswer, parseOf, rangePlaces}
+use Rattle.spec_trim.specs.declared.trim.Parsed.{Parsed}
+use Rattle.spec_trim.proofs.trim.RangeLaws.{parse-number, parse-lent, range-count-most, ranges-length, answered-count, places-front, places-written, none-blank, list-none}
+use Rattle.spec_trim.specs.plan.Snap.{snapAll}
+use Rattle.spec_trim.proofs.plan.SnapLaws.{snap-length}
 use Rattle.spec_map.specs.declared.segment.Segment.{Segment}
 use Rattle.spec_map.specs.declared.segmap.Made.{Made}
 use Rattle.spec_map.specs.segment.Segment.{flatOf}

@@ -13,13 +13,13 @@ use Rattle.spec_base.specs.base.Limits.{mostHeld}
 use Rattle.spec_sheet.specs.checked_blocks.Block.{wordAt, sumWords, blockHolds}
 use Rattle.spec_session.specs.declared.session_state.Session.{Session}
 use Rattle.spec_session.specs.session_state.View.{heldOf}
-use Rattle.spec_session.specs.session_counts.Session.{isOutcome}
+use Rattle.spec_machine.specs.session_counts.Session.{isOutcome}
 use Rattle.spec_session.proofs.session_state.ViewLaws.{held-length}
 use Rattle.spec_parking.specs.parking.Parked.{flag, headWords, keptBytes, parkedOf, isMark, isFlag, unusedZero, isParked, sessionIn, remembered}
 use Rattle.spec_parking.specs.parking.Parkings.{Mark}
-use Rattle.spec_parking.specs.parked_blocks.Sealed.{sealedLength, bodyLength, roomLength, wordBytes, wordsBytes, sealed, sealedAll, filled, rowOf, allHold, roomOf, allZero, isRow}
-use Rattle.spec_parking.proofs.parked_blocks.Bytes.{Words, sealed-length, block-holds, all-hold, bodies-back, head-word, words-append, all-length, block-parts}
-use Rattle.spec_parking.proofs.parked_blocks.WriteLaws.{filled-size, take-zeros}
+use Rattle.spec_parked_blocks.specs.parked_blocks.Sealed.{sealedLength, bodyLength, roomLength, wordBytes, wordsBytes, sealed, sealedAll, filled, rowOf, allHold, roomOf, allZero, isRow}
+use Rattle.spec_parked_blocks.proofs.parked_blocks.Bytes.{Words, sealed-length, block-holds, all-hold, bodies-back, head-word, words-append, all-length, block-parts}
+use Rattle.spec_parked_blocks.proofs.parked_blocks.WriteLaws.{filled-size, take-zeros}
 
 -- ---- zeros
 zeros : (n : ℕ) → allZero (replicate n 0) ≡ true

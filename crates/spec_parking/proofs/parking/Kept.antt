@@ -11,25 +11,25 @@ use borrow.Author.Tests.{eqb-true, leb-true, ltb-false, not-false, le-ltb}
 use Rattle.spec_base.specs.base.Limits.{mostHeld, mostTaken}
 use Rattle.spec_base.specs.base.Refusal.{_orElse_, faultUnless}
 use Rattle.spec_base.proofs.base.Laws.{or-left, or-right, and-right}
-use Rattle.spec_caption.specs.caption_time.Kind.{kindBad}
-use Rattle.spec_caption.proofs.caption_time.Limits.{by-kind, timescale-high}
-use Rattle.spec_format.specs.declared.ass_columns.Columns.{Columns}
-use Rattle.spec_session.specs.declared.session_counts.Counts.{Counts}
-use Rattle.spec_session.specs.session_counts.Session.{isOutcome, outcomeBad, countsAbove}
-use Rattle.spec_session.specs.session_counts.Session as model
-use Rattle.spec_session.specs.kinds.Kit.{kit}
-use Rattle.spec_session.proofs.kinds.Native.{Native}
-use Rattle.spec_session.proofs.kinds.KindLaws.{lawful}
-use Rattle.spec_session.specs.kinds.Takes.{blankState, noColumns}
-use Rattle.spec_session.specs.kinds.Kit.{strange}
-use Rattle.spec_session.proofs.session_counts.CutLaws.{has-none}
+use Rattle.spec_time.specs.caption_time.Kind.{kindBad}
+use Rattle.spec_time.proofs.caption_time.Limits.{by-kind, timescale-high}
+use Rattle.spec_ass.specs.declared.ass_columns.Columns.{Columns}
+use Rattle.spec_machine.specs.declared.session_counts.Counts.{Counts}
+use Rattle.spec_machine.specs.session_counts.Session.{isOutcome, outcomeBad, countsAbove}
+use Rattle.spec_machine.specs.session_counts.Session as model
+use Rattle.spec_machine.specs.kinds.Kit.{kit}
+use Rattle.spec_machine.proofs.kinds.Native.{Native}
+use Rattle.spec_machine.proofs.kinds.KindLaws.{lawful}
+use Rattle.spec_machine.specs.kinds.Takes.{blankState, noColumns}
+use Rattle.spec_machine.specs.kinds.Kit.{strange}
+use Rattle.spec_machine.proofs.session_counts.CutLaws.{has-none}
 use Rattle.spec_session.specs.declared.session_state.Session.{Session}
 use Rattle.spec_session.specs.session_state.View.{heldOf, view, foreignOf, padded}
 use Rattle.spec_session.proofs.session_state.ViewLaws.{held-length, held-plain, held-padded, foreign-view, native-view, native-room}
-use Rattle.spec_parking.specs.parked_blocks.Sealed.{sealedLength, filled}
+use Rattle.spec_parked_blocks.specs.parked_blocks.Sealed.{sealedLength, filled}
 use Rattle.spec_parking.specs.parking.Parked.{flag, headWords, keptBytes, parkedOf, isParked, sessionIn, remembered}
 use Rattle.spec_parking.specs.parking.Parkings.{Mark, takeNumber, ParkedAgain}
-use Rattle.spec_parking.proofs.parked_blocks.Bytes.{Words}
+use Rattle.spec_parked_blocks.proofs.parked_blocks.Bytes.{Words}
 use Rattle.spec_parking.proofs.parking.Again.{session-is, parked-sound, whole-length}
 
 -- ---- the words are below 2^32

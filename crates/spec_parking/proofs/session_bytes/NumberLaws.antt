@@ -12,7 +12,7 @@ use Rattle.spec_base.proofs.base.Laws.{and-left, and-right}
 use Rattle.spec_session.specs.session_state.View.{foreignOf}
 use Rattle.spec_parking.specs.parking.Parked.{isParked, sessionIn}
 use Rattle.spec_parking.specs.parking.Parkings.{takeNumber}
-use Rattle.spec_session.proofs.session_counts.Numbers.{OfCall}
+use Rattle.spec_machine.proofs.session_counts.Numbers.{OfCall}
 use Rattle.spec_parking.specs.session_bytes.ByteCalls.{refuses, toldIn}
 use Rattle.spec_parking.proofs.parking.Kept.{or-cases}
 

@@ -9,19 +9,19 @@ use borrow.Author.Tests.{not-true}
 use Rattle.spec_base.specs.base.Refusal.{faultUnless, unlessRefused}
 use Rattle.spec_base.specs.base.Put.{put}
 use Rattle.spec_base.proofs.base.RefusalLaws.{else-none, else-zero, held}
-use Rattle.spec_caption.specs.caption_time.Kind.{kindBad}
-use Rattle.spec_caption.specs.caption_time.Convert.{timescaleBad}
-use Rattle.spec_caption.proofs.caption_time.Limits.{units-low, timescale-low}
+use Rattle.spec_time.specs.caption_time.Kind.{kindBad}
+use Rattle.spec_time.specs.caption_time.Convert.{timescaleBad}
+use Rattle.spec_time.proofs.caption_time.Limits.{units-low, timescale-low}
 use Rattle.spec_map.specs.segment.Segment.{segmentsOf, mapBad}
 use Rattle.spec_caption.specs.caption_fate.Says.{captionsIn}
 use Rattle.spec_caption.specs.caption_fate.Emit.{Emit, outputOf, warningsOf, placesOf}
-use Rattle.spec_session.specs.session_counts.Counts.{total, countsOf, CountedBy, howMany, wasShifted, wasClipped, wasDropped, wasPassed}
-use Rattle.spec_session.specs.session_counts.Reader.{Reading}
-use Rattle.spec_session.specs.session_counts.Session.{emitted}
-use Rattle.spec_session.specs.session_counts.Calls.{readingOf}
-use Rattle.spec_session.proofs.session_counts.Emits.{total-parts}
-use Rattle.spec_session.proofs.session_counts.Counted.{counted-by}
-use Rattle.spec_session.proofs.session_counts.Numbers.{Opened}
+use Rattle.spec_machine.specs.session_counts.Counts.{total, countsOf, CountedBy, howMany, wasShifted, wasClipped, wasDropped, wasPassed}
+use Rattle.spec_machine.specs.session_counts.Reader.{Reading}
+use Rattle.spec_machine.specs.session_counts.Session.{emitted}
+use Rattle.spec_machine.specs.session_counts.Calls.{readingOf}
+use Rattle.spec_machine.proofs.session_counts.Emits.{total-parts}
+use Rattle.spec_machine.proofs.session_counts.Counted.{counted-by}
+use Rattle.spec_machine.proofs.session_counts.Numbers.{Opened}
 use Rattle.promise.specs.Plain.{plainRead}
 use Rattle.promise.specs.Demand.{passings, heard}
 use Rattle.promise.specs.Promise.{configOf}

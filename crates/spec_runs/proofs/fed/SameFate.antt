@@ -9,8 +9,8 @@ use Rattle.spec_caption.specs.caption_fate.Says.{Part}
 use Rattle.spec_caption.specs.caption_fate.Emit.{decided}
 use Rattle.spec_caption.specs.caption_fate.Told.{countedOf}
 use Rattle.spec_ask.proofs.ask_reason.Truth.{fate-is, taken-number, told-number}
-use Rattle.spec_session.proofs.session_counts.Numbers.{Opened as Admitted, opened}
-use Rattle.spec_session.specs.kinds.Kit.{kit}
+use Rattle.spec_machine.proofs.session_counts.Numbers.{Opened as Admitted, opened}
+use Rattle.spec_machine.specs.kinds.Kit.{kit}
 use Rattle.promise.specs.Hours.{AllInHours}
 use Rattle.promise.specs.Demand.{heard}
 use Rattle.promise.specs.Runs.{callsOf}

@@ -10,16 +10,16 @@ use Rattle.spec_base.proofs.base.RefusalLaws.{else-zero}
 use Rattle.spec_base.proofs.base.PutLaws.{take-put}
 use Rattle.spec_caption.specs.declared.caption_fate.Config.{Config}
 use Rattle.spec_caption.specs.caption_fate.Emit.{Warning, outputOf, warningsOf, placesOf}
-use Rattle.spec_format.specs.declared.ass_columns.Columns.{Columns}
-use Rattle.spec_session.specs.session_counts.Session.{Call}
-use Rattle.spec_session.specs.session_counts.Calls.{Played, ProperCall, Proper}
-use Rattle.spec_session.proofs.session_counts.Numbers as numbers
+use Rattle.spec_ass.specs.declared.ass_columns.Columns.{Columns}
+use Rattle.spec_machine.specs.session_counts.Session.{Call}
+use Rattle.spec_machine.specs.session_counts.Calls.{Played, ProperCall, Proper}
+use Rattle.spec_machine.proofs.session_counts.Numbers as numbers
 use Rattle.spec_session.specs.declared.session_state.Session.{Session}
 use Rattle.spec_session.specs.session_state.View.{view, stored, foreignOf}
 use Rattle.spec_session.specs.declared.session.Fed.{Fed}
 use Rattle.spec_session.specs.declared.session.Opened.{Opened}
 use Rattle.spec_session.specs.session.SessionCalls.{feedCall, finishCall, answerOf, nextOf, Answered, openOf, OpenAnswered}
-use Rattle.spec_parking.specs.parked_blocks.Sealed.{sealedLength}
+use Rattle.spec_parked_blocks.specs.parked_blocks.Sealed.{sealedLength}
 use Rattle.spec_parking.specs.parking.Parked.{parkedOf, sessionIn}
 use Rattle.spec_parking.specs.parking.Parkings.{whenDone, keepNumber}
 use Rattle.spec_parking.proofs.parking.Kept.{parked-length}

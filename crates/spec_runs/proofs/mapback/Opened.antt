@@ -13,17 +13,17 @@ use Rattle.spec_base.specs.base.Put.{put}
 use Rattle.spec_base.proofs.base.RefusalLaws.{held, else-zero}
 use Rattle.spec_base.proofs.base.PutLaws.{take-put}
 use Rattle.spec_text.specs.utf8.Utf8.{utf8}
-use Rattle.spec_caption.specs.caption_time.Kind.{kindBad}
-use Rattle.spec_caption.specs.caption_time.Convert.{timescaleBad}
+use Rattle.spec_time.specs.caption_time.Kind.{kindBad}
+use Rattle.spec_time.specs.caption_time.Convert.{timescaleBad}
 use Rattle.spec_map.specs.segment.Segment.{segmentsOf, flatOf, mapBad}
 use Rattle.spec_session.specs.session.SessionCalls.{openOf}
 use Rattle.promise.proofs.TheDemand.{demand-opened}
-use Rattle.spec_json.specs.map_json_write.Names.{mostPath}
-use Rattle.spec_json.specs.map_json_write.Text.{mapText}
-use Rattle.spec_json.specs.map_json_write.Reads.{isMapText, mapSaid}
-use Rattle.spec_json.specs.map_json_write.MapWritten.{writeNumber, whenDone}
-use Rattle.spec_json.specs.map_json_read.MapRead.{readNumber, valueWhenDone, Reads}
-use Rattle.spec_json.proofs.map_json_write.Whole.{round-trip}
+use Rattle.spec_map_json.specs.map_json_write.Names.{mostPath}
+use Rattle.spec_map_json.specs.map_json_write.Text.{mapText}
+use Rattle.spec_map_json.specs.map_json_write.Reads.{isMapText, mapSaid}
+use Rattle.spec_map_json.specs.map_json_write.MapWritten.{writeNumber, whenDone}
+use Rattle.spec_map_json.specs.map_json_read.MapRead.{readNumber, valueWhenDone, Reads}
+use Rattle.spec_map_json.proofs.map_json_write.Whole.{round-trip}
 use Rattle.spec_runs.specs.mapback.Claims.{ReadOpens, WrittenBack}
 
 -- ---- an answer of 0

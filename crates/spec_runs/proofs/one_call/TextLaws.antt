@@ -14,12 +14,12 @@ use Rattle.spec_base.proofs.base.PutLaws.{length-put}
 use Rattle.spec_caption.specs.declared.caption_fate.Config.{Config}
 use Rattle.spec_caption.specs.caption_fate.Says.{Part}
 use Rattle.spec_caption.specs.caption_fate.Emit.{outputOf, warningsOf, placesOf}
-use Rattle.spec_session.specs.declared.session_counts.Counts.{Counts}
-use Rattle.spec_session.specs.session_counts.Counts.{countsOf}
-use Rattle.spec_session.specs.session_counts.Reader.{Reading, reading}
-use Rattle.spec_session.specs.session_counts.Session.{Call, emitted}
-use Rattle.spec_session.proofs.session_counts.Numbers.{Opened}
-use Rattle.spec_session.proofs.kinds.Fits.{answer-fits}
+use Rattle.spec_machine.specs.declared.session_counts.Counts.{Counts}
+use Rattle.spec_machine.specs.session_counts.Counts.{countsOf}
+use Rattle.spec_machine.specs.session_counts.Reader.{Reading, reading}
+use Rattle.spec_machine.specs.session_counts.Session.{Call, emitted}
+use Rattle.spec_machine.proofs.session_counts.Numbers.{Opened}
+use Rattle.spec_machine.proofs.kinds.Fits.{answer-fits}
 use Rattle.spec_session.specs.declared.session_state.Session.{Session}
 use Rattle.spec_session.specs.session_state.View.{view}
 use Rattle.spec_session.specs.session_lines.Done.{Wrote}

@@ -12,12 +12,12 @@ use Rattle.spec_caption.specs.caption_fate.Says.{Part}
 use Rattle.spec_caption.specs.caption_fate.Emit.{Warning, emitsOf, outputOf, warningsOf, placesOf}
 use Rattle.spec_caption.specs.caption_fate.Warns.{partWarns, warnsBy}
 use Rattle.spec_caption.proofs.caption_fate.WarnLaws.{warns-later}
-use Rattle.spec_format.specs.declared.ass_columns.Columns.{Columns}
-use Rattle.spec_session.specs.session_counts.Session.{Call, lentOf, answer, fresh}
-use Rattle.spec_session.specs.session_counts.Session as model
-use Rattle.spec_session.specs.session_counts.Calls.{Played, play, ProperCall, Proper}
-use Rattle.spec_session.proofs.session_counts.Numbers.{Opened}
-use Rattle.spec_session.specs.kinds.Kit.{kit}
+use Rattle.spec_ass.specs.declared.ass_columns.Columns.{Columns}
+use Rattle.spec_machine.specs.session_counts.Session.{Call, lentOf, answer, fresh}
+use Rattle.spec_machine.specs.session_counts.Session as model
+use Rattle.spec_machine.specs.session_counts.Calls.{Played, play, ProperCall, Proper}
+use Rattle.spec_machine.proofs.session_counts.Numbers.{Opened}
+use Rattle.spec_machine.specs.kinds.Kit.{kit}
 use Rattle.spec_session.specs.declared.session_state.Session.{Session}
 use Rattle.spec_session.specs.session_state.View.{view}
 use Rattle.spec_session.specs.session.SessionCalls.{answerOf, nextOf}

@@ -9,21 +9,21 @@ use Rattle.spec_map.specs.segment.Segment.{mapBad}
 use Rattle.spec_caption.specs.declared.caption_fate.Config.{Config}
 use Rattle.spec_caption.specs.caption_fate.Says.{Part}
 use Rattle.spec_map.specs.segment.Segment.{segmentsOf}
-use Rattle.spec_format.specs.declared.ass_columns.Columns.{Columns}
-use Rattle.spec_session.specs.session_counts.Machine.{Machine, Run, going, stopped, run, finishRun}
-use Rattle.spec_session.specs.session_counts.Reader.{Reading}
-use Rattle.spec_session.specs.session_counts.Session.{Session, Call, feed, finish, lentOf, argumentBad, Gate, refuse, admit, gate, gateOf, foreign, fresh, settle, resume, respond, answer, emitted}
-use Rattle.spec_session.specs.session_counts.Calls.{play, ProperCall, Proper, Reader, ReaderAnswer, readerAnswer, newReader, hear, readingOf}
-use Rattle.spec_session.proofs.session_counts.Emits.{emits-none}
-use Rattle.spec_session.proofs.session_counts.Bytes.{ranTo, begin, bytes-reading}
-use Rattle.spec_session.proofs.session_counts.Resume.{after, run-append, run-after, finish-after}
-use Rattle.spec_session.proofs.session_counts.ReaderGate.{readerResponds, reader-gated}
-use Rattle.spec_session.proofs.session_counts.Native.{GoingOk, Ok, text-ok}
-use Rattle.spec_session.proofs.session_counts.Numbers.{Opened, opened-config}
-use Rattle.spec_session.proofs.session_counts.Lists.{Inv, live, dead, liveSession, deadSession, counted, led, led-native}
-use Rattle.spec_session.specs.kinds.Takes.{State, machineOf}
-use Rattle.spec_session.specs.kinds.Kit.{kit, said}
-use Rattle.spec_session.proofs.kinds.KindLaws.{lawful}
+use Rattle.spec_ass.specs.declared.ass_columns.Columns.{Columns}
+use Rattle.spec_machine.specs.session_counts.Machine.{Machine, Run, going, stopped, run, finishRun}
+use Rattle.spec_machine.specs.session_counts.Reader.{Reading}
+use Rattle.spec_machine.specs.session_counts.Session.{Session, Call, feed, finish, lentOf, argumentBad, Gate, refuse, admit, gate, gateOf, foreign, fresh, settle, resume, respond, answer, emitted}
+use Rattle.spec_machine.specs.session_counts.Calls.{play, ProperCall, Proper, Reader, ReaderAnswer, readerAnswer, newReader, hear, readingOf}
+use Rattle.spec_machine.proofs.session_counts.Emits.{emits-none}
+use Rattle.spec_machine.proofs.session_counts.Bytes.{ranTo, begin, bytes-reading}
+use Rattle.spec_machine.proofs.session_counts.Resume.{after, run-append, run-after, finish-after}
+use Rattle.spec_machine.proofs.session_counts.ReaderGate.{readerResponds, reader-gated}
+use Rattle.spec_machine.proofs.session_counts.Native.{GoingOk, Ok, text-ok}
+use Rattle.spec_machine.proofs.session_counts.Numbers.{Opened, opened-config}
+use Rattle.spec_machine.proofs.session_counts.Lists.{Inv, live, dead, liveSession, deadSession, counted, led, led-native}
+use Rattle.spec_machine.specs.kinds.Takes.{State, machineOf}
+use Rattle.spec_machine.specs.kinds.Kit.{kit, said}
+use Rattle.spec_machine.proofs.kinds.KindLaws.{lawful}
 use Rattle.spec_session.specs.session.Stand.{partsIn}
 use Rattle.spec_session.specs.session.SessionCalls.{gateNumber}
 use Rattle.spec_session.proofs.session.CallLaws.{gate-passed}

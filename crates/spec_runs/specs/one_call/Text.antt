@@ -9,12 +9,12 @@ use lib.ListN.{length}
 use Rattle.spec_base.specs.base.Limits.{mostTaken, leastOutput, leastPlaces}
 use Rattle.spec_base.specs.base.Refusal.{_orElse_, faultUnless, unlessRefused}
 use Rattle.spec_base.specs.base.Put.{put}
-use Rattle.spec_caption.specs.caption_time.Kind.{kindBad}
-use Rattle.spec_caption.specs.caption_time.Convert.{timescaleBad}
+use Rattle.spec_time.specs.caption_time.Kind.{kindBad}
+use Rattle.spec_time.specs.caption_time.Convert.{timescaleBad}
 use Rattle.spec_map.specs.segment.Segment.{mapBad}
 use Rattle.spec_caption.specs.caption_fate.Emit.{Emit, outputOf, warningsOf, placesOf}
-use Rattle.spec_session.specs.session_counts.Counts.{howMany, wasShifted, wasClipped, wasDropped, wasPassed}
-use Rattle.spec_session.specs.session_counts.Session.{emitted}
+use Rattle.spec_machine.specs.session_counts.Counts.{howMany, wasShifted, wasClipped, wasDropped, wasPassed}
+use Rattle.spec_machine.specs.session_counts.Session.{emitted}
 use Rattle.promise.specs.Plain.{plainRead}
 use Rattle.promise.specs.Promise.{configOf}
 

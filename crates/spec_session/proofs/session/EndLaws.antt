@@ -15,32 +15,32 @@ use Rattle.spec_base.proofs.base.PutLaws.{put-nil, tail-back, putAt-nil, placed
 use Rattle.spec_text.specs.pattern.Find.{equals}
 use Rattle.spec_text.specs.utf8.Utf8.{utf8}
 use Rattle.spec_text.specs.text.Line.{concat, linesOf, lineCount, hasLf}
-use Rattle.spec_caption.specs.caption_time.Kind.{kindBad}
+use Rattle.spec_time.specs.caption_time.Kind.{kindBad}
 use Rattle.spec_caption.specs.declared.caption_fate.Config.{Config}
 use Rattle.spec_map.specs.segment.Segment.{segmentsOf}
 use Rattle.spec_caption.specs.caption_fate.Says.{Part, stays, notUtf8, badHeader, faultNumber}
 use Rattle.spec_caption.specs.caption_fate.Emit.{Emit, Warning, emitBy, emitsOf, outputOf, warningsOf, placesOf}
-use Rattle.spec_format.specs.ass_line.Line.{LineSays, lineSays, faulty as lineFaulty, says as lineSaid}
-use Rattle.spec_format.specs.block_timing.Style.{styleOf}
-use Rattle.spec_format.specs.block_timing.Header.{headerDue}
-use Rattle.spec_format.specs.block_cue.Block.{BlockSays, blockSays, faulty as blockFaulty, says as blockSaid}
-use Rattle.spec_session.specs.declared.session_counts.Counts.{Counts}
-use Rattle.spec_session.specs.session_counts.Counts.{countAll}
-use Rattle.spec_session.specs.session_counts.Cut.{unfinished}
-use Rattle.spec_session.specs.session_counts.Machine.{Machine, Says, faulty, says, bom, hasBom, withBom, lineWith, takeLine, restFor, Run, going, stopped, lineEnd, closed, lastEnd, atEnd, finishRun}
-use Rattle.spec_session.specs.session_counts.Session.{emitted}
-use Rattle.spec_session.proofs.session_counts.Emits.{emits-none, output-none, count-none}
-use Rattle.spec_session.proofs.session_counts.Resume.{fault-number}
-use Rattle.spec_session.proofs.session_counts.OpenLines.{bom-open}
-use Rattle.spec_session.proofs.session_counts.Laws.{StepOk, Lawful}
-use Rattle.spec_session.proofs.session_counts.Native.{line-ok}
-use Rattle.spec_session.proofs.session_counts.Room.{outLen, warnLen, RoomOf, line-room}
-use Rattle.spec_session.specs.kinds.Takes.{State, blankState, ofLine, lineTakes, ofBlock, closes, takes, blockEnds, ends, machineOf}
-use Rattle.spec_session.specs.kinds.Kit.{kit}
-use Rattle.spec_session.proofs.kinds.KindLaws.{takes-ass, takes-srt, takes-vtt, Fit, known-three, lawful-fit, lawful-size, lawful-pending}
-use Rattle.spec_session.proofs.kinds.Native.{Native}
-use Rattle.spec_session.proofs.kinds.KindRoom.{srt-some, block-end, vtt-end}
-use Rattle.spec_session.proofs.kinds.Fits.{places-two, room-of}
+use Rattle.spec_ass.specs.ass_line.Line.{LineSays, lineSays, faulty as lineFaulty, says as lineSaid}
+use Rattle.spec_cue.specs.block_timing.Style.{styleOf}
+use Rattle.spec_cue.specs.block_timing.Header.{headerDue}
+use Rattle.spec_cue.specs.block_cue.Block.{BlockSays, blockSays, faulty as blockFaulty, says as blockSaid}
+use Rattle.spec_machine.specs.declared.session_counts.Counts.{Counts}
+use Rattle.spec_machine.specs.session_counts.Counts.{countAll}
+use Rattle.spec_machine.specs.session_counts.Cut.{unfinished}
+use Rattle.spec_machine.specs.session_counts.Machine.{Machine, Says, faulty, says, bom, hasBom, withBom, lineWith, takeLine, restFor, Run, going, stopped, lineEnd, closed, lastEnd, atEnd, finishRun}
+use Rattle.spec_machine.specs.session_counts.Session.{emitted}
+use Rattle.spec_machine.proofs.session_counts.Emits.{emits-none, output-none, count-none}
+use Rattle.spec_machine.proofs.session_counts.Resume.{fault-number}
+use Rattle.spec_machine.proofs.session_counts.OpenLines.{bom-open}
+use Rattle.spec_machine.proofs.session_counts.Laws.{StepOk, Lawful}
+use Rattle.spec_machine.proofs.session_counts.Native.{line-ok}
+use Rattle.spec_machine.proofs.session_counts.Room.{outLen, warnLen, RoomOf, line-room}
+use Rattle.spec_machine.specs.kinds.Takes.{State, blankState, ofLine, lineTakes, ofBlock, closes, takes, blockEnds, ends, machineOf}
+use Rattle.spec_machine.specs.kinds.Kit.{kit}
+use Rattle.spec_machine.proofs.kinds.KindLaws.{takes-ass, takes-srt, takes-vtt, Fit, known-three, lawful-fit, lawful-size, lawful-pending}
+use Rattle.spec_machine.proofs.kinds.Native.{Native}
+use Rattle.spec_machine.proofs.kinds.KindRoom.{srt-some, block-end, vtt-end}
+use Rattle.spec_machine.proofs.kinds.Fits.{places-two, room-of}
 use Rattle.spec_session.specs.declared.session_lines.Ended.{Ended}
 use Rattle.spec_session.specs.declared.session.Going.{Going}
 use Rattle.spec_session.specs.session_lines.LinesThrough.{textEnds, endIn, EndTells}
@@ -52,7 +52,7 @@ use Rattle.spec_session.specs.session.Stand.{Shows, Room, CloseRoom, Ope
 use Rattle.spec_session.proofs.session.StandLaws.{lent, back, told-sums, wrote-more, counts-more, held-block, held-line}
 use Rattle.spec_session.proofs.session.RunLaws.{counts-grown, fit-parsed, places-none, s₀, begun, begin-sizes, begin-native, begin-shows, L}
 use Rattle.spec_base.proofs.base.PartLaws.{drop-take, rest-length}
-use Rattle.spec_session.proofs.session_counts.Keeps.{Kept}
+use Rattle.spec_machine.proofs.session_counts.Keeps.{Kept}
 
 -- ---- what a finish says in each kind
 pub finish-ass : (kind : ℕ) (s : State) (n : ℕ) → kind ≡ 0 → ends kind s n ≡ says s []

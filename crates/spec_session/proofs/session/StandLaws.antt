@@ -18,14 +18,14 @@ use Rattle.spec_map.specs.segment.Segment.{segmentsOf}
 use Rattle.spec_caption.specs.declared.caption_fate.Config.{Config}
 use Rattle.spec_caption.specs.caption_fate.Says.{Part, faultNumber}
 use Rattle.spec_caption.specs.caption_fate.Emit.{Emit, outputOf, warningsOf, placesOf}
-use Rattle.spec_session.specs.declared.session_counts.Counts.{Counts}
-use Rattle.spec_session.specs.session_counts.Counts.{countAll}
-use Rattle.spec_session.specs.session_counts.Machine.{Machine, Says, faulty, says, Run, going, stopped, lineEnd, takeLine, byteStep}
-use Rattle.spec_session.specs.session_counts.Session.{emitted}
-use Rattle.spec_session.proofs.session_counts.Emits.{emits-append, output-append, warnings-append, places-append, count-append}
-use Rattle.spec_session.proofs.session_counts.Resume.{fault-number}
-use Rattle.spec_session.specs.kinds.Takes.{State, machineOf}
-use Rattle.spec_session.proofs.kinds.KindLaws.{concat-snoc}
+use Rattle.spec_machine.specs.declared.session_counts.Counts.{Counts}
+use Rattle.spec_machine.specs.session_counts.Counts.{countAll}
+use Rattle.spec_machine.specs.session_counts.Machine.{Machine, Says, faulty, says, Run, going, stopped, lineEnd, takeLine, byteStep}
+use Rattle.spec_machine.specs.session_counts.Session.{emitted}
+use Rattle.spec_machine.proofs.session_counts.Emits.{emits-append, output-append, warnings-append, places-append, count-append}
+use Rattle.spec_machine.proofs.session_counts.Resume.{fault-number}
+use Rattle.spec_machine.specs.kinds.Takes.{State, machineOf}
+use Rattle.spec_machine.proofs.kinds.KindLaws.{concat-snoc}
 use Rattle.spec_session.specs.declared.session_lines.Taken.{Taken}
 use Rattle.spec_session.specs.declared.session_lines.Ended.{Ended}
 use Rattle.spec_session.specs.session_lines.LinesThrough.{PartsAnswer, takeIn, EndTells, endedBy, LineTells}

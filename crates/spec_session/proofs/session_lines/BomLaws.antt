@@ -16,12 +16,12 @@ use Rattle.spec_map.specs.declared.segment.Segment.{Segment}
 use Rattle.spec_caption.specs.declared.caption_fate.Config.{Config}
 use Rattle.spec_caption.specs.caption_fate.Says.{stays, faultNumber}
 use Rattle.spec_caption.specs.caption_fate.Emit.{Emit, emit, none, outputOf, warningsOf}
-use Rattle.spec_format.specs.declared.ass_columns.Columns.{Columns}
-use Rattle.spec_session.specs.declared.session_counts.Counts.{Counts}
-use Rattle.spec_session.specs.session_counts.Counts.{countAll}
-use Rattle.spec_session.specs.session_counts.Machine.{bom, hasBom, Says, faulty, says, withBom, lineWith, takeLine}
-use Rattle.spec_session.proofs.session_counts.OpenLines.{bom-length}
-use Rattle.spec_session.specs.kinds.Takes.{State, takes, machineOf}
+use Rattle.spec_ass.specs.declared.ass_columns.Columns.{Columns}
+use Rattle.spec_machine.specs.declared.session_counts.Counts.{Counts}
+use Rattle.spec_machine.specs.session_counts.Counts.{countAll}
+use Rattle.spec_machine.specs.session_counts.Machine.{bom, hasBom, Says, faulty, says, withBom, lineWith, takeLine}
+use Rattle.spec_machine.proofs.session_counts.OpenLines.{bom-length}
+use Rattle.spec_machine.specs.kinds.Takes.{State, takes, machineOf}
 use Rattle.spec_session.specs.declared.session_lines.Taken.{Taken}
 use Rattle.spec_session.specs.session_lines.LinesThrough.{strangeIn, emittedIn, lineRefusal, isOpen, takenIn, bomSize, EndTells, endedBy, LineTells}
 use Rattle.spec_session.specs.session_lines.Told.{behindLine}

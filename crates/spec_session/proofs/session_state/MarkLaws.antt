@@ -10,8 +10,8 @@ use lib.ListN.{length, drop, getD, drop-of-length-le}
 use lib.Seq.{drop-cons}
 use borrow.Author.Tests.{ne-eqb, lt-leb, le-leb}
 use Rattle.spec_text.specs.text.Line.{lineCount}
-use Rattle.spec_session.specs.session_counts.Cut.{before, push, isLf, closedLines, cut}
-use Rattle.spec_session.specs.session_counts.Session.{isOutcome, outcomeBad}
+use Rattle.spec_machine.specs.session_counts.Cut.{before, push, isLf, closedLines, cut}
+use Rattle.spec_machine.specs.session_counts.Session.{isOutcome, outcomeBad}
 
 -- ---- the outcome
 pub outcome-none : (k : ℕ) → k ≡ 0 → true ≡ isOutcome k

@@ -14,29 +14,29 @@ use Rattle.spec_base.specs.base.Put.{put}
 use Rattle.spec_base.proofs.base.PutLaws.{length-put}
 use Rattle.spec_text.specs.utf8.Utf8.{utf8}
 use Rattle.spec_text.specs.text.Line.{concat, hasLf}
-use Rattle.spec_format.specs.block_timing.Style.{blankIn}
-use Rattle.spec_format.specs.block_timing.Header.{headerDue}
+use Rattle.spec_cue.specs.block_timing.Style.{blankIn}
+use Rattle.spec_cue.specs.block_timing.Header.{headerDue}
 use Rattle.spec_map.specs.segment.Segment.{segmentsOf}
 use Rattle.spec_caption.specs.declared.caption_fate.Config.{Config}
 use Rattle.spec_caption.specs.caption_fate.Says.{Part, faultNumber}
 use Rattle.spec_caption.specs.caption_fate.Emit.{outputOf, warningsOf, placesOf}
-use Rattle.spec_session.specs.session_counts.Counts.{countAll}
-use Rattle.spec_session.specs.session_counts.Machine.{Machine, Says, faulty, says, Run, going, stopped, lineEnd, takeLine, run}
-use Rattle.spec_session.specs.session_counts.Cut.{closedLines}
-use Rattle.spec_session.specs.session_counts.Session.{emitted}
-use Rattle.spec_session.proofs.session_counts.GoodLines.{good-line, good-later}
-use Rattle.spec_session.proofs.session_counts.Emits.{emits-none, count-none}
-use Rattle.spec_session.proofs.session_counts.Bytes.{run-stopped}
-use Rattle.spec_session.proofs.session_counts.Resume.{run-append, fault-number}
-use Rattle.spec_session.proofs.session_counts.Laws.{Lawful}
-use Rattle.spec_session.proofs.session_counts.Native.{Ok, GoingOk}
-use Rattle.spec_session.proofs.session_counts.Room as room
-use Rattle.spec_session.proofs.session_counts.Room.{GoingRoom, outLen, warnLen}
-use Rattle.spec_session.specs.kinds.Takes.{State, blockTakes, takes, machineOf}
-use Rattle.spec_session.specs.kinds.Kit.{kit}
-use Rattle.spec_session.proofs.kinds.KindLaws.{Fit, lawful-size, concat-snoc}
-use Rattle.spec_session.proofs.kinds.Native.{Native}
-use Rattle.spec_session.proofs.kinds.Fits.{places-two}
+use Rattle.spec_machine.specs.session_counts.Counts.{countAll}
+use Rattle.spec_machine.specs.session_counts.Machine.{Machine, Says, faulty, says, Run, going, stopped, lineEnd, takeLine, run}
+use Rattle.spec_machine.specs.session_counts.Cut.{closedLines}
+use Rattle.spec_machine.specs.session_counts.Session.{emitted}
+use Rattle.spec_machine.proofs.session_counts.GoodLines.{good-line, good-later}
+use Rattle.spec_machine.proofs.session_counts.Emits.{emits-none, count-none}
+use Rattle.spec_machine.proofs.session_counts.Bytes.{run-stopped}
+use Rattle.spec_machine.proofs.session_counts.Resume.{run-append, fault-number}
+use Rattle.spec_machine.proofs.session_counts.Laws.{Lawful}
+use Rattle.spec_machine.proofs.session_counts.Native.{Ok, GoingOk}
+use Rattle.spec_machine.proofs.session_counts.Room as room
+use Rattle.spec_machine.proofs.session_counts.Room.{GoingRoom, outLen, warnLen}
+use Rattle.spec_machine.specs.kinds.Takes.{State, blockTakes, takes, machineOf}
+use Rattle.spec_machine.specs.kinds.Kit.{kit}
+use Rattle.spec_machine.proofs.kinds.KindLaws.{Fit, lawful-size, concat-snoc}
+use Rattle.spec_machine.proofs.kinds.Native.{Native}
+use Rattle.spec_machine.proofs.kinds.Fits.{places-two}
 use Rattle.spec_session.specs.declared.session_state.Head.{Head}
 use Rattle.spec_session.specs.declared.session_lines.Taken.{Taken}
 use Rattle.spec_session.specs.session_lines.LinesThrough.{takenIn, stateOf, bomSize, takeIn, LineTells}

@@ -11,14 +11,14 @@ use Rattle.spec_base.specs.base.Limits.{mostTaken}
 use Rattle.spec_base.proofs.base.Laws.{or-left, or-right}
 use Rattle.spec_text.specs.text.Line.{concat}
 use Rattle.spec_map.specs.segment.Segment.{mapBad}
-use Rattle.spec_format.specs.declared.ass_columns.Columns.{Columns}
-use Rattle.spec_session.specs.session_counts.Machine.{Run, going, stopped}
-use Rattle.spec_session.specs.session_counts.Session.{Gate, refuse, admit, gate, foreign, respond, settle, resume}
-use Rattle.spec_session.specs.session_counts.Session as model
-use Rattle.spec_session.proofs.session_counts.Emits.{output-none}
-use Rattle.spec_session.proofs.session_counts.Resume.{ByFault, run-fault}
-use Rattle.spec_session.specs.kinds.Takes.{State, noColumns, machineOf}
-use Rattle.spec_session.specs.kinds.Kit.{kit}
+use Rattle.spec_ass.specs.declared.ass_columns.Columns.{Columns}
+use Rattle.spec_machine.specs.session_counts.Machine.{Run, going, stopped}
+use Rattle.spec_machine.specs.session_counts.Session.{Gate, refuse, admit, gate, foreign, respond, settle, resume}
+use Rattle.spec_machine.specs.session_counts.Session as model
+use Rattle.spec_machine.proofs.session_counts.Emits.{output-none}
+use Rattle.spec_machine.proofs.session_counts.Resume.{ByFault, run-fault}
+use Rattle.spec_machine.specs.kinds.Takes.{State, noColumns, machineOf}
+use Rattle.spec_machine.specs.kinds.Kit.{kit}
 use Rattle.spec_session.specs.declared.session_state.Head.{Head}
 use Rattle.spec_session.specs.session_state.Head.{viewOf}
 use Rattle.spec_session.specs.session.SessionCalls.{feedCall, gateNumber}

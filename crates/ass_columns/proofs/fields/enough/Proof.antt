@@ -3,7 +3,7 @@ use lib.Dec.{leb}
 use lib.ListN.{length}
 use native.Mathlib.Omega.{arith}
 use borrow.Author.Needs.{needs}
-use Rattle.spec_format.specs.ass_columns.Columns.{fields}
+use Rattle.spec_ass.specs.ass_columns.Columns.{fields}
 use Rattle.ass_columns.proofs.CommaLaws.{counted-some, counted-again, counted-rest, behind-less}
 use Rattle.ass_columns.proofs.fields.enough.Statement.{statement}
 use Rattle.ass_columns.proofs.fields.enough.Tie as tie

@@ -1,11 +1,11 @@
 use Prim.Native.Nat.{_≤_}
 use native.Mathlib.Omega.{arith}
-use Rattle.spec_format.proofs.ass_columns.FieldLaws.{rest-part}
+use Rattle.spec_ass.proofs.ass_columns.FieldLaws.{rest-part}
 use lib.Dec.{leb}
 use lib.ListN.{length}
 use mathlib.Core.Path.{_≡_, refl}
-use Rattle.spec_format.specs.ass_columns.Columns.{fields}
-use Rattle.spec_format.proofs.ass_columns.FieldLaws.{enough-few, enough-again, enough-all}
+use Rattle.spec_ass.specs.ass_columns.Columns.{fields}
+use Rattle.spec_ass.proofs.ass_columns.FieldLaws.{enough-few, enough-again, enough-all}
 use borrow.Author.Needs.{needs}
 use Rattle.ass_columns.proofs.fields.enough_by_one.Statement.{statement}
 use Rattle.ass_columns.proofs.fields.enough_by_one.Tie as tie

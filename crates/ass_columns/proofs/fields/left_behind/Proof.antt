@@ -4,7 +4,7 @@ use lib.Dec.{leb}
 use lib.ListN.{length, drop}
 use native.Mathlib.Omega.{arith}
 use borrow.Author.Needs.{needs}
-use Rattle.spec_format.specs.ass_columns.Columns.{fields}
+use Rattle.spec_ass.specs.ass_columns.Columns.{fields}
 use Rattle.ass_columns.proofs.CommaLaws.{commas-none, commas-again, commas-all}
 use Rattle.ass_columns.proofs.fields.left_behind.Statement.{statement}
 use Rattle.ass_columns.proofs.fields.left_behind.Tie as tie

@@ -1,4 +1,4 @@
-use Rattle.spec_caption.proofs.caption_stamp.Reading.{read-none, read-limits, read-some, read-two}
+use Rattle.spec_time.proofs.caption_stamp.Reading.{read-none, read-limits, read-some, read-two}
 use Rattle.caption_stamp.proofs.PlainLaws.{read-plain}
 use borrow.Author.Needs.{needs}
 use Rattle.caption_stamp.proofs.read.read_time.Statement.{statement}

@@ -1,4 +1,4 @@
-use Rattle.spec_map.proofs.trim.ReadLaws.{copy-again, copy-done}
+use Rattle.spec_trim.proofs.trim.ReadLaws.{copy-again, copy-done}
 use Prim.Native.Nat.{_≤_, _-_}
 use mathlib.Core.Path.{_≡_, refl, sym}
 use lib.ListN.{length, take}
