@@ -1,4 +1,4 @@
-pub mod Examples
+pub mod ReadsRows
 pub mod Back
 pub mod Clean
 pub mod Whole

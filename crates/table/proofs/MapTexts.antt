@@ -1,4 +1,4 @@
--- Worked texts, by computation.
+-- Texts of maps as JSON, taken and refused, and one written and read: by computation.
 use mathlib.Core.Path.{_≡_, refl}
 use mathlib.Core.Bool.{Bool, true, false, _&&_}
 use mathlib.Core.List.{List, [], _∷_}
