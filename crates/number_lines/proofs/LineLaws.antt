@@ -9,7 +9,8 @@ use borrow.Author.Tests.{le-leb, lt-leb, leb-true, leb-false}
 use lib.Seq.{length-take-le}
 use lib.ListN.{length, take, drop, getD, replicate, length-append, length-drop, length-replicate}
 use Rattle.spec_base.specs.base.Put.{put, putAt, placed, placedLength, placedAt, placeAfter}
-use Rattle.spec_base.proofs.base.PutLaws.{put-at-front, putAt-put, putAt-nil, then-put, at-yes, after-yes, placed-yes, placed-no, length-yes, length-no, length-tail, tail-back, length-put}
+use Rattle.spec_base.proofs.base.PutLaws.{put-at-front, putAt-put, putAt-nil, then-put, at-yes, after-yes, placed-yes, placed-no, length-yes, length-no, tail-back, length-put}
+use Rattle.spec_base.proofs.base.PartLaws.{rest-length}
 use Rattle.spec_time.specs.caption_stamp.Write.{pad, width}
 use Rattle.spec_time.proofs.caption_stamp.Pad.{pad-length}
 use Rattle.spec_json.specs.json.Quote.{decimal}
@@ -73,7 +74,7 @@ spaced-put at from w n l l₁ t h q e f g =
     let p : l₁ ≡ putAt at (32 ∷ []) l = f ∙ at-yes at (32 ∷ []) l b in
     let d : length l₁ ≡ length l = ap length p ∙ length-putAt at (32 ∷ []) l b in
     let k : length (pad w n) ≡ w = pad-length w n in
-    let r : length (pad w n) ≤ length (take (length l₁ - from) (drop from l₁)) = omega (arith, length-tail from l₁) in
+    let r : length (pad w n) ≤ length (take (length l₁ - from) (drop from l₁)) = omega (arith, rest-length from l₁) in
     tail-back from (pad w n) l₁ t (g ∙ placed-yes (pad w n) _ r)
     ∙ ap (λ (x : List ℕ). putAt from (pad w n) x) p
     ∙ ap (λ (x : ℕ). putAt x (pad w n) (putAt at (32 ∷ []) l)) a
