@@ -1,15 +1,8 @@
 //! Sheets and lists at their limits: 1,048,576 frames, 1,024 ranges.
 use crate::clock::medians;
-use crate::maps::{frames, map_rust, retimer_sheet_check};
+use crate::maps::{frames, map_rust, retimer_map, retimer_sheet_check};
 use crate::table::Table;
 use std::hint::black_box;
-
-#[link(name = "c_bench", kind = "static")]
-extern "C" {
-    fn bench_is_utf8(text: *const u8, length: usize) -> u32;
-    /// The number of the map of a sheet and a list, both checked.
-    fn bench_map(sheet: *const u8, sheet_length: usize, list: *const u8, list_length: usize, direction: u32) -> u32;
-}
 
 const FRAMES: u32 = 1_048_576;
 const OUTWARD: u32 = 0;
@@ -88,10 +81,12 @@ fn checks(table: &mut Table) {
         let t = medians(21, &mut [here, &mut || assert_eq!(plain_check(black_box(&s)), 0)]);
         table.row(&format!("sheet check, 1,048,576 frames {what}, beside a plain one with a bitmap"), t[0] / t[1], "", None);
     }
-    let text = b"Dialogue: 0,0:00:21.04,0:00:22.80,Default,,0,0,0,,The curtain rises.\n".repeat(1000);
-    let here = &mut || assert_eq!(unsafe { bench_is_utf8(black_box(&text).as_ptr(), text.len()) }, 1);
-    let t = medians(201, &mut [here, &mut || assert!(std::str::from_utf8(black_box(&text)).is_ok())]);
-    table.row("is_utf8 on ASCII, beside the Rust's own", t[0] / t[1], "", None);
+}
+
+/// The number of the map of a sheet and a list, both checked.
+fn number(sheet: &[u8], list: &str, direction: u32) -> u32 {
+    let (mut work, mut map, mut timescale, mut count) = (vec![0; 131_072], vec![0; 6144], 0, 0);
+    unsafe { retimer_map(sheet.as_ptr(), sheet.len(), list.as_ptr(), list.len(), direction, work.as_mut_ptr(), work.len(), map.as_mut_ptr(), map.len(), &mut timescale, &mut count) }
 }
 
 /// Beside the Rust: groups of 15 frames, a sync frame, then frames whose decode order differs from the display order.
@@ -103,7 +98,7 @@ fn beside_rust(table: &mut Table) {
     };
     let (sheet, list) = (sheet(decode, |i| i % 15 == 0), trims(30, 930));
     let f = frames(&sheet);
-    let here = &mut || assert_eq!(unsafe { bench_map(black_box(&sheet).as_ptr(), sheet.len(), list.as_ptr(), list.len(), OUTWARD) }, 0);
+    let here = &mut || assert_eq!(number(black_box(&sheet), &list, OUTWARD), 0);
     let t = medians(3, &mut [here, &mut || assert_eq!(map_rust(black_box(&f), &list).segments.len(), 1024)]);
     table.row("map, 1,048,576 frames and 1,024 ranges, both checked", t[0] / t[1], "", None);
 }
@@ -135,7 +130,7 @@ fn maps(table: &mut Table) {
         ("long trims, decode order zigzag", sheet(zigzag, |_| true), &long, OUTWARD, 0),
     ];
     for (what, s, list, direction, number) in &cases {
-        let t = medians(11, &mut [&mut || assert_eq!(unsafe { bench_map(black_box(s).as_ptr(), s.len(), list.as_ptr(), list.len(), *direction) }, *number)]);
+        let t = medians(11, &mut [&mut || assert_eq!(number(black_box(s), list, *direction), *number)]);
         table.row(&format!("the same, {what}"), t[0] * 1e3, " ms", None);
     }
 }

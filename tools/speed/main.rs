@@ -13,6 +13,7 @@ mod mp4io {
 }
 mod clock;
 mod counts;
+mod cues;
 #[path = "../../dtvi.rs"]
 mod dtvi;
 mod here;
@@ -21,7 +22,6 @@ mod long_json;
 mod maps;
 #[path = "../../order.rs"]
 mod order;
-mod parking;
 #[path = "../../plan.rs"]
 mod plan;
 mod play;
@@ -49,7 +49,7 @@ const PARTS: [Part; 6] = [
     Part { name: "maps", long: false, run: of_maps },
     Part { name: "json", long: false, run: |table, _| maps::json(table) },
     Part { name: "play", long: false, run: play::play },
-    Part { name: "parking", long: false, run: parking::parking },
+    Part { name: "cues", long: false, run: cues::cues },
     Part { name: "limits", long: true, run: |table, _| all(table, &[limits::all, counts::starts, counts::delays, long_json::all]) },
 ];
 

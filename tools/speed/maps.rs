@@ -10,7 +10,7 @@ use std::hint::black_box;
 extern "C" {
     pub fn retimer_sheet_check(sheet: *const u8, sheet_length: usize, work: *mut u8, work_lent: usize) -> u32;
     fn retimer_list_check(list: *const u8, list_length: usize) -> u32;
-    fn retimer_map(sheet: *const u8, sheet_length: usize, list: *const u8, list_length: usize, direction: u32, work: *mut u8, work_lent: usize, map: *mut u64, map_lent: usize, timescale: *mut u32, count: *mut u64) -> u32;
+    pub fn retimer_map(sheet: *const u8, sheet_length: usize, list: *const u8, list_length: usize, direction: u32, work: *mut u8, work_lent: usize, map: *mut u64, map_lent: usize, timescale: *mut u32, count: *mut u64) -> u32;
     pub fn retimer_census(map: *const u64, map_length: usize, timescale: u32, kind: u32, length: u64, count: u64, shifted: *mut u64, clipped: *mut u64, dropped: *mut u64) -> u32;
     pub fn retimer_best_delay(map: *const u64, map_length: usize, timescale: u32, kind: u32, captions: *const u64, captions_length: usize, budget: u32, delay: *mut i64, loss: *mut u32, tried: *mut u32, off: *mut u32) -> u32;
     pub fn retimer_map_write(map: *const u64, length: usize, timescale: u32, rate_num: u32, rate_den: u32, path: *const u8, path_length: usize, frames: u32, text: *mut u8, places: usize, written: *mut u64) -> u32;

@@ -2,8 +2,8 @@
 ghost use mathlib.Core.Path.{_≡_};
 ghost use mathlib.Core.Bool.{true, false};
 ghost use Prim.Native.Nat.{_≤_};
-ghost use Rattle.spec_caption.specs.caption_time.Kind.{kindBad, unitsOf};
-ghost use Rattle.spec_caption.specs.caption_time.Convert.{timescaleBad};
+ghost use Rattle.spec_time.specs.caption_time.Kind.{kindBad, unitsOf};
+ghost use Rattle.spec_time.specs.caption_time.Convert.{timescaleBad};
 ghost use Rattle.spec_map.specs.segment.Segment.{segmentsOf, mapBad};
 ghost use Rattle.spec_ask.specs.ask_order.Ascending.{ascends};
 ghost use Rattle.spec_ask.specs.ask_edges.Edge.{edgesOf};

@@ -1,22 +1,22 @@
 -- Laws of the answer: its refusals, and the delay found.
 use mathlib.Core.Path.{_≡_, refl, sym, ap, _∙_}
-use mathlib.Core.Bool.{Bool, true, false, cond, not, true≢false}
+use mathlib.Core.Bool.{Bool, true, false, cond, not}
 use mathlib.Core.List.{List, [], _∷_}
-use Prim.Native.Nat.{ℕ, zero, suc, _-_, _/_, _%_, _≤_, _<_}
+use Prim.Native.Nat.{ℕ, _-_, _/_, _%_, _≤_, _<_}
 use native.Mathlib.Omega.{arith}
 use mir.Syntax.{w64}
 use mir.Val.{toZ, ofZ}
 use lib.Dec.{ltb, eqb, leb}
 use lib.IntN.{ℤ}
-use lib.ListN.{length, getD, drop, replicate, length-drop}
-use borrow.Author.Tests.{lt-ltb, le-ltb, eq-eqb, ne-eqb, leb-true, eqb-true}
+use lib.ListN.{length, getD, drop, length-drop}
+use borrow.Author.Tests.{lt-ltb, le-ltb, eq-eqb, ne-eqb, leb-true, eqb-true, not-true}
 use Rattle.spec_base.specs.base.Limits.{mostUnits}
 use Rattle.spec_base.specs.base.Refusal.{faultUnless}
 use Rattle.spec_base.proofs.base.RefusalLaws.{held, else-zero}
 use Rattle.spec_base.proofs.base.Laws.{yes!, no! }
-use Rattle.spec_caption.specs.caption_time.Kind.{kindBad}
-use Rattle.spec_caption.specs.caption_time.Convert.{timescaleBad}
-use Rattle.spec_caption.proofs.caption_time.Limits.{units-low}
+use Rattle.spec_time.specs.caption_time.Kind.{kindBad}
+use Rattle.spec_time.specs.caption_time.Convert.{timescaleBad}
+use Rattle.spec_time.proofs.caption_time.Limits.{units-low}
 use Rattle.spec_map.specs.segment.Segment.{segmentsOf, mapBad}
 use Rattle.spec_caption.specs.declared.caption_fate.Config.{Config}
 use Rattle.ask_delay.specs.declared.choosing.Chosen.{Chosen}
@@ -65,17 +65,7 @@ pub tries-all : (budget : ℕ) → 12001 ≤ budget → 12001 ≡ triedOf budget
 unfolding triedOf
 tries-all budget h = omega arith
 
--- ---- nothing counted yet
-pub zeros-new : (n k : ℕ) → _≡_ {A = ℕ} (getD (replicate n 0) k 0) 0
-zeros-new zero k = refl
-zeros-new (suc n) zero = refl
-zeros-new (suc n) (suc k) = zeros-new n k
-
 -- ---- what is not refused
-not-true : (b : Bool) → not b ≡ true → b ≡ false
-not-true true e = absurd (true≢false (sym e))
-not-true false e = refl
-
 pub record Taken (m : List ℕ) (T kind : ℕ) (cs : List ℕ) (budget : ℕ) : Type 0 where
   pub timescale : timescaleBad T ≡ false
   pub map : mapBad m ≡ false

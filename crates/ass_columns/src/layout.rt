@@ -1,11 +1,11 @@
 // The columns of a `Format:` line.
-use spec_format::ass_columns::Columns;
+use spec_ass::ass_columns::Columns;
 ghost use mathlib.Core.Path.{_≡_};
 ghost use mathlib.Core.Bool.{cond};
 ghost use lib.Dec.{eqb};
 ghost use Rattle.spec_text.specs.pattern.Find.{equals};
 ghost use lib.ListN.{length};
-ghost use Rattle.spec_format.specs.ass_columns.Columns.{startName, endName, namesIn, columnsIn};
+ghost use Rattle.spec_ass.specs.ass_columns.Columns.{startName, endName, namesIn, columnsIn};
 
 // What a `Format:` line sets, and how many trimmings of a column it took to find that.
 pub struct Format {

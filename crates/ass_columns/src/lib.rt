@@ -11,4 +11,4 @@ pub use layout::columns_of;
 pub use section::in_section;
 pub use section::is_section;
 pub use section::names_events;
-pub use spec_format::ass_columns::Columns;
+pub use spec_ass::ass_columns::Columns;

@@ -1,8 +1,8 @@
 // Lines that name a section.
-use spec_format::ass_columns::Columns;
+use spec_ass::ass_columns::Columns;
 ghost use mathlib.Core.Path.{_≡_};
 ghost use Rattle.spec_text.specs.pattern.Find.{equals};
-ghost use Rattle.spec_format.specs.ass_columns.Section.{eventsName, bracketed, inside, inSection};
+ghost use Rattle.spec_ass.specs.ass_columns.Section.{eventsName, bracketed, inside, inSection};
 
 // Whether a trimmed line goes from `[` to `]`.
 pub fn is_section(t: &[u8]) -> bool

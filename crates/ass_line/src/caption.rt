@@ -25,18 +25,18 @@ ghost use lib.ListN.{length, drop};
 ghost use Rattle.spec_base.specs.base.Put.{put};
 ghost use Rattle.spec_text.specs.text.Line.{textOf, terminatorOf};
 ghost use Rattle.spec_text.specs.whitespace.White.{trimTail};
-ghost use Rattle.spec_caption.specs.caption_stamp.Read.{timeIn};
+ghost use Rattle.spec_time.specs.caption_stamp.Read.{timeIn};
 ghost use Rattle.spec_caption.specs.caption_fate.Grouped.{segmentsBy};
 ghost use Rattle.spec_caption.specs.caption_fate.Decide.{decideIn};
 ghost use Rattle.spec_caption.specs.caption_fate.Fates.{passed};
 ghost use Rattle.spec_caption.specs.caption_fate.Emit.{none, decided, emit, warning, warnIf, placesOf, keptEmit};
 ghost use Rattle.spec_caption.specs.caption_fate.Told.{answered, cueIn, Tells};
-ghost use Rattle.spec_format.specs.ass_columns.Columns.{fields, fieldAt};
-ghost use Rattle.spec_format.specs.ass_columns.Section.{bracketed};
-ghost use Rattle.spec_format.specs.ass_write.Tags.{tagged};
-ghost use Rattle.spec_format.specs.ass_write.Frame.{lineFrame, frameMost};
-ghost use Rattle.spec_format.specs.ass_line.Line.{lineCue, timesSay, captionSays, wordSays};
-ghost use Rattle.spec_format.specs.ass_line.AssThrough.{columnsAfter, lineAnswerIn, lineIn, columnsNext, stayedWith};
+ghost use Rattle.spec_ass.specs.ass_columns.Columns.{fields, fieldAt};
+ghost use Rattle.spec_ass.specs.ass_columns.Section.{bracketed};
+ghost use Rattle.spec_ass.specs.ass_write.Tags.{tagged};
+ghost use Rattle.spec_ass.specs.ass_write.Frame.{lineFrame, frameMost};
+ghost use Rattle.spec_ass.specs.ass_line.Line.{lineCue, timesSay, captionSays, wordSays};
+ghost use Rattle.spec_ass.specs.ass_line.AssThrough.{columnsAfter, lineAnswerIn, lineIn, columnsNext, stayedWith};
 
 // What a line tells, and the columns for the next one.
 pub struct LineTold {

@@ -4,7 +4,7 @@ ghost use mathlib.Core.List.{[]};
 ghost use Prim.Native.Nat.{_<_};
 ghost use lib.ListN.{getD};
 ghost use Rattle.spec_text.specs.pattern.Find.{starts};
-ghost use Rattle.spec_format.specs.ass_write.Tags.{tags, tagged};
+ghost use Rattle.spec_ass.specs.ass_write.Tags.{tags, tagged};
 
 // Whether `s` begins with tag `k`.
 fn tag_at(s: &[u8], k: usize) -> bool

@@ -5,10 +5,10 @@ ghost use mathlib.Core.Path.{_≡_};
 ghost use mathlib.Core.Bool.{cond};
 ghost use Prim.Native.Nat.{_≤_};
 ghost use lib.ListN.{length, take};
-ghost use Rattle.spec_caption.specs.caption_stamp.Write.{timeText};
+ghost use Rattle.spec_time.specs.caption_stamp.Write.{timeText};
 ghost use Rattle.spec_base.specs.base.Put.{placed, placedLength};
-ghost use Rattle.spec_format.specs.ass_columns.Columns.{fields};
-ghost use Rattle.spec_format.specs.ass_write.Frame.{pieceAt, fieldPieces, lineFrame, pieceText, framePlaced, frameAfter};
+ghost use Rattle.spec_ass.specs.ass_columns.Columns.{fields};
+ghost use Rattle.spec_ass.specs.ass_write.Frame.{pieceAt, fieldPieces, lineFrame, pieceText, framePlaced, frameAfter};
 ghost use Rattle.spec_text.specs.pattern.Piece.{comma};
 
 // Two times in units, each with the mark before its fraction.

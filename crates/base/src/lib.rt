@@ -40,5 +40,6 @@ pub use part::words_front;
 pub use part::words_rest;
 pub use write::bytes;
 pub use write::bytes_at;
+pub use write::clear;
 pub use write::pair_at;
 pub use write::words;

@@ -1,6 +1,7 @@
-// Writers that lend the tail of an output on: the whole piece, or nothing and the place unchanged.
+// Writers that lend the tail of an output on: the whole piece, or nothing and the place unchanged. And zeros everywhere.
 ghost use mathlib.Core.Path.{_≡_};
 ghost use mathlib.Core.List.{[], _∷_};
+ghost use lib.ListN.{length, replicate};
 ghost use Rattle.spec_base.specs.base.Put.{placed, placedLength, placedAt, placeAfter};
 
 // Writes `s` to the start of `out`, the rest of the output, and answers its length; where it does not fit, nothing and 0.
@@ -56,4 +57,15 @@ pub fn pair_at(out: &mut [u64], at: usize, a: u64, b: u64) -> usize
     out[at] = a;
     out[at + 1] = b;
     at + 2
+}
+
+// Every byte becomes zero.
+pub fn clear(bytes: &mut [u8])
+    ensures { λ _. ⌜ now (bytes .exit) ≡ replicate (length (now (bytes .entry))) 0 ⌝ }
+{
+    let mut i = 0;
+    while i < bytes.len() {
+        bytes[i] = 0;
+        i += 1;
+    }
 }

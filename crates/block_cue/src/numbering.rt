@@ -3,7 +3,7 @@ ghost use mathlib.Core.Path.{_≡_};
 ghost use Prim.Native.Nat.{_≤_};
 ghost use lib.ListN.{length};
 ghost use Rattle.spec_text.specs.text.Line.{linesOf, lineCount};
-ghost use Rattle.spec_format.specs.block_cue.BlockThrough.{numberIn};
+ghost use Rattle.spec_cue.specs.block_cue.BlockThrough.{numberIn};
 
 // How many lines a block has.
 fn lines_in(block: &[u8]) -> usize

@@ -12,24 +12,24 @@ use caption_fate::Told;
 use caption_fate::counted_by;
 use caption_fate::refused;
 use caption_stamp::Time;
-use spec_format::block_cue::Reading;
-use spec_format::block_cue::Times;
+use spec_cue::block_cue::Reading;
+use spec_cue::block_cue::Times;
 ghost use mathlib.Core.Path.{_≡_};
 ghost use mathlib.Core.List.{_++_};
 ghost use Prim.Native.Nat.{_+_, _*_, _-_, _≤_, suc};
 ghost use lib.ListN.{length};
 ghost use Rattle.spec_base.specs.base.Put.{put, placedAt, placeAfter};
 ghost use Rattle.spec_text.specs.text.Line.{linesOf, lineCount};
-ghost use Rattle.spec_caption.specs.caption_stamp.Read.{timeIn};
-ghost use Rattle.spec_caption.specs.caption_stamp.Write.{timeText};
+ghost use Rattle.spec_time.specs.caption_stamp.Read.{timeIn};
+ghost use Rattle.spec_time.specs.caption_stamp.Write.{timeText};
 ghost use Rattle.spec_caption.specs.caption_fate.Grouped.{segmentsBy};
 ghost use Rattle.spec_caption.specs.declared.caption_fate.Decision.the-variants.{Kept};
 ghost use Rattle.spec_caption.specs.caption_fate.Decide.{decideIn};
 ghost use Rattle.spec_caption.specs.caption_fate.Emit.{warnIf, placesOf, render};
 ghost use Rattle.spec_caption.specs.caption_fate.Told.{cueIn, Tells};
-ghost use Rattle.spec_format.specs.block_timing.Style.{stampsIn, styleOf};
-ghost use Rattle.spec_format.specs.block_cue.Block.{writtenArrow, blockFrame, blockCue, timingLineSays};
-ghost use Rattle.spec_format.specs.block_cue.BlockThrough.{timesRead, blockAnswerIn, blockIn, numberIn};
+ghost use Rattle.spec_cue.specs.block_timing.Style.{stampsIn, styleOf};
+ghost use Rattle.spec_cue.specs.block_cue.Block.{writtenArrow, blockFrame, blockCue, timingLineSays};
+ghost use Rattle.spec_cue.specs.block_cue.BlockThrough.{timesRead, blockAnswerIn, blockIn, numberIn};
 
 fn put_arrow(out: &mut [u8], at: usize) -> usize
     ensures { λ r. ⌜ (r ≡ placeAfter at writtenArrow (now (out .entry))) × (now (out .exit) ≡ placedAt at writtenArrow (now (out .entry))) ⌝ }

@@ -1,6 +1,6 @@
 // Lines that end a block.
 ghost use mathlib.Core.Path.{_≡_};
-ghost use Rattle.spec_format.specs.block_timing.Style.{blankIn};
+ghost use Rattle.spec_cue.specs.block_timing.Style.{blankIn};
 
 // Whether a line ends a block of the kind.
 pub fn is_blank_in(kind: u32, line: &[u8]) -> bool

@@ -1,7 +1,7 @@
 // WebVTT's first line.
 ghost use mathlib.Core.Path.{_≡_};
 ghost use Rattle.spec_text.specs.text.Line.{linesOf};
-ghost use Rattle.spec_format.specs.block_timing.Header.{partsWord, isHeader, headerDue};
+ghost use Rattle.spec_cue.specs.block_timing.Header.{partsWord, isHeader, headerDue};
 
 // Whether what follows the word is nothing, a space or a tab.
 fn parts_word(s: &[u8]) -> bool

@@ -7,7 +7,7 @@ mod timing;
 pub use blank::is_blank_in;
 pub use header::header_due;
 pub use header::is_header;
-pub use spec_format::block_timing::Place;
+pub use spec_cue::block_timing::Place;
 pub use stamps::stamps_in;
 pub use timing::after_arrow;
 pub use timing::before_arrow;

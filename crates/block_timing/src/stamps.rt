@@ -1,6 +1,6 @@
 // Times inside the lines of a WebVTT cue.
 ghost use mathlib.Core.Path.{_≡_};
-ghost use Rattle.spec_format.specs.block_timing.Style.{stampHead, stampIn, stampsIn};
+ghost use Rattle.spec_cue.specs.block_timing.Style.{stampHead, stampIn, stampsIn};
 
 // Whether `<` and directly behind it a digit stand at the head.
 fn stamp_head(s: &[u8]) -> bool

@@ -1,13 +1,13 @@
 // The timing line of a block, and the parts of its text about the arrow.
-use spec_format::block_timing::Place;
+use spec_cue::block_timing::Place;
 ghost use mathlib.Core.Path.{_≡_};
 ghost use Prim.Native.Nat.{_≤_};
 ghost use lib.ListN.{length};
 ghost use Rattle.spec_text.specs.pattern.Find.{contains, upTo};
 ghost use Rattle.spec_text.specs.text.Line.{linesOf};
-ghost use Rattle.spec_format.specs.block_timing.Style.{srtEnd, vttEnd, endIn};
-ghost use Rattle.spec_format.specs.block_timing.Arrow.{arrow, afterArrow};
-ghost use Rattle.spec_format.specs.block_timing.Place.{timingPlace};
+ghost use Rattle.spec_cue.specs.block_timing.Style.{srtEnd, vttEnd, endIn};
+ghost use Rattle.spec_cue.specs.block_timing.Arrow.{arrow, afterArrow};
+ghost use Rattle.spec_cue.specs.block_timing.Place.{timingPlace};
 
 fn has_arrow(s: &[u8]) -> bool
     ensures { λ r. ⌜ r ≡ contains arrow (now (s .entry)) ⌝ }

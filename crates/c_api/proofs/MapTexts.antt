@@ -5,16 +5,15 @@ use mathlib.Core.List.{List, []}
 use Prim.Native.Nat.{ℕ}
 use lib.Dec.{eqb}
 use lib.ListN.{length}
-use borrow.Author.Tests.{ne-eqb}
 use Rattle.spec_base.specs.base.Put.{put}
 use Rattle.spec_base.specs.base.Refusal.{leftIn}
 use Rattle.spec_map.specs.segment.Segment.{segmentsOf, flatOf}
-use Rattle.spec_json.specs.declared.map_json_write.Wrote.{Wrote}
-use Rattle.spec_json.specs.map_json_write.Text.{mapText}
-use Rattle.spec_json.specs.map_json_write.Reads.{mapSaid}
-use Rattle.spec_json.specs.map_json_write.MapWritten.{writeNumber, whenDone, Writes}
-use Rattle.spec_json.specs.declared.map_json_read.Taken.{Taken}
-use Rattle.spec_json.specs.map_json_read.MapRead.{readNumber, valueWhenDone, Reads}
+use Rattle.spec_map_json.specs.declared.map_json_write.Wrote.{Wrote}
+use Rattle.spec_map_json.specs.map_json_write.Text.{mapText}
+use Rattle.spec_map_json.specs.map_json_write.Reads.{mapSaid}
+use Rattle.spec_map_json.specs.map_json_write.MapWritten.{writeNumber, whenDone, Writes}
+use Rattle.spec_map_json.specs.declared.map_json_read.Taken.{Taken}
+use Rattle.spec_map_json.specs.map_json_read.MapRead.{readNumber, valueWhenDone, Reads}
 
 length-left : (b : Bool) (x : List ℕ) (n : ℕ) → cond b (length (cond b x [])) n ≡ cond b (length x) n
 length-left true x n = refl
@@ -37,10 +36,6 @@ written-left m T num den path frames w t t′ a n v e =
     ∙ length-left (eqb (w .number) 0) (mapText T num den path frames (segmentsOf m)) n
 
 -- ---- the reader, refused: a place stays
-pub stays : (k v n : ℕ) → (k ≡ 0 → ⊥) → n ≡ leftIn k v n
-unfolding leftIn
-stays k v n z = sym (ap (λ (b : Bool). cond b v n) (ne-eqb k 0 z))
-
 module _ (text : List ℕ) (t : Taken) (map map′ path path′ : List ℕ) (a : Reads text t map map′ path path′) where
   pub read-number : t .number ≡ readNumber text (length map) (length path)
   read-number = a .number

@@ -5,7 +5,7 @@ ghost use Rattle.spec_base.specs.base.Put.{put};
 ghost use Rattle.spec_session.specs.session.SessionCalls.{feedCall, finishCall};
 ghost use Rattle.spec_parking.specs.session_bytes.ByteCalls.{openNumber, openBytes, callNumber, bytesAfter, textOut, placesIn, toldIn};
 ghost use Rattle.spec_runs.specs.one_call.Text.{Retimed};
-ghost use Rattle.spec_runs.specs.caption_rows.Cues.{CuesRead};
+ghost use Rattle.spec_rows.specs.caption_rows.Cues.{CuesRead};
 
 // 0, 15 or 16; 16 too where fewer than 9,216 bytes are lent. With 0 the session stands at the start of `session`; else all stays as it was.
 #[no_mangle]

@@ -18,9 +18,9 @@ pub use questions::retimer_why;
 ghost use mathlib.Core.Path.{_≡_};
 ghost use lib.ListN.{length};
 ghost use Rattle.spec_sheet.specs.sheet.Sheet.{sheetOf, workAfter, numberOf};
-ghost use Rattle.spec_map.specs.trim.TrimList.{listNumber};
-ghost use Rattle.spec_caption.specs.caption_time.Kind.{unitsOf};
-ghost use Rattle.spec_caption.specs.caption_time.Convert.{ticksOf, startUnits, endUnits, unitsNumber, ticksNumber, convertedTo};
+ghost use Rattle.spec_trim.specs.trim.TrimList.{listNumber};
+ghost use Rattle.spec_time.specs.caption_time.Kind.{unitsOf};
+ghost use Rattle.spec_time.specs.caption_time.Convert.{ticksOf, startUnits, endUnits, unitsNumber, ticksNumber, convertedTo};
 
 // The frame sheet's number: 0, 11 to 14, 16, 25 or 26. The work bytes are n / 8, rounded up, or more; 131,072 are always enough. Those needed end zero.
 #[no_mangle]

@@ -5,10 +5,10 @@ ghost use Rattle.spec_base.specs.base.Put.{put};
 ghost use Rattle.spec_base.specs.base.Refusal.{leftIn};
 ghost use Rattle.spec_map.specs.segment.Segment.{segmentsOf, flatOf};
 ghost use Rattle.spec_map.specs.segmap.Map.{mapOf, mapWork};
-ghost use Rattle.spec_json.specs.map_json_write.Text.{mapText};
-ghost use Rattle.spec_json.specs.map_json_write.Reads.{mapSaid};
-ghost use Rattle.spec_json.specs.map_json_write.MapWritten.{writeNumber, whenDone};
-ghost use Rattle.spec_json.specs.map_json_read.MapRead.{readNumber};
+ghost use Rattle.spec_map_json.specs.map_json_write.Text.{mapText};
+ghost use Rattle.spec_map_json.specs.map_json_write.Reads.{mapSaid};
+ghost use Rattle.spec_map_json.specs.map_json_write.MapWritten.{writeNumber, whenDone};
+ghost use Rattle.spec_map_json.specs.map_json_read.MapRead.{readNumber};
 
 // 0, or 2 to 14, 16, 20, 25 or 26. With 0 the map stands at the start of `map`, six numbers to a segment, and the two places tell the sheet's timescale and
 // how many segments there are; else these stay as they were. The work bytes are for the sheet's check.

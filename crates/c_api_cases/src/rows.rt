@@ -1,22 +1,31 @@
 // The captions of a text as rows: line, 0 or the warning with which it passes, start, end, where its words stand, how many bytes they are.
-use c_api_show::begin;
-use c_api_show::end;
-use c_api_show::one;
-use c_api_show::six;
+use number_lines::print_line;
 
 // Two rows of a text that has at most two captions, the place behind them, and the two told numbers.
 fn two(kind: u32, text: &[u8]) {
     let mut rows = [7u64; 13];
     let mut told = [7u64; 3];
     let number = c_api::retimer_cues(kind, text, &mut rows, &mut told);
-    begin(b"cues", number);
-    one(told[0]);
-    one(told[1]);
-    one(told[2]);
-    six(&rows, 0);
-    six(&rows, 6);
-    one(rows[12]);
-    end();
+    let row = [
+        number as u64,
+        told[0],
+        told[1],
+        told[2],
+        rows[0],
+        rows[1],
+        rows[2],
+        rows[3],
+        rows[4],
+        rows[5],
+        rows[6],
+        rows[7],
+        rows[8],
+        rows[9],
+        rows[10],
+        rows[11],
+        rows[12],
+    ];
+    print_line(b"cues", &row);
 }
 
 // One place too few for a caption: 16, and nothing is written.
@@ -24,11 +33,7 @@ fn short(text: &[u8]) {
     let mut rows = [7u64; 5];
     let mut told = [7u64; 2];
     let number = c_api::retimer_cues(1, text, &mut rows, &mut told);
-    begin(b"cues", number);
-    one(told[0]);
-    one(told[1]);
-    one(rows[0]);
-    end();
+    print_line(b"cues", &[number as u64, told[0], told[1], rows[0]]);
 }
 
 pub fn show() {

@@ -1,27 +1,22 @@
 // A session that the caller keeps as its bytes: opened, fed in two pieces that part a line, finished, and fed once more.
-use c_api_show::begin;
-use c_api_show::end;
-use c_api_show::one;
 use libc::STDOUT_FILENO;
+use number_lines::print_line;
 
 // The number, and two bytes of the session: the first, and the lowest of the last block's sum, which is its number, 17.
 fn open(kind: u32, timescale: u32, map: &[u64], session: &mut [u8]) {
-    begin(b"open", c_api::retimer_open(kind, timescale, map, session));
-    one(base::byte(session, 0) as u64);
-    one(base::byte(session, 9212) as u64);
-    end();
+    let number = c_api::retimer_open(kind, timescale, map, session);
+    let first = base::byte(session, 0);
+    let last = base::byte(session, 9212);
+    print_line(b"open", &[number as u64, first as u64, last as u64]);
 }
 
 // What a call told: its number, the two places, the first warning, and the bytes written.
 fn told(number: u32, written: u64, warned: u64, warnings: &[u64], out: &[u8]) {
-    begin(b"call", number);
-    one(written);
-    one(warned);
-    one(base::word(warnings, 0));
-    one(base::word(warnings, 1));
-    end();
+    let kind = base::word(warnings, 0);
+    let line = base::word(warnings, 1);
+    print_line(b"call", &[number as u64, written, warned, kind, line]);
     io::write_all(STDOUT_FILENO, base::front(out, written as usize));
-    end();
+    io::write_all(STDOUT_FILENO, b"\n");
 }
 
 fn feed(session: &mut [u8], map: &[u64], piece: &[u8]) {

@@ -1,27 +1,39 @@
 // The ASS and the SRT text of the worked lists of calls (crates/example), each in one call; then a call that is lent one told number too few.
-use c_api_show::begin;
-use c_api_show::end;
-use c_api_show::one;
-use c_api_show::six;
 use libc::STDOUT_FILENO;
+use number_lines::print_line;
 
 fn text(kind: u32, map: &[u64], text: &[u8]) {
     let mut out = [0u8; 33473];
     let mut warnings = [0u64; 4174];
     let mut told = [0u64; 7];
     let number = c_api::retimer_text(kind, 30000, map, text, &mut out, &mut warnings, &mut told);
-    begin(b"text", number);
-    six(&told, 0);
-    one(told[6]);
-    end();
-    begin(b"warned", 0);
-    six(&warnings, 0);
-    end();
-    io::write_all(
-        STDOUT_FILENO,
-        base::front(&out, base::word(&told, 0) as usize),
+    print_line(
+        b"text",
+        &[
+            number as u64,
+            told[0],
+            told[1],
+            told[2],
+            told[3],
+            told[4],
+            told[5],
+            told[6],
+        ],
     );
-    end();
+    print_line(
+        b"warned",
+        &[
+            0,
+            warnings[0],
+            warnings[1],
+            warnings[2],
+            warnings[3],
+            warnings[4],
+            warnings[5],
+        ],
+    );
+    io::write_all(STDOUT_FILENO, base::front(&out, told[0] as usize));
+    io::write_all(STDOUT_FILENO, b"\n");
 }
 
 // One told number too few: 16, and nothing is written.
@@ -30,9 +42,18 @@ fn short(map: &[u64], text: &[u8]) {
     let mut warnings = [0u64; 4174];
     let mut told = [7u64; 6];
     let number = c_api::retimer_text(0, 30000, map, text, &mut out, &mut warnings, &mut told);
-    begin(b"text", number);
-    six(&told, 0);
-    end();
+    print_line(
+        b"text",
+        &[
+            number as u64,
+            told[0],
+            told[1],
+            told[2],
+            told[3],
+            told[4],
+            told[5],
+        ],
+    );
 }
 
 pub fn show(map: &[u64]) {

@@ -1,11 +1,14 @@
 // A map of one segment as the Rust cutter stores it, written and read again.
-use c_api_show::begin;
-use c_api_show::end;
-use c_api_show::one;
-use c_api_show::short;
-use c_api_show::six;
-use c_api_show::small;
 use libc::STDOUT_FILENO;
+use number_lines::print_line;
+
+fn small(n: u8) -> u64 {
+    n as u64
+}
+
+fn wide(n: u32) -> u64 {
+    n as u64
+}
 
 // The four numbers go to `row`.
 fn read_into(
@@ -52,19 +55,26 @@ fn read(text: &[u8]) {
         &mut numbers,
         &mut path_length,
     );
-    begin(b"read", number);
-    short(row[0]);
-    short(row[1]);
-    short(row[2]);
-    short(row[3]);
-    one(numbers);
-    one(path_length);
-    small(path[0]);
-    small(path[1]);
-    small(path[2]);
-    six(&map, 0);
-    one(map[6]);
-    end();
+    let line = [
+        number as u64,
+        wide(row[0]),
+        wide(row[1]),
+        wide(row[2]),
+        wide(row[3]),
+        numbers,
+        path_length,
+        small(path[0]),
+        small(path[1]),
+        small(path[2]),
+        map[0],
+        map[1],
+        map[2],
+        map[3],
+        map[4],
+        map[5],
+        map[6],
+    ];
+    print_line(b"read", &line);
 }
 
 // Too few places: 16 for 6,143 numbers and for 1,023 path bytes, and nothing is written.
@@ -82,11 +92,7 @@ fn read_short(text: &[u8]) {
         &mut numbers,
         &mut path_length,
     );
-    begin(b"short", number);
-    one(map[0]);
-    small(path[0]);
-    one(numbers);
-    end();
+    print_line(b"short", &[number as u64, map[0], small(path[0]), numbers]);
 }
 
 fn path_short(text: &[u8]) {
@@ -103,11 +109,10 @@ fn path_short(text: &[u8]) {
         &mut numbers,
         &mut path_length,
     );
-    begin(b"short", number);
-    one(map[0]);
-    small(path[0]);
-    one(path_length);
-    end();
+    print_line(
+        b"short",
+        &[number as u64, map[0], small(path[0]), path_length],
+    );
 }
 
 pub fn show() {
@@ -124,9 +129,7 @@ pub fn show() {
         &mut text,
         &mut written,
     );
-    begin(b"write", number);
-    one(written);
-    end();
+    print_line(b"write", &[number as u64, written]);
     let n = written as usize;
     io::write_all(STDOUT_FILENO, base::front(&text, n));
     read(base::front(&text, n));
@@ -143,7 +146,5 @@ pub fn show() {
         &mut [0u8; 9],
         &mut written,
     );
-    begin(b"write", few);
-    one(written);
-    end();
+    print_line(b"write", &[few as u64, written]);
 }

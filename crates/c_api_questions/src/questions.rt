@@ -1,8 +1,6 @@
 // Questions about document 01's map: codes and places told to a caller from C. Each place holds a number of its own before.
-use c_api_show::begin;
-use c_api_show::end;
-use c_api_show::one;
 use libc::STDOUT_FILENO;
+use number_lines::print_line;
 
 // Why a caption of start to stop (ASS) is kept or dropped: number, fate, place, ticks cut off, and two causes.
 pub fn why(map: &[u64], start: u64, stop: u64) {
@@ -23,14 +21,18 @@ pub fn why(map: &[u64], start: u64, stop: u64) {
         &mut start_cut,
         &mut end_cut,
     );
-    begin(b"why", number);
-    one(fate);
-    one(place);
-    one(start_cut);
-    one(end_cut);
-    one(causes[0]);
-    one(causes[1]);
-    end();
+    print_line(
+        b"why",
+        &[
+            number as u64,
+            fate,
+            place,
+            start_cut,
+            end_cut,
+            causes[0],
+            causes[1],
+        ],
+    );
 }
 
 // How many starts of a caption of this length survive: number, shifted, clipped, dropped.
@@ -48,27 +50,24 @@ pub fn census(map: &[u64], timescale: u32, length: u64, count: u64) {
         &mut clipped,
         &mut dropped,
     );
-    begin(b"census", number);
-    one(shifted);
-    one(clipped);
-    one(dropped);
-    end();
+    print_line(b"census", &[number as u64, shifted, clipped, dropped]);
 }
 
-fn delay_word(delay: i64) {
+// The delay and the numbers behind it.
+fn print_delay(delay: i64, numbers: &[u64]) {
     if delay == -6 {
-        io::write_all(STDOUT_FILENO, b" -6");
+        print_line(b" -6", numbers);
         return;
     }
     if delay == 0 {
-        io::write_all(STDOUT_FILENO, b" 0");
+        print_line(b" 0", numbers);
         return;
     }
     if delay == 91 {
-        io::write_all(STDOUT_FILENO, b" 91");
+        print_line(b" 91", numbers);
         return;
     }
-    io::write_all(STDOUT_FILENO, b" another");
+    print_line(b" another", numbers);
 }
 
 // The delay that loses least: number, delay, loss, tries, how far off.
@@ -88,12 +87,9 @@ pub fn delay(map: &[u64], captions: &[u64], budget: u32) {
         &mut tried,
         &mut off,
     );
-    begin(b"delay", number);
-    delay_word(delay);
-    one(loss as u64);
-    one(tried as u64);
-    one(off as u64);
-    end();
+    io::write_all(STDOUT_FILENO, b"delay ");
+    io::print_decimal(STDOUT_FILENO, number as u64);
+    print_delay(delay, &[loss as u64, tried as u64, off as u64]);
 }
 
 // A start and an end known between two ticks each: number and judgement.
@@ -107,7 +103,5 @@ pub fn rough(map: &[u64], start_low: u64, start_high: u64, end_low: u64, end_hig
         end_high,
         &mut judgement,
     );
-    begin(b"rough", number);
-    one(judgement);
-    end();
+    print_line(b"rough", &[number as u64, judgement]);
 }

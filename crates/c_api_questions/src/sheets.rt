@@ -1,9 +1,9 @@
 // Document 01's small sheet: T 30000, 10 frames, decode as display, durations 1001, sync 0, 3 and 6; checked, and its map.
-use c_api_show::begin;
-use c_api_show::end;
-use c_api_show::one;
-use c_api_show::six;
-use c_api_show::small;
+use number_lines::print_line;
+
+fn small(n: u8) -> u64 {
+    n as u64
+}
 
 // A word, low byte first, at the place `at`.
 fn word_at(sheet: &mut [u8], at: usize, a: u8, b: u8, c: u8, d: u8) {
@@ -58,34 +58,32 @@ fn show_map(sheet: &[u8], list: &[u8], direction: u32) {
         &mut timescale,
         &mut count,
     );
-    begin(b"map", number);
-    one(timescale as u64);
-    one(count);
-    small(work[1]);
-    small(work[2]);
-    end();
-    begin(b"row", 0);
-    six(&map, 0);
-    end();
-    begin(b"row", 1);
-    six(&map, 6);
-    end();
+    print_line(
+        b"map",
+        &[
+            number as u64,
+            timescale as u64,
+            count,
+            small(work[1]),
+            small(work[2]),
+        ],
+    );
+    print_line(b"row", &[0, map[0], map[1], map[2], map[3], map[4], map[5]]);
+    print_line(
+        b"row",
+        &[1, map[6], map[7], map[8], map[9], map[10], map[11]],
+    );
 }
 
 pub fn show() {
     let mut sheet = [0u8; 1024];
     fill(&mut sheet);
     let mut work = [7u8; 3];
-    begin(b"sheet", c_api::retimer_sheet_check(&sheet, &mut work));
-    small(work[1]);
-    small(work[2]);
-    end();
-    begin(
-        b"list",
-        c_api::retimer_list_check(b"Trim(0,2) ++ Trim(6,8)"),
-    );
-    one(c_api::retimer_list_check(b"Trim(2,0)") as u64);
-    end();
+    let number = c_api::retimer_sheet_check(&sheet, &mut work);
+    print_line(b"sheet", &[number as u64, small(work[1]), small(work[2])]);
+    let good = c_api::retimer_list_check(b"Trim(0,2) ++ Trim(6,8)");
+    let bad = c_api::retimer_list_check(b"Trim(2,0)");
+    print_line(b"list", &[good as u64, bad as u64]);
     show_map(&sheet, b"Trim(0,2) ++ Trim(6,8)", 0);
     show_map(&sheet, b"Trim(2,0)", 0);
     show_map(&sheet, b"", 2);

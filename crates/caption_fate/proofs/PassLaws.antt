@@ -1,7 +1,7 @@
 -- Laws of the segments that a search passes over.
 use mathlib.Core.Path.{_≡_, refl, sym, ap, _∙_}
-use mathlib.Core.Bool.{Bool, true, false, not, cond, _&&_}
-use mathlib.Core.List.{List, [], _∷_, _++_}
+use mathlib.Core.Bool.{Bool, true, false, not, cond}
+use mathlib.Core.List.{List}
 use Prim.Native.Nat.{ℕ, suc, _+_, _*_, _-_, _≤_, _<_}
 use native.Mathlib.Omega.{arith}
 use native.Mathlib.Numerals.{add-one}
@@ -115,9 +115,6 @@ passing-start m a = record { left = refl; passed = record { within = omega arith
 
 passing-length : (m t : List ℕ) (a k : ℕ) → Passing m a k t → length t ≡ length m - 6 * k
 passing-length m t a k p = ap length (p .left) ∙ length-drop (6 * k) m
-
-pub passing-sum : (m t : List ℕ) (a k : ℕ) (x : Bool) → Passing m a k t → x ≡ fourEnded t a → x ≡ true → k + 4 ≤ length m
-passing-sum m t a k x p f e = omega (arith, passing-length m t a k p, four-true t a (sym f ∙ e) .long)
 
 pub passing-less : (t u : List ℕ) (a : ℕ) (x : Bool) → x ≡ fourEnded t a → x ≡ true → u ≡ drop 24 t → length u < length t
 passing-less t u a x f e d = let l : length u ≡ length t - 24 = ap length d ∙ length-drop 24 t in omega (arith, l, four-true t a (sym f ∙ e) .long)

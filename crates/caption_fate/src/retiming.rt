@@ -8,7 +8,7 @@ ghost use mathlib.Core.Path.{_≡_};
 ghost use mathlib.Core.Bool.{true, false, _&&_};
 ghost use Prim.Native.Nat.{_+_, _*_, _≤_, min, max};
 ghost use lib.ListN.{length, drop};
-ghost use Rattle.spec_caption.specs.caption_time.Convert.{startWithin, endWithin};
+ghost use Rattle.spec_time.specs.caption_time.Convert.{startWithin, endWithin};
 ghost use Rattle.spec_map.specs.segment.Segment.{segmentsOf, endBad};
 ghost use Rattle.spec_caption.specs.caption_fate.Hit.{meetsParts};
 ghost use Rattle.spec_caption.specs.caption_fate.Grouped.{boundedBy, segmentsBy};

@@ -5,15 +5,12 @@ use block_timing::before_arrow;
 use block_timing::end_length;
 use block_timing::locate;
 use caption_stamp::Time;
-use spec_runs::caption_rows::Said;
+use spec_rows::caption_rows::Said;
 ghost use mathlib.Core.Path.{_≡_};
-ghost use mathlib.Core.List.{[]};
-ghost use Prim.Native.Nat.{_+_, _-_, _≤_, _<_, _^_};
+ghost use Prim.Native.Nat.{_+_, _≤_, _<_, _^_};
 ghost use lib.ListN.{length};
-ghost use Rattle.spec_format.specs.block_timing.Style.{styleOf};
-ghost use Rattle.spec_format.specs.block_timing.Arrow.{timed};
-ghost use Rattle.spec_format.specs.block_cue.Block.{timingLineSays};
-ghost use Rattle.spec_runs.specs.caption_rows.Said.{timingSaid, blockSaid};
+ghost use Rattle.spec_cue.specs.block_timing.Arrow.{timed};
+ghost use Rattle.spec_rows.specs.caption_rows.Said.{timingSaid, blockSaid};
 
 // The timing line, on line `number`; `size` bytes of words stand from `at` on.
 fn timed(kind: u32, number: u64, line: &[u8], at: usize, size: usize) -> Said

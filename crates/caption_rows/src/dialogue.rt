@@ -8,17 +8,17 @@ use ass_columns::in_section;
 use ass_columns::is_section;
 use ass_columns::names_events;
 use caption_stamp::Time;
-use spec_runs::caption_rows::Said;
+use spec_rows::caption_rows::Said;
 ghost use mathlib.Core.Path.{_≡_};
 ghost use mathlib.Core.List.{[]};
 ghost use Prim.Native.Nat.{suc, _+_, _≤_, _<_, _^_};
 ghost use lib.ListN.{length, drop};
 ghost use Rattle.spec_text.specs.text.Line.{textOf};
-ghost use Rattle.spec_caption.specs.caption_stamp.Read.{timeIn};
-ghost use Rattle.spec_format.specs.ass_columns.Columns.{fields, fieldAt};
-ghost use Rattle.spec_format.specs.ass_line.Line.{timesSay, captionSays, wordSays, lineSays};
-ghost use Rattle.spec_format.specs.ass_line.AssThrough.{columnsAfter};
-ghost use Rattle.spec_runs.specs.caption_rows.Said.{captionSaid, lineSaid, lastWords};
+ghost use Rattle.spec_time.specs.caption_stamp.Read.{timeIn};
+ghost use Rattle.spec_ass.specs.ass_columns.Columns.{fields, fieldAt};
+ghost use Rattle.spec_ass.specs.ass_line.Line.{timesSay, captionSays, wordSays, lineSays};
+ghost use Rattle.spec_ass.specs.ass_line.AssThrough.{columnsAfter};
+ghost use Rattle.spec_rows.specs.caption_rows.Said.{captionSaid, lineSaid, lastWords};
 
 // What a line gives, and the columns for the next one.
 pub struct LineRead {

@@ -1,10 +1,10 @@
 // A row written.
-use spec_runs::caption_rows::Said;
+use spec_rows::caption_rows::Said;
 ghost use mathlib.Core.Path.{_≡_};
 ghost use mathlib.Core.Bool.{cond};
 ghost use Prim.Native.Nat.{_+_, _<_, _^_};
 ghost use Rattle.spec_base.specs.base.Put.{placedAt, placeAfter};
-ghost use Rattle.spec_runs.specs.caption_rows.Walk.{sixSaid, rowsSaid};
+ghost use Rattle.spec_rows.specs.caption_rows.Walk.{sixSaid, rowsSaid};
 
 // Writes six numbers from the place `at` on, and answers the place after them; where they do not fit, nothing and `at`.
 fn six_at(rows: &mut [u64], at: usize, said: Said) -> usize

@@ -1,7 +1,7 @@
 // What a line or a block gives: a fault, nothing, or a caption.
-use spec_runs::caption_rows::Said;
+use spec_rows::caption_rows::Said;
 ghost use mathlib.Core.Path.{_≡_};
-ghost use Rattle.spec_runs.specs.caption_rows.Said.{atFault};
+ghost use Rattle.spec_rows.specs.caption_rows.Said.{atFault};
 
 // No caption: with 0 nothing, else a fault on a line.
 pub fn without(number: u32, line: u64) -> Said

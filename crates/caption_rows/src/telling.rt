@@ -9,9 +9,9 @@ ghost use lib.ListN.{length};
 ghost use Rattle.spec_base.specs.base.Limits.{mostTaken};
 ghost use Rattle.spec_base.specs.base.Refusal.{_orElse_, faultUnless};
 ghost use Rattle.spec_base.specs.base.Put.{put};
-ghost use Rattle.spec_caption.specs.caption_time.Kind.{kindBad};
-ghost use Rattle.spec_runs.specs.caption_rows.Walk.{walkOf};
-ghost use Rattle.spec_runs.specs.caption_rows.Cues.{CuesRead};
+ghost use Rattle.spec_time.specs.caption_time.Kind.{kindBad};
+ghost use Rattle.spec_rows.specs.caption_rows.Walk.{walkOf};
+ghost use Rattle.spec_rows.specs.caption_rows.Cues.{CuesRead};
 
 // 16 for the kind, the text's length or too few told places.
 fn arguments_fault(kind: u32, text: usize, told: usize) -> u32

@@ -6,17 +6,17 @@ use crate::rows::counted;
 use crate::rows::row_at;
 use crate::said::without;
 use ass_columns::Columns;
-use spec_runs::caption_rows::Said;
-use spec_runs::caption_rows::Walked;
+use spec_rows::caption_rows::Said;
+use spec_rows::caption_rows::Walked;
 ghost use mathlib.Core.Path.{_≡_};
 ghost use mathlib.Core.List.{[]};
 ghost use Prim.Native.Nat.{_+_, _≤_, _<_, _^_};
 ghost use lib.ListN.{length, drop};
 ghost use Rattle.spec_base.specs.base.Limits.{mostTaken};
 ghost use Rattle.spec_text.specs.text.Line.{linesOf};
-ghost use Rattle.spec_format.specs.ass_columns.Columns.{noColumns};
+ghost use Rattle.spec_ass.specs.ass_columns.Columns.{noColumns};
 ghost use Rattle.promise.specs.Plain.{bomLength, lineFault};
-ghost use Rattle.spec_runs.specs.caption_rows.Walk.{assTurn, assNext, assWalk, blockTurn, blockFrom, blockFirst, blockWalk, headTurn, vttWalk, walkOf, lineFrom, between, WalkedBy};
+ghost use Rattle.spec_rows.specs.caption_rows.Walk.{assTurn, assNext, assWalk, blockTurn, blockFrom, blockFirst, blockWalk, vttWalk, walkOf, lineFrom, between, WalkedBy};
 
 // The open block after a line: where it begins, and how many lines came before it.
 struct Turn {

@@ -3,7 +3,7 @@ mod read;
 mod write;
 
 pub use read::read_time;
-pub use spec_caption::caption_stamp::Time;
+pub use spec_time::caption_stamp::Time;
 pub use write::digits;
 pub use write::last_digits;
 pub use write::write_time;

@@ -2,13 +2,17 @@
 use caption_time::kind_bad;
 use caption_time::mark_of;
 use caption_time::units_of;
-use spec_caption::caption_stamp::Time;
+use spec_time::caption_stamp::Time;
 use text::Number;
 ghost use mathlib.Core.Path.{_≡_};
-ghost use Prim.Native.Nat.{_+_, _*_, _≤_};
+ghost use Prim.Native.Nat.{_+_, _*_, _≤_, _<_};
 ghost use Rattle.spec_base.specs.base.Limits.{mostHours, mostMinutes, mostSeconds};
 ghost use Rattle.spec_text.specs.pattern.Find.{upTo, past};
-ghost use Rattle.spec_caption.specs.caption_stamp.Read.{colon, timeFrom, timeWith, wideBy, wideFrom, minutesOn, vttTime, markIn, timeIn, Below};
+ghost use Rattle.spec_time.specs.caption_stamp.Read.{colon, timeFrom, timeWith, wideBy, wideFrom, minutesOn, vttTime, markIn, timeIn, Below};
+ghost use Rattle.caption_stamp.specs.Plain.{noUnits, Pair, Parts, Read};
+
+// More than the units of a time with two digits of hours.
+const NO_UNITS: u64 = 4294967296;
 
 // The units of hours, minutes, seconds and a fraction.
 fn units_from(h: u32, m: u32, s: u32, f: u32, unit: u32) -> u64
@@ -125,6 +129,104 @@ fn read_vtt(text: &[u8]) -> Time
     minutes_on(Number::Value(none), text)
 }
 
+// The value of two digits; 1000 where one of them is none.
+fn pair(a: u8, b: u8) -> u32
+    ensures { λ r. ⌜ Pair a b r × (r ≤ 1000) ⌝ }
+{
+    if a < 0x30 {
+        return 1000;
+    }
+    if 0x39 < a {
+        return 1000;
+    }
+    if b < 0x30 {
+        return 1000;
+    }
+    if 0x39 < b {
+        return 1000;
+    }
+    (a - 0x30) as u32 * 10 + (b - 0x30) as u32
+}
+
+// The units of four parts within their limits, the hours below 100; else NO_UNITS.
+fn parts_units(h: u32, m: u32, s: u32, f: u32, unit: u32) -> u64
+    requires { ⌜ unit ≤ 1000 ⌝ }
+    ensures { λ r. ⌜ Parts h m s f unit r ⌝ }
+{
+    if 99 < h {
+        return NO_UNITS;
+    }
+    if base::MOST_MINUTES < m {
+        return NO_UNITS;
+    }
+    if base::MOST_SECONDS < s {
+        return NO_UNITS;
+    }
+    if unit <= f {
+        return NO_UNITS;
+    }
+    units_from(h, m, s, f, unit)
+}
+
+// The units of h:mm:ss.ff, digits alone and each part within its limit; else NO_UNITS.
+fn plain_ass(t: &[u8]) -> u64
+    ensures { λ r. ⌜ Read 0 (now (t .entry)) r ⌝ }
+{
+    if t.len() != 10 {
+        return NO_UNITS;
+    }
+    if t[1] != b':' {
+        return NO_UNITS;
+    }
+    if t[4] != b':' {
+        return NO_UNITS;
+    }
+    if t[7] != b'.' {
+        return NO_UNITS;
+    }
+    let h = pair(b'0', t[0]);
+    let m = pair(t[2], t[3]);
+    let s = pair(t[5], t[6]);
+    let f = pair(t[8], t[9]);
+    parts_units(h, m, s, f, 100)
+}
+
+// The units of hh:mm:ss,fff, digits alone and each part within its limit; else NO_UNITS.
+fn plain_srt(t: &[u8]) -> u64
+    ensures { λ r. ⌜ Read 1 (now (t .entry)) r ⌝ }
+{
+    if t.len() != 12 {
+        return NO_UNITS;
+    }
+    if t[2] != b':' {
+        return NO_UNITS;
+    }
+    if t[5] != b':' {
+        return NO_UNITS;
+    }
+    if t[8] != b',' {
+        return NO_UNITS;
+    }
+    let h = pair(t[0], t[1]);
+    let m = pair(t[3], t[4]);
+    let s = pair(t[6], t[7]);
+    let f = pair(b'0', t[9]) * 100 + pair(t[10], t[11]);
+    parts_units(h, m, s, f, 1000)
+}
+
+// The units of a trimmed time in the form that most texts have; else NO_UNITS.
+fn plain_units(t: &[u8], kind: u32) -> u64
+    ensures { λ r. ⌜ Read kind (now (t .entry)) r ⌝ }
+{
+    if kind == 0 {
+        return plain_ass(t);
+    }
+    if kind == 1 {
+        return plain_srt(t);
+    }
+    NO_UNITS
+}
+
 // Reads a time, trimmed first, and tells the mark that it saw.
 pub fn read_time(text: &[u8], kind: u32) -> Time
     ensures { λ r. ⌜ r ≡ timeIn kind (now (text .entry)) ⌝ }
@@ -135,6 +237,10 @@ pub fn read_time(text: &[u8], kind: u32) -> Time
     let t = whitespace::trimmed(text);
     if kind == 2 {
         return read_vtt(t);
+    }
+    let units = plain_units(t, kind);
+    if units < NO_UNITS {
+        return Time::At(units, mark_of(kind));
     }
     read_with(t, units_of(kind), mark_in(t, kind))
 }

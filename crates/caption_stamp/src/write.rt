@@ -8,7 +8,7 @@ ghost use mathlib.Core.List.{_∷_};
 ghost use Prim.Native.Nat.{_≤_, _<_};
 ghost use lib.ListN.{length};
 ghost use Rattle.spec_base.specs.base.Put.{put, placed, placedLength, placedAt, placeAfter};
-ghost use Rattle.spec_caption.specs.caption_stamp.Write.{pad, width, widest, textWith, timeText};
+ghost use Rattle.spec_time.specs.caption_stamp.Write.{pad, width, widest, textWith, timeText};
 
 // The last k decimal digits of n, written to the start of out.
 fn put_digits(out: &mut [u8], n: u64, k: usize)

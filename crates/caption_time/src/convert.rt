@@ -1,11 +1,11 @@
 // Conversions between units and ticks: lone ones with their refusals, and those of captions.
 use crate::kind::kind_bad;
 use crate::kind::units_of;
-use spec_caption::caption_time::Converted;
+use spec_time::caption_time::Converted;
 ghost use mathlib.Core.Path.{_≡_};
 ghost use Prim.Native.Nat.{_*_, _/_, _^_, _≤_, _<_};
-ghost use Rattle.spec_caption.specs.caption_time.Kind.{unitsOf};
-ghost use Rattle.spec_caption.specs.caption_time.Convert.{scaledUp, ticksOf, startUnits, endUnits, timescaleBad, settingNumber, unitsNumber, ticksNumber, convertedTo, coreHolds, ticksWithin, startWithin, endWithin};
+ghost use Rattle.spec_time.specs.caption_time.Kind.{unitsOf};
+ghost use Rattle.spec_time.specs.caption_time.Convert.{scaledUp, ticksOf, startUnits, endUnits, timescaleBad, settingNumber, unitsNumber, ticksNumber, convertedTo, coreHolds, ticksWithin, startWithin, endWithin};
 
 // The limits of captions' conversions; specs/Convert has the same as definitions.
 const CORE_TIMESCALE: u32 = 1000000000;

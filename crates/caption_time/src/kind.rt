@@ -1,6 +1,6 @@
 // The kinds of captions, 0 ASS, 1 SRT and 2 WebVTT, and what each of them fixes about times.
 ghost use mathlib.Core.Path.{_≡_};
-ghost use Rattle.spec_caption.specs.caption_time.Kind.{kindBad, unitsOf, markOf, fractionDigits, hourDigits};
+ghost use Rattle.spec_time.specs.caption_time.Kind.{kindBad, unitsOf, markOf, fractionDigits, hourDigits};
 
 // Whether there is no such kind.
 pub fn kind_bad(kind: u32) -> bool

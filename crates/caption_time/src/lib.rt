@@ -16,4 +16,4 @@ pub use kind::hour_digits;
 pub use kind::kind_bad;
 pub use kind::mark_of;
 pub use kind::units_of;
-pub use spec_caption::caption_time::Converted;
+pub use spec_time::caption_time::Converted;

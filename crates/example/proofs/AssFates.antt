@@ -11,9 +11,9 @@ use Rattle.spec_text.specs.pattern.Find.{starts, equals, first, contains, upTo,
 use Rattle.spec_text.specs.pattern.Piece.{piecesFrom, pieces}
 use Rattle.spec_text.specs.text.Number.{digit, digits, valueFrom, natural, unsigned, number}
 use Rattle.spec_text.specs.text.Line.{linesOf, textOf, terminatorLength, terminatorOf}
-use Rattle.spec_caption.specs.caption_time.Kind.{kindBad, unitsOf, markOf}
-use Rattle.spec_caption.specs.caption_time.Convert.{ticksOf, startUnits, endUnits, scaledUp}
-use Rattle.spec_caption.specs.caption_stamp.Read.{markIn, timeWith, timeIn}
+use Rattle.spec_time.specs.caption_time.Kind.{kindBad, unitsOf, markOf}
+use Rattle.spec_time.specs.caption_time.Convert.{ticksOf, startUnits, endUnits, scaledUp}
+use Rattle.spec_time.specs.caption_stamp.Read.{markIn, timeWith, timeIn}
 use Rattle.spec_map.specs.declared.segment.Segment.{Segment}
 use Rattle.spec_map.specs.segment.Segment.{flatOf, segmentsOf, endBad, segmentBad, anyBad, mapBad}
 use Rattle.spec_caption.specs.declared.caption_fate.Config.{Config}
@@ -23,13 +23,13 @@ use Rattle.spec_caption.specs.caption_fate.Decide.{decideTicks, decideOf}
 use Rattle.spec_caption.specs.caption_fate.Fates.{Fate, dropped, shifted, clipped, Right}
 use Rattle.spec_caption.specs.caption_fate.Says.{Cue}
 use Rattle.spec_caption.specs.caption_fate.Emit.{Caption, none, decided, Emit, emitBy}
-use Rattle.spec_format.specs.ass_columns.Columns.{namesIn, placeIn, columnsIn, fields, fieldAt}
-use Rattle.spec_format.specs.ass_write.Tags.{holdsAny}
-use Rattle.spec_format.specs.ass_columns.Section.{bracketed, inside}
-use Rattle.spec_format.specs.ass_write.Frame.{pieceAt, fieldPieces}
-use Rattle.spec_format.specs.ass_line.Line.{captionSays, wordSays, textSays, lineSays}
+use Rattle.spec_ass.specs.ass_columns.Columns.{namesIn, placeIn, columnsIn, fields, fieldAt}
+use Rattle.spec_ass.specs.ass_write.Tags.{holdsAny}
+use Rattle.spec_ass.specs.ass_columns.Section.{bracketed, inside}
+use Rattle.spec_ass.specs.ass_write.Frame.{pieceAt, fieldPieces}
+use Rattle.spec_ass.specs.ass_line.Line.{captionSays, wordSays, textSays, lineSays}
 use Rattle.table.specs.Example.{setting}
-use Rattle.spec_session.specs.session_counts.Calls.{readerRefusal, readingOf}
+use Rattle.spec_machine.specs.session_counts.Calls.{readerRefusal, readingOf}
 use Rattle.promise.specs.Demand.{CueRight, AllRight}
 use Rattle.promise.specs.Plain.{lineFault, assRead, linesSay, plainRead}
 use Rattle.example.specs.Worked.{plainMap, plainFour}

@@ -7,17 +7,17 @@ use Prim.Native.Nat.{ℕ}
 use lib.ListN.{length}
 use Rattle.spec_base.specs.base.Limits.{mostWork}
 use Rattle.sheet_vectors.specs.Small.{smallSheet}
-use Rattle.spec_caption.specs.caption_time.Kind.{kindBad}
+use Rattle.spec_time.specs.caption_time.Kind.{kindBad}
 use Rattle.spec_map.specs.segment.Segment.{flatOf, segmentsOf}
 use Rattle.spec_map.specs.segmap.Map.{Map}
-use Rattle.spec_format.specs.declared.ass_columns.Columns.{Columns}
+use Rattle.spec_ass.specs.declared.ass_columns.Columns.{Columns}
 use Rattle.table.specs.Example.{theList, theMap, setting}
 use Rattle.table.proofs.TheMap.{map-is}
-use Rattle.spec_session.specs.session_counts.Session as model
-use Rattle.spec_session.specs.session_counts.Session.{Call, fresh, openSession}
-use Rattle.spec_session.specs.session_counts.Calls.{newReader, hear, readingOf}
-use Rattle.spec_session.proofs.session_counts.Numbers.{opened as opened-good, opens-fresh}
-use Rattle.spec_session.specs.kinds.Kit.{kit}
+use Rattle.spec_machine.specs.session_counts.Session as model
+use Rattle.spec_machine.specs.session_counts.Session.{Call, fresh, openSession}
+use Rattle.spec_machine.specs.session_counts.Calls.{newReader, hear, readingOf}
+use Rattle.spec_machine.proofs.session_counts.Numbers.{opened as opened-good, opens-fresh}
+use Rattle.spec_machine.specs.kinds.Kit.{kit}
 use Rattle.spec_session.specs.session_state.View.{stored}
 use Rattle.spec_session.specs.session.SessionCalls.{OpenAnswered, openOf}
 use Rattle.promise.specs.Plain.{plainRead}

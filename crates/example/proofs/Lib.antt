@@ -6,3 +6,4 @@ pub mod SrtRun
 pub mod VttRun
 pub mod VttRows
 pub mod StoredRun
+pub mod ParkedRows

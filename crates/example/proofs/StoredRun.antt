@@ -8,19 +8,19 @@ use Prim.Native.Nat.{ℕ, _≤_}
 use lib.ListN.{length}
 use borrow.Author.Tests.{le-leb}
 use Rattle.spec_base.specs.base.Limits.{mostWork}
-use Rattle.spec_base.specs.base.Refusal.{_orElse_, faultUnless}
+use Rattle.spec_base.specs.base.Refusal.{faultUnless}
 use Rattle.spec_base.proofs.base.RefusalLaws.{else-none}
 use Rattle.sheet_vectors.specs.Small.{smallSheet}
 use Rattle.spec_map.specs.segment.Segment.{flatOf}
 use Rattle.spec_map.specs.segmap.Map.{Map}
 use Rattle.table.specs.Example.{theList, theMap}
 use Rattle.table.proofs.TheMap.{map-is}
-use Rattle.spec_session.specs.session_counts.Session.{Call, openSession}
-use Rattle.spec_session.specs.session_counts.Calls.{newReader, hear}
-use Rattle.spec_session.proofs.session_counts.Counted.{counted-by}
-use Rattle.spec_session.specs.kinds.Kit.{kit}
+use Rattle.spec_machine.specs.session_counts.Session.{Call, openSession}
+use Rattle.spec_machine.specs.session_counts.Calls.{newReader, hear}
+use Rattle.spec_machine.proofs.session_counts.Counted.{counted-by}
+use Rattle.spec_machine.specs.kinds.Kit.{kit}
 use Rattle.spec_session.specs.session.SessionCalls.{openOf}
-use Rattle.spec_parking.specs.parked_blocks.Sealed.{sealedLength}
+use Rattle.spec_parked_blocks.specs.parked_blocks.Sealed.{sealedLength}
 use Rattle.promise.specs.Plain.{plainRead}
 use Rattle.promise.specs.Demand.{Demand, heard}
 use Rattle.promise.specs.Promise.{configOf}

@@ -4,7 +4,7 @@ use Prim.Native.Nat.{ℕ}
 use lib.ListN.{length}
 use Rattle.spec_base.specs.base.Put.{put}
 use Rattle.spec_caption.specs.caption_fate.Emit.{outputOf, warningsOf, placesOf}
-use Rattle.spec_session.specs.session_counts.Session.{Call}
+use Rattle.spec_machine.specs.session_counts.Session.{Call}
 use Rattle.spec_session.specs.declared.session_state.Session.{Session}
 use Rattle.spec_session.specs.declared.session.Fed.{Fed}
 use Rattle.spec_session.specs.session.SessionCalls.{feedCall, finishCall, answerOf, nextOf}

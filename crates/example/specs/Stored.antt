@@ -4,7 +4,7 @@ use mathlib.Core.List.{List, [], _∷_}
 use Prim.Native.Nat.{ℕ}
 use lib.ListN.{length, getD}
 use Rattle.spec_base.specs.base.Put.{put}
-use Rattle.spec_session.specs.session_counts.Session.{Call}
+use Rattle.spec_machine.specs.session_counts.Session.{Call}
 use Rattle.spec_parking.specs.session_bytes.ByteCalls.{callNumber, bytesAfter, textOut, placesIn, toldIn}
 use Rattle.spec_runs.specs.keptruns.Kept.{Left, KeptCall, fed, finished}
 use Rattle.spec_runs.specs.keptruns.Claims.{firstBytes}

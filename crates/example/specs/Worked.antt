@@ -7,13 +7,13 @@ use lib.ListN.{length}
 use Rattle.spec_map.specs.segment.Segment.{segment, flatOf}
 use Rattle.spec_map.specs.segmap.Map.{Map}
 use Rattle.spec_caption.specs.caption_fate.Emit.{Warning, outputOf, warningsOf}
-use Rattle.spec_format.specs.declared.ass_columns.Columns.{Columns}
+use Rattle.spec_ass.specs.declared.ass_columns.Columns.{Columns}
 use Rattle.table.specs.Example.{theMap, setting}
-use Rattle.spec_session.specs.declared.session_counts.Counts.{Counts}
-use Rattle.spec_session.specs.session_counts.Counts.{countsOf}
-use Rattle.spec_session.specs.session_counts.Session.{Call, fresh}
-use Rattle.spec_session.specs.session_counts.Calls.{Played, Heard, newReader, hear, readingOf, emitsIn}
-use Rattle.spec_session.specs.kinds.Kit.{kit}
+use Rattle.spec_machine.specs.declared.session_counts.Counts.{Counts}
+use Rattle.spec_machine.specs.session_counts.Counts.{countsOf}
+use Rattle.spec_machine.specs.session_counts.Session.{Call, fresh}
+use Rattle.spec_machine.specs.session_counts.Calls.{Played, Heard, newReader, hear, readingOf, emitsIn}
+use Rattle.spec_machine.specs.kinds.Kit.{kit}
 use Rattle.spec_session.specs.session_state.View.{stored}
 use Rattle.spec_session.specs.declared.session.Opened.{Opened}
 use Rattle.spec_session.specs.session.SessionCalls.{feedCall, finishCall}

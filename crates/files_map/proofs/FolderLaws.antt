@@ -1,11 +1,10 @@
 -- Laws of paths, and of a file's bytes in a buffer.
-use mathlib.Core.Path.{_≡_, refl, sym, ap, subst, _∙_}
-use mathlib.Core.Bool.{Bool, true, false, cond}
+use mathlib.Core.Path.{_≡_, refl, sym, ap, _∙_}
+use mathlib.Core.Bool.{Bool, cond}
 use mathlib.Core.List.{List, [], _∷_, _++_, append-assoc}
 use Prim.Native.Nat.{ℕ, _+_, _-_, _≤_, _<_}
 use native.Mathlib.Omega.{arith}
 use borrow.Author.Tests.{eq-eqb, ne-eqb}
-use lib.Dec.{eqb}
 use lib.ListN.{length, take, replicate, length-append, length-take, length-replicate}
 use Rattle.spec_base.specs.base.Put.{put, placed, placedLength, placedAt, placeAfter}
 use Rattle.spec_base.proofs.base.PutLaws.{put-nil, placed-yes, placed-no, length-yes, length-no, then-placed}

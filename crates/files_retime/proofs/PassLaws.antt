@@ -4,8 +4,6 @@ use mathlib.Core.List.{List, [], _∷_}
 use Prim.Native.Nat.{ℕ, _≤_}
 use lib.ListN.{length, take, length-take}
 use native.Mathlib.Omega.{arith}
-use Rattle.spec_base.specs.base.Limits.{mostPiece, leastOutput, leastPlaces}
-use Rattle.spec_base.specs.base.Refusal.{_orElse_}
 use Rattle.spec_base.proofs.base.RefusalLaws.{else-none, else-found}
 use Rattle.spec_session.specs.declared.session_state.Session.{Session}
 use Rattle.spec_session.specs.declared.session.Fed.{Fed}

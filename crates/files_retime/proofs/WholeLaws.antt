@@ -1,5 +1,5 @@
 -- From an open on, then from the bytes of a sheet and a list on.
-use mathlib.Core.Path.{_≡_, refl, sym, ap, subst, _∙_}
+use mathlib.Core.Path.{_≡_, refl, ap, _∙_}
 use mathlib.Core.List.{List, []}
 use Prim.Native.Nat.{ℕ, _≤_, _<_, _*_}
 use lib.ListN.{length, take}
@@ -15,7 +15,7 @@ use Rattle.spec_map.specs.segmap.Map.{Map, mapOf, madeOf}
 use Rattle.spec_map.proofs.segmap.Built.{map-front}
 use Rattle.spec_session.specs.declared.session_state.Session.{Session}
 use Rattle.spec_session.specs.declared.session.Opened.{Opened}
-use Rattle.spec_session.specs.session.SessionCalls.{OpenAnswered, openOf}
+use Rattle.spec_session.specs.session.SessionCalls.{OpenAnswered}
 use Rattle.files_retime.specs.Retimed.{passNumber, runNumber, throughMap, retimeNumber, Passes, Runs, Chooses, Retimes}
 
 -- ---- one file

@@ -11,7 +11,7 @@ use Rattle.spec_map.specs.segment.Segment.{flatOf}
 use Rattle.spec_map.specs.segmap.Map.{Map, mapOf}
 use Rattle.spec_session.specs.declared.session_state.Session.{Session}
 use Rattle.spec_session.specs.session_state.View.{stored}
-use Rattle.spec_session.specs.session_counts.Session.{Call}
+use Rattle.spec_machine.specs.session_counts.Session.{Call}
 use Rattle.spec_session.specs.session.SessionCalls.{feedCall, finishCall, answerOf, nextOf, openOf}
 
 -- the calls, lent the least output and places

@@ -1,14 +1,14 @@
 -- Laws of the questions.
-use mathlib.Core.Path.{_≡_, refl, sym, ap, _∙_}
-use mathlib.Core.Bool.{Bool, true, false, cond}
-use mathlib.Core.List.{List, [], _∷_}
+use mathlib.Core.Path.{_≡_, sym, ap, _∙_}
+use mathlib.Core.Bool.{Bool, true, false}
+use mathlib.Core.List.{List}
 use Prim.Native.Nat.{ℕ}
 use Rattle.spec_base.proofs.base.Laws.{yes!, no! }
 use Rattle.spec_text.specs.whitespace.White.{trim}
-use Rattle.spec_caption.specs.caption_time.Kind.{kindBad}
-use Rattle.spec_caption.specs.declared.caption_stamp.Time.{Time}
-use Rattle.spec_caption.specs.declared.caption_stamp.Time.the-variants.{At, Bad}
-use Rattle.spec_caption.specs.caption_stamp.Read.{timeIn}
+use Rattle.spec_time.specs.caption_time.Kind.{kindBad}
+use Rattle.spec_time.specs.declared.caption_stamp.Time.{Time}
+use Rattle.spec_time.specs.declared.caption_stamp.Time.the-variants.{At, Bad}
+use Rattle.spec_time.specs.caption_stamp.Read.{timeIn}
 use Rattle.files_why.specs.declared.question.Question.{Question}
 use Rattle.files_why.specs.Question.{kindOf, wordOf, behindWord, unread, bothRead, askedBy, questionOf}
 

@@ -2,13 +2,12 @@
 use mathlib.Core.Bool.{cond}
 use mathlib.Core.List.{List, [], _∷_}
 use Prim.Native.Nat.{ℕ}
-use lib.Dec.{eqb}
 use Rattle.spec_text.specs.whitespace.White.{trim}
 use Rattle.spec_text.specs.pattern.Find.{equals, upTo, past}
-use Rattle.spec_caption.specs.caption_time.Kind.{kindBad}
-use Rattle.spec_caption.specs.declared.caption_stamp.Time.{Time}
-use Rattle.spec_caption.specs.declared.caption_stamp.Time.the-variants.{At, Bad}
-use Rattle.spec_caption.specs.caption_stamp.Read.{timeIn}
+use Rattle.spec_time.specs.caption_time.Kind.{kindBad}
+use Rattle.spec_time.specs.declared.caption_stamp.Time.{Time}
+use Rattle.spec_time.specs.declared.caption_stamp.Time.the-variants.{At, Bad}
+use Rattle.spec_time.specs.caption_stamp.Read.{timeIn}
 use Rattle.files_why.specs.declared.question.Question.{Question}
 
 -- the kind that a word names: `ass` 0, `srt` 1, `vtt` 2; 3 where it names none

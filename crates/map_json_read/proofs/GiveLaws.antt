@@ -11,10 +11,10 @@ use lib.Seq.{length-take-le}
 use Rattle.spec_base.specs.base.Limits.{mostFrame, mostSegments}
 use Rattle.spec_base.specs.base.Refusal.{_orElse_, faultUnless}
 use Rattle.spec_base.specs.base.Put.{put, placed, placedLength}
-use Rattle.spec_base.proofs.base.Laws.{yes!, no! }
+use Rattle.spec_base.proofs.base.Laws.{yes!, no!, and-left, and-right}
 use Rattle.spec_base.proofs.base.PutLaws.{take-put, put-nil, placed-yes, length-yes}
 use Rattle.spec_base.proofs.base.Refusals.{stops-bad, goes-bad, stops-over, goes-under, last-over, last-under, stops-good, goes-good}
-use Rattle.spec_caption.specs.caption_time.Convert.{timescaleBad}
+use Rattle.spec_time.specs.caption_time.Convert.{timescaleBad}
 use Rattle.spec_map.specs.segment.Segment.{mapBad}
 use Rattle.spec_map.proofs.segment.SegmentLaws.{left-many, flat-length}
 use Rattle.spec_text.specs.utf8.Utf8.{utf8}
@@ -22,18 +22,18 @@ use Rattle.spec_json.specs.json.Space.{padded}
 use Rattle.spec_json.specs.json.Value.{valueWidth}
 use Rattle.spec_json.specs.json.Str.{stringBytes}
 use Rattle.spec_json.specs.json.Member.{Member, bare, elementsOf, membersOf, fieldOf}
-use Rattle.spec_json.specs.map_json_write.Names.{timescaleName, rateNumName, rateDenName, inputName, framesName, segmentsName, mostPath}
-use Rattle.spec_json.specs.map_json_write.Reads.{short, pathSaid, listSaid, numberOf, segmentsFrom, shallow, fieldsSaid, fields, isMapText, mapSaid}
+use Rattle.spec_map_json.specs.map_json_write.Names.{timescaleName, rateNumName, rateDenName, inputName, framesName, segmentsName, mostPath}
+use Rattle.spec_map_json.specs.map_json_write.Reads.{short, pathSaid, listSaid, numberOf, segmentsFrom, shallow, fieldsSaid, fields, isMapText, mapSaid}
 use Rattle.map_json_read.specs.declared.fields.Heads.{Heads}
 use Rattle.map_json_read.specs.declared.fields.HeadSlots.{HeadSlots}
 use Rattle.map_json_read.specs.declared.reading.Parts.{Parts}
-use Rattle.spec_json.specs.declared.map_json_read.Taken.{Taken}
+use Rattle.spec_map_json.specs.declared.map_json_read.Taken.{Taken}
 use Rattle.map_json_read.specs.Slots.{headsIn}
 use Rattle.map_json_segments.specs.Listed.{ListRead, listSaidIn}
 use Rattle.map_json_read.specs.Steps.{objectOf, HeadsOf, flatIn, Gathered, PartsOf, saidNumber, listBad, askNumber, Asked, Gives}
-use Rattle.spec_json.specs.map_json_read.MapRead.{noneTaken, readNumber, Reads}
+use Rattle.spec_map_json.specs.map_json_read.MapRead.{noneTaken, readNumber, Reads}
 use Rattle.map_json_segments.proofs.ListLaws.{list-back}
-use Rattle.map_json_segments.proofs.NumberLaws.{left, right, said-value}
+use Rattle.map_json_segments.proofs.NumberLaws.{said-value}
 use Rattle.map_json_read.proofs.PartLaws.{object-says}
 
 none : {A : Type 0} (n k : ℕ) → 0 < k → n ≡ k → n ≡ 0 → A
@@ -43,32 +43,32 @@ none n k h p z = absurd (omega arith)
 module _ (ms : List Member) (g : fieldsSaid ms ≡ true) where
   pub good-scale : short timescaleName ms ≡ true
   unfolding fieldsSaid
-  good-scale = left (short timescaleName ms) _ g
+  good-scale = and-left (short timescaleName ms) _ g
 
   behind-scale : (short rateNumName ms && (short rateDenName ms && (pathSaid (fieldOf inputName ms) && (short framesName ms && (listSaid (fieldOf segmentsName ms) && shallow ms))))) ≡ true
   unfolding fieldsSaid
-  behind-scale = right (short timescaleName ms) _ g
+  behind-scale = and-right (short timescaleName ms) _ g
 
   pub good-num : short rateNumName ms ≡ true
-  good-num = left (short rateNumName ms) _ behind-scale
+  good-num = and-left (short rateNumName ms) _ behind-scale
 
   behind-num : (short rateDenName ms && (pathSaid (fieldOf inputName ms) && (short framesName ms && (listSaid (fieldOf segmentsName ms) && shallow ms)))) ≡ true
-  behind-num = right (short rateNumName ms) _ behind-scale
+  behind-num = and-right (short rateNumName ms) _ behind-scale
 
   pub good-den : short rateDenName ms ≡ true
-  good-den = left (short rateDenName ms) _ behind-num
+  good-den = and-left (short rateDenName ms) _ behind-num
 
   behind-den : (pathSaid (fieldOf inputName ms) && (short framesName ms && (listSaid (fieldOf segmentsName ms) && shallow ms))) ≡ true
-  behind-den = right (short rateDenName ms) _ behind-num
+  behind-den = and-right (short rateDenName ms) _ behind-num
 
   pub good-path : pathSaid (fieldOf inputName ms) ≡ true
-  good-path = left (pathSaid (fieldOf inputName ms)) _ behind-den
+  good-path = and-left (pathSaid (fieldOf inputName ms)) _ behind-den
 
   behind-path : (short framesName ms && (listSaid (fieldOf segmentsName ms) && shallow ms)) ≡ true
-  behind-path = right (pathSaid (fieldOf inputName ms)) _ behind-den
+  behind-path = and-right (pathSaid (fieldOf inputName ms)) _ behind-den
 
   pub good-frames : short framesName ms ≡ true
-  good-frames = left (short framesName ms) _ behind-path
+  good-frames = and-left (short framesName ms) _ behind-path
 
 -- ---- the number, test by test
 pub bad-over : (count : ℕ) (room : List ℕ) → 1024 < count → true ≡ listBad count room
@@ -182,7 +182,7 @@ gathered-of x input list room room′ said said′ h p l g₁ g count k eh ep L 
     }
   where
     l-good : g ≡ true → l ≡ true
-    l-good z = right p l (sym e₁ ∙ right (h .good) g₁ (sym eg ∙ z))
+    l-good z = and-right p l (sym e₁ ∙ and-right (h .good) g₁ (sym eg ∙ z))
 
 pub gathered-all : (x : HeadSlots) (input list room room′ said said′ : List ℕ) (h : Heads) (p l g₁ g : Bool) (count k : ℕ) → length room ≡ 6 * mostSegments → h ≡ headsIn x
     → p ≡ pathSaid input → ListRead (listSaidIn (length room) list) (elementsOf 9 list) l count room room′ → g₁ ≡ (p && l) → g ≡ (h .good && g₁)
@@ -265,7 +265,7 @@ module _ (text room room′ said₀ said₁ map path : List ℕ) (p : Parts) (P 
 
       path-small : p .«path_len» ≤ mostPath
       path-small =
-          let w : length (stringBytes (fieldOf inputName ms)) ≤ mostPath = leb-true _ mostPath (right (eqb (getD (fieldOf inputName ms) 0 0) 0x22) _ (good-path ms said)) in
+          let w : length (stringBytes (fieldOf inputName ms)) ≤ mostPath = leb-true _ mostPath (and-right (eqb (getD (fieldOf inputName ms) 0 0) 0x22) _ (good-path ms said)) in
           let q : p .«path_len» ≡ length (stringBytes (fieldOf inputName ms)) = P .path-length (not-false (p .good) k) in
           omega arith
 

@@ -5,8 +5,8 @@ use mathlib.Core.List.{List}
 use Prim.Native.Nat.{ℕ}
 use lib.Dec.{eqb}
 use Rattle.spec_text.specs.pattern.Find.{equals}
-use Rattle.spec_json.specs.map_json_write.Names.{timescaleName, rateNumName, rateDenName, inputName, framesName, segmentsName}
-use Rattle.spec_json.specs.map_json_write.Reads.{isKnown}
+use Rattle.spec_map_json.specs.map_json_write.Names.{timescaleName, rateNumName, rateDenName, inputName, framesName, segmentsName}
+use Rattle.spec_map_json.specs.map_json_write.Reads.{isKnown}
 use Rattle.map_json_segments.proofs.NameLaws.{test-1, test-2, test-3, test-4, test-5, test-6, test-none, other}
 use Rattle.map_json_read.specs.Slots.{headNamed}
 

@@ -17,8 +17,8 @@ use Rattle.spec_json.specs.json.Walk.{itemWidth, rowOf}
 use Rattle.spec_json.specs.json.Member.{Member, bare, membersOf, valuesOf, fieldOf}
 use Rattle.spec_json.proofs.json.ItemLaws.{value-le, lead-space, item-some}
 use Rattle.spec_json.proofs.json.FrontRows.{members-front, row-object, row-members, no-row}
-use Rattle.spec_json.specs.map_json_write.Names.{timescaleName, rateNumName, rateDenName, inputName, framesName, segmentsName, mostPath}
-use Rattle.spec_json.specs.map_json_write.Reads.{short, pathSaid, listSaid, shallow, fieldsSaid, isMapText}
+use Rattle.spec_map_json.specs.map_json_write.Names.{timescaleName, rateNumName, rateDenName, inputName, framesName, segmentsName, mostPath}
+use Rattle.spec_map_json.specs.map_json_write.Reads.{short, pathSaid, listSaid, shallow, fieldsSaid, isMapText}
 use Rattle.map_json_read.specs.declared.fields.Heads.{Heads}
 use Rattle.map_json_read.specs.declared.walk.Walk.{Walk}
 use Rattle.map_json_segments.specs.Slots.{gathered}
@@ -26,18 +26,16 @@ use Rattle.map_json_read.specs.Slots.{noneWalked, walkedAfter}
 use Rattle.map_json_segments.specs.Fields.{membersIn}
 use Rattle.map_json_read.specs.Walk.{noWalk, walkedOf, WalkIn}
 use Rattle.map_json_read.specs.Steps.{objectOf, HeadsOf}
-use Rattle.map_json_segments.proofs.NumberLaws.{left, right}
-
-and-in : {a b r : Bool} → a ≡ true → r ≡ b → r ≡ (a && b)
-and-in {a} {b} {r} e p = p ∙ ap (λ (x : Bool). x && b) (sym e)
+use Rattle.spec_base.proofs.base.Laws.{and-left, and-right, and-false}
+use Rattle.spec_json.proofs.json.Tests.{and-yes}
 
 -- ---- a path
 module _ (v : List ℕ) (o : Bool) (n : ℕ) (eo : o ≡ eqb (getD v 0 0) 0x22) (h : not o ≡ false) (en : n ≡ length (stringBytes v)) where
   pub path-short : n ≤ 1024 → true ≡ pathSaid v
-  path-short l = and-in (sym eo ∙ not-false o h) (sym (ap (λ (k : ℕ). leb k mostPath) (sym en) ∙ le-leb n mostPath l))
+  path-short l = and-yes (sym eo ∙ not-false o h) (sym (ap (λ (k : ℕ). leb k mostPath) (sym en) ∙ le-leb n mostPath l))
 
   pub path-long : 1024 < n → false ≡ pathSaid v
-  path-long l = and-in (sym eo ∙ not-false o h) (sym (ap (λ (k : ℕ). leb k mostPath) (sym en) ∙ lt-leb n mostPath l))
+  path-long l = and-yes (sym eo ∙ not-false o h) (sym (ap (λ (k : ℕ). leb k mostPath) (sym en) ∙ lt-leb n mostPath l))
 
 -- ---- parts of a text
 pub row-is-behind : (text a r : List ℕ) (n : ℕ) → n ≡ spaces text → a ≡ drop n text → r ≡ drop 1 a → r ≡ drop 1 (drop (spaces text) text)
@@ -66,10 +64,6 @@ bare-text s e = go (tests s)
     go : (t : Bool) → membersOf 10 (cond t (bare 11 s) []) ≡ []
     go true = e
     go false = no-members
-
-and-false : (a : Bool) → (a && false) ≡ false
-and-false true = refl
-and-false false = refl
 
 none-walked : (s r : List ℕ) (x : Walk) → x ≡ noWalk → membersOf 10 (objectOf s) ≡ [] → walkedOf r x ≡ gathered walkedAfter noneWalked (membersOf 10 (objectOf s))
 unfolding gathered
@@ -110,7 +104,7 @@ module _ (text s : List ℕ) (es : s ≡ drop 1 (drop (spaces text) text)) (r : 
   text-other h er = none-walked text s r er (go (valueWidth 11 (drop (spaces text) text)) refl)
     where
       apart : (u o : Bool) → (u && o) ≡ false → (u && (eqb (padded (valueWidth 11) text) (length text) && o)) ≡ false
-      apart true o e = ap (λ (b : Bool). eqb (padded (valueWidth 11) text) (length text) && b) e ∙ and-false (eqb (padded (valueWidth 11) text) (length text))
+      apart true o e = ap (λ (b : Bool). eqb (padded (valueWidth 11) text) (length text) && b) e ∙ sym (and-false (eqb (padded (valueWidth 11) text) (length text)))
       apart false o e = refl
 
       go : (k : ℕ) → valueWidth 11 (drop (spaces text) text) ≡ k → membersOf 10 (objectOf text) ≡ []
@@ -121,10 +115,10 @@ module _ (text s : List ℕ) (es : s ≡ drop 1 (drop (spaces text) text)) (r : 
 
   module _ (h : not f ≡ false) (x : Walk) (X : WalkIn s x) where
     clean : utf8 text ≡ true
-    clean = left (utf8 text) _ (sym ef ∙ not-false f h)
+    clean = and-left (utf8 text) _ (sym ef ∙ not-false f h)
 
     brace : getD (drop (spaces text) text) 0 0 ≡ 0x7B
-    brace = eqb-true _ _ (right (utf8 text) _ (sym ef ∙ not-false f h))
+    brace = eqb-true _ _ (and-right (utf8 text) _ (sym ef ∙ not-false f h))
 
     pub text-none : x .whole ≡ 0 → r ≡ noWalk → walkedOf s r ≡ gathered walkedAfter noneWalked (membersOf 10 (objectOf text))
     text-none z er = none-walked text s r er (go (valueWidth 11 (drop (spaces text) text)) refl)
@@ -166,7 +160,7 @@ module _ (text s : List ℕ) (es : s ≡ drop 1 (drop (spaces text) text)) (r : 
       text-more q er =
           let w : spaces (drop (x .whole) s) ≡ length (drop (x .whole) s) → ⊥ = eqb-false _ _ (sym eg ∙ not-true g q) in
           none-walked text s r er (empty-text text (ap (λ (b : Bool). utf8 text && (b && eqb (getD (bare 11 text) 0 0) 0x7B))
-          (ne-eqb (padded (valueWidth 11) text) (length text) (λ (p : padded (valueWidth 11) text ≡ length text). w (omega (arith, p, width-is, size-is)))) ∙ and-false (utf8 text)))
+          (ne-eqb (padded (valueWidth 11) text) (length text) (λ (p : padded (valueWidth 11) text ≡ length text). w (omega (arith, p, width-is, size-is)))) ∙ sym (and-false (utf8 text))))
 
       pub text-done : not g ≡ false → walkedOf s x ≡ gathered walkedAfter noneWalked (membersOf 10 (objectOf text))
       unfolding objectOf

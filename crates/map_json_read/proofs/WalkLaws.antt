@@ -9,7 +9,7 @@ use lib.Dec.{eqb}
 use lib.ListN.{length, take, drop, getD, length-drop}
 use lib.Seq.{drop-drop}
 use Rattle.spec_base.specs.base.Limits.{mostFrame}
-use Rattle.spec_base.proofs.base.Laws.{yes!, no! }
+use Rattle.spec_base.proofs.base.Laws.{yes!, no!, and-assoc, and-left, and-right}
 use Rattle.spec_base.specs.base.Put.{put}
 use Rattle.spec_base.proofs.base.PutLaws.{placed-yes, length-yes}
 use Rattle.spec_text.specs.pattern.Find.{equals}
@@ -23,8 +23,8 @@ use Rattle.spec_json.specs.json.Walk.{itemWidth, rowOf}
 use Rattle.spec_json.specs.json.Member.{Member, elementsOf, memberOf, membersOf, valuesOf, single, fieldOf}
 use Rattle.spec_json.proofs.json.ItemLaws.{parts-in, item-le, row-bad, row-end, row-stop, row-again, row-in, row-fits-1, row-fits-2, row-fits-3, row-over}
 use Rattle.spec_json.proofs.json.FrontRows.{parts-member}
-use Rattle.spec_json.specs.map_json_write.Names.{timescaleName, rateNumName, rateDenName, inputName, framesName, segmentsName, mostPath}
-use Rattle.spec_json.specs.map_json_write.Reads.{isKnown, shallow, pathSaid, listSaid, segmentsFrom}
+use Rattle.spec_map_json.specs.map_json_write.Names.{timescaleName, rateNumName, rateDenName, inputName, framesName, segmentsName, mostPath}
+use Rattle.spec_map_json.specs.map_json_write.Reads.{isKnown, shallow, pathSaid, listSaid, segmentsFrom}
 use Rattle.map_json_read.specs.declared.fields.Heads.{Heads}
 use Rattle.map_json_read.specs.declared.fields.HeadSlots.{HeadSlots}
 use Rattle.map_json_read.specs.declared.reading.Parts.{Parts}
@@ -35,9 +35,9 @@ use Rattle.map_json_read.specs.Slots.{headNamed, noHeads, seenAfter, kep
 use Rattle.map_json_segments.specs.Fields.{fieldIs, fieldIn, membersIn}
 use Rattle.map_json_read.specs.Walk.{noWalk, walkBy, endedBy, walkedOf, HeadIn, WalkIn}
 use Rattle.map_json_read.specs.Steps.{objectOf, HeadsOf, Gathered, PartsOf}
-use Rattle.map_json_segments.proofs.NumberLaws.{left, right, field-most}
+use Rattle.map_json_segments.proofs.NumberLaws.{field-most}
 use Rattle.map_json_read.proofs.HeadLaws.{head-1, head-2, head-3, head-4, head-5, head-6, head-known}
-use Rattle.map_json_segments.proofs.SlotLaws.{by-number, digitsOf, slot-field, part, and-assoc, good-of, value-of}
+use Rattle.map_json_segments.proofs.SlotLaws.{by-number, digitsOf, slot-field, part, good-of, value-of}
 use Rattle.map_json_segments.proofs.SegmentLaws.{closes, gather-more, gather-last}
 use Rattle.map_json_read.proofs.PartLaws.{fields-all}
 
@@ -346,8 +346,8 @@ parts-done ms x input list w room room′ said said′ p l g =
   where
     fits : p .good ≡ true → length (stringBytes input) ≤ length said
     fits z =
-        let q : pathSaid input ≡ true = left (pathSaid input) _ (right (p .heads .good) _ (sym (g .good-is) ∙ z)) in
-        let b : length (stringBytes input) ≤ mostPath = leb-true _ mostPath (right (eqb (getD input 0 0) 0x22) _ q) in
+        let q : pathSaid input ≡ true = and-left (pathSaid input) _ (and-right (p .heads .good) _ (sym (g .good-is) ∙ z)) in
+        let b : length (stringBytes input) ≤ mostPath = leb-true _ mostPath (and-right (eqb (getD input 0 0) 0x22) _ q) in
         omega arith
 
 pub parts-text : (text s input list room room′ said said′ : List ℕ) (x : Walk) (p : Parts) → walkedOf s x ≡ gathered walkedAfter noneWalked (membersOf 10 (objectOf text))

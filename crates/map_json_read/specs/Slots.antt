@@ -7,8 +7,8 @@ use Rattle.spec_base.specs.base.Limits.{mostFrame}
 use Rattle.spec_text.specs.pattern.Find.{equals}
 use Rattle.spec_json.specs.json.Value.{isValue}
 use Rattle.spec_json.specs.json.Member.{Member}
-use Rattle.spec_json.specs.map_json_write.Names.{timescaleName, rateNumName, rateDenName, inputName, framesName, segmentsName}
-use Rattle.spec_json.specs.map_json_write.Reads.{isKnown}
+use Rattle.spec_map_json.specs.map_json_write.Names.{timescaleName, rateNumName, rateDenName, inputName, framesName, segmentsName}
+use Rattle.spec_map_json.specs.map_json_write.Reads.{isKnown}
 use Rattle.map_json_segments.specs.Slots.{noSlot, slotWith, slotAfter}
 use Rattle.map_json_read.specs.declared.fields.Heads.{Heads}
 use Rattle.map_json_read.specs.declared.fields.HeadSlots.{HeadSlots}

@@ -9,18 +9,18 @@ use Rattle.spec_base.specs.base.Limits.{mostFrame, mostSegments}
 use Rattle.spec_base.specs.base.Refusal.{_orElse_, faultUnless}
 use Rattle.spec_base.specs.base.Put.{put, placed, placedLength}
 use Rattle.spec_text.specs.utf8.Utf8.{utf8}
-use Rattle.spec_caption.specs.caption_time.Convert.{timescaleBad}
+use Rattle.spec_time.specs.caption_time.Convert.{timescaleBad}
 use Rattle.spec_map.specs.segment.Segment.{flatOf, mapBad}
 use Rattle.spec_json.specs.json.Space.{padded}
 use Rattle.spec_json.specs.json.Str.{stringBytes}
 use Rattle.spec_json.specs.json.Value.{valueWidth}
 use Rattle.spec_json.specs.json.Member.{Member, bare, elementsOf, fieldOf}
-use Rattle.spec_json.specs.map_json_write.Names.{timescaleName, rateNumName, rateDenName, inputName, framesName, segmentsName, mostPath}
-use Rattle.spec_json.specs.map_json_write.Reads.{short, numberOf, shallow, segmentsFrom, pathSaid, listSaid, fieldsSaid}
+use Rattle.spec_map_json.specs.map_json_write.Names.{timescaleName, rateNumName, rateDenName, inputName, framesName, segmentsName, mostPath}
+use Rattle.spec_map_json.specs.map_json_write.Reads.{short, numberOf, shallow, segmentsFrom, pathSaid, listSaid, fieldsSaid}
 use Rattle.map_json_read.specs.declared.fields.Heads.{Heads}
 use Rattle.map_json_read.specs.declared.fields.HeadSlots.{HeadSlots}
 use Rattle.map_json_read.specs.declared.reading.Parts.{Parts}
-use Rattle.spec_json.specs.declared.map_json_read.Taken.{Taken}
+use Rattle.spec_map_json.specs.declared.map_json_read.Taken.{Taken}
 use Rattle.map_json_segments.specs.Fields.{fieldIn}
 use Rattle.map_json_read.specs.Slots.{headsIn}
 

@@ -11,7 +11,7 @@ ghost use mathlib.Core.Bool.{_||_, not, cond};
 ghost use lib.Dec.{eqb};
 ghost use Rattle.spec_json.specs.json.Str.{stringBytes};
 ghost use Rattle.spec_json.specs.json.Value.{isValue};
-ghost use Rattle.spec_json.specs.map_json_write.Reads.{pathSaid};
+ghost use Rattle.spec_map_json.specs.map_json_write.Reads.{pathSaid};
 ghost use Rattle.map_json_read.specs.Slots.{headNamed, noHeads, headsBy, wordOf, headsIn};
 
 // Which field of a map a key names, 1 to 6; 0: none.

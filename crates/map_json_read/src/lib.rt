@@ -4,4 +4,4 @@ mod reading;
 mod walk;
 
 pub use reading::read_map;
-pub use spec_json::map_json_read::Taken;
+pub use spec_map_json::map_json_read::Taken;

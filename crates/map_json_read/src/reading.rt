@@ -6,7 +6,7 @@ use crate::fields::path_good;
 use crate::walk::walk_text;
 use map_json_segments::list::list_into;
 use map_json_segments::number::both;
-use spec_json::map_json_read::Taken;
+use spec_map_json::map_json_read::Taken;
 ghost use mathlib.Core.Path.{_≡_};
 ghost use Prim.Native.Nat.{_*_, _≤_};
 ghost use lib.ListN.{length, take, drop};
@@ -14,8 +14,8 @@ ghost use Rattle.spec_base.specs.base.Limits.{mostSegments};
 ghost use Rattle.spec_base.specs.base.Put.{placed, placedLength};
 ghost use Rattle.spec_json.specs.json.Space.{spaces};
 ghost use Rattle.spec_json.specs.json.Member.{membersOf};
-ghost use Rattle.spec_json.specs.map_json_write.Names.{mostPath};
-ghost use Rattle.spec_json.specs.map_json_read.MapRead.{noneTaken, Reads};
+ghost use Rattle.spec_map_json.specs.map_json_write.Names.{mostPath};
+ghost use Rattle.spec_map_json.specs.map_json_read.MapRead.{noneTaken, Reads};
 ghost use Rattle.map_json_read.specs.Steps.{objectOf, Gathered, PartsOf, listBad, Asked, Gives};
 
 fn refused(number: u32) -> Taken

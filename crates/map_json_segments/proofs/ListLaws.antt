@@ -17,7 +17,7 @@ use Rattle.spec_json.specs.json.Value.{valueWidth}
 use Rattle.spec_json.specs.json.Walk.{itemWidth, itemsOf, rowIn, nextRow}
 use Rattle.spec_json.specs.json.Member.{bare, baredAll, elementsOf}
 use Rattle.spec_json.proofs.json.MemberLaws.{items-none, items-end, items-step, next-less, elements-are}
-use Rattle.spec_json.specs.map_json_write.Reads.{segmentsSaid, segmentsFrom, listSaid}
+use Rattle.spec_map_json.specs.map_json_write.Reads.{segmentsSaid, segmentsFrom, listSaid}
 use Rattle.map_json_segments.specs.declared.number.Numbers.{Numbers}
 use Rattle.map_json_segments.specs.Fields.{sixNumbers, SegmentIn}
 use Rattle.map_json_segments.specs.Listed.{ListRead, listSaidIn}

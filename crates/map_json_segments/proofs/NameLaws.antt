@@ -6,7 +6,7 @@ use Prim.Native.Nat.{ℕ}
 use lib.Dec.{eqb}
 use Rattle.spec_text.specs.pattern.Find.{equals}
 use Rattle.spec_text.proofs.pattern.Laws.{equals-true}
-use Rattle.spec_json.specs.map_json_write.Names.{firstName, lastName, sourceName, countName, outputName, durationName}
+use Rattle.spec_map_json.specs.map_json_write.Names.{firstName, lastName, sourceName, countName, outputName, durationName}
 use Rattle.map_json_segments.specs.Slots.{fieldNamed}
 
 -- ---- the first of six tests, where a later one fails behind it

@@ -1,6 +1,6 @@
 -- Laws of fields that are numbers.
 use mathlib.Core.Path.{_≡_, refl, sym, ap, _∙_}
-use mathlib.Core.Bool.{Bool, true, false, _&&_, cond, true≢false}
+use mathlib.Core.Bool.{Bool, true, false, cond, true≢false}
 use mathlib.Core.List.{List, [], _∷_}
 use Prim.Native.Nat.{ℕ, _≤_}
 use native.Mathlib.Omega.{arith}
@@ -9,21 +9,14 @@ use lib.Dec.{eqb}
 use Rattle.spec_text.specs.text.Number.{valueFrom, digits}
 use Rattle.spec_json.specs.json.Num.{isPlain}
 use Rattle.map_json_segments.specs.Fields.{fieldIs}
+use Rattle.spec_base.proofs.base.Laws.{and-right}
 
 -- ---- both of two
-pub left : (x y : Bool) → (x && y) ≡ true → x ≡ true
-left true y q = refl
-left false y q = absurd (true≢false (sym q))
-
-pub right : (x y : Bool) → (x && y) ≡ true → y ≡ true
-right true y q = q
-right false y q = absurd (true≢false (sym q))
-
 -- a plain number is at most its limit
 pub plain-most : (most : ℕ) (s : List ℕ) → isPlain most s ≡ true → valueFrom 0 s ≤ most
 unfolding isPlain
 plain-most most [] e = absurd (true≢false (sym e))
-plain-most most (b ∷ s) e = leb-true (valueFrom 0 (b ∷ s)) most (right (cond (eqb b 0x30) _ true) _ (right (digits (b ∷ s)) _ e))
+plain-most most (b ∷ s) e = leb-true (valueFrom 0 (b ∷ s)) most (and-right (cond (eqb b 0x30) _ true) _ (and-right (digits (b ∷ s)) _ e))
 
 pub field-most : (most : ℕ) (s : List ℕ) → fieldIs most s .value ≤ most
 field-most most s = go (isPlain most s) refl

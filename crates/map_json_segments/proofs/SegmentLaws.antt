@@ -20,8 +20,8 @@ use Rattle.spec_json.proofs.json.ItemLaws.{lead-space, item-some, item-le, valu
 use Rattle.spec_json.proofs.json.MemberLaws.{items-end, items-step, next-comma, next-none}
 use Rattle.spec_json.proofs.json.FrontRows.{within, members-front, bare-front, parts-member, row-object, row-members, no-row}
 use Rattle.spec_map.specs.segment.Segment.{numbersOf}
-use Rattle.spec_json.specs.map_json_write.Names.{firstName, lastName, sourceName, countName, outputName, durationName}
-use Rattle.spec_json.specs.map_json_write.Reads.{short, long, segmentSaid, segmentFrom}
+use Rattle.spec_map_json.specs.map_json_write.Names.{firstName, lastName, sourceName, countName, outputName, durationName}
+use Rattle.spec_map_json.specs.map_json_write.Reads.{short, long, segmentSaid, segmentFrom}
 use Rattle.map_json_segments.specs.declared.number.Numbers.{Numbers}
 use Rattle.map_json_segments.specs.declared.number.Slots.{Slots}
 use Rattle.map_json_segments.specs.declared.number.Found.{Found}

@@ -8,7 +8,7 @@ use borrow.Author.Tests.{eq-eqb, ne-eqb}
 use lib.Dec.{eqb}
 use lib.ListN.{getD}
 use Rattle.spec_base.specs.base.Limits.{mostFrame}
-use Rattle.spec_base.proofs.base.Laws.{yes!, no! }
+use Rattle.spec_base.proofs.base.Laws.{yes!, no!, and-assoc, and-left, and-right}
 use Rattle.spec_text.specs.pattern.Find.{equals}
 use Rattle.spec_text.specs.text.Number.{valueFrom}
 use Rattle.spec_map.specs.segment.Segment.{numbersOf}
@@ -18,14 +18,14 @@ use Rattle.spec_json.specs.json.Num.{isPlain}
 use Rattle.spec_json.specs.json.Plain.{plainOf}
 use Rattle.spec_json.specs.json.Str.{stringBytes}
 use Rattle.spec_json.specs.json.Member.{Member, membersOf, valuesOf, single, fieldOf}
-use Rattle.spec_json.specs.map_json_write.Names.{firstName, lastName, sourceName, countName, outputName, durationName, mostWord}
-use Rattle.spec_json.specs.map_json_write.Reads.{short, long, segmentSaid, segmentFrom}
+use Rattle.spec_map_json.specs.map_json_write.Names.{firstName, lastName, sourceName, countName, outputName, durationName, mostWord}
+use Rattle.spec_map_json.specs.map_json_write.Reads.{short, long, segmentSaid, segmentFrom}
 use Rattle.map_json_segments.specs.declared.number.Numbers.{Numbers}
 use Rattle.map_json_segments.specs.declared.number.Slot.{Slot}
 use Rattle.map_json_segments.specs.declared.number.Slots.{Slots}
 use Rattle.map_json_segments.specs.Slots.{noSlot, badSlot, slotWith, fieldNamed, slotAfter, noSlots, slotsAfter, numbersIn, gathered, slotsFrom}
 use Rattle.map_json_segments.specs.Fields.{Digits, fieldIs, fieldIn, sixNumbers}
-use Rattle.map_json_segments.proofs.NumberLaws.{left, right, said-value}
+use Rattle.map_json_segments.proofs.NumberLaws.{said-value}
 use Rattle.map_json_segments.proofs.NameLaws.{field-1, field-2, field-3, field-4, field-5, field-6}
 
 -- ---- one value more
@@ -170,10 +170,6 @@ module _ (ms : List Member) (x : Slots) (e : x ≡ slotsFrom noSlots ms) where
 pub three-all : (A B C a b c g₁ g : Bool) → a ≡ A → b ≡ B → c ≡ C → g₁ ≡ (b && c) → g ≡ (a && g₁) → g ≡ (A && (B && C))
 three-all A B C a b c g₁ g ea eb ec e₁ eg = cc
 
-pub and-assoc : (a b c : Bool) → ((a && b) && c) ≡ (a && (b && c))
-and-assoc true b c = refl
-and-assoc false b c = refl
-
 and-six : (a b c d : Bool) → ((a && (b && c)) && d) ≡ (a && (b && (c && d)))
 and-six true b c d = and-assoc b c d
 and-six false b c d = refl
@@ -212,15 +208,15 @@ module _ (v : List ℕ) (x : Slots) (ex : x ≡ slotsFrom noSlots (membersOf 8 v
   pub six-numbers : (w : ℕ) → segmentSaid v ≡ true → sixNumbers (numbersIn x w) ≡ numbersOf (segmentFrom v)
   unfolding segmentSaid numbersIn segmentFrom
   six-numbers w e =
-      let a = right (eqb (getD v 0 0) 0x7B) _ e in
-      let b = right (short firstName ms) _ a in
-      let c = right (short lastName ms) _ b in
-      let d = right (long sourceName ms) _ c in
-      let f = right (short countName ms) _ d in
-      let p₁ : x .first .value ≡ valueFrom 0 (fieldOf firstName ms) = value-of (x .first) (fieldIn firstName mostFrame ms) (first-is ms x ex) ∙ said-value mostFrame (fieldOf firstName ms) (left (short firstName ms) _ a) in
-      let p₂ : x .last .value ≡ valueFrom 0 (fieldOf lastName ms) = value-of (x .last) (fieldIn lastName mostFrame ms) (last-is ms x ex) ∙ said-value mostFrame (fieldOf lastName ms) (left (short lastName ms) _ b) in
-      let p₃ : x .source .value ≡ valueFrom 0 (fieldOf sourceName ms) = value-of (x .source) (fieldIn sourceName mostWord ms) (source-is ms x ex) ∙ said-value mostWord (fieldOf sourceName ms) (left (long sourceName ms) _ c) in
-      let p₄ : x .frames .value ≡ valueFrom 0 (fieldOf countName ms) = value-of (x .frames) (fieldIn countName mostFrame ms) (frames-is ms x ex) ∙ said-value mostFrame (fieldOf countName ms) (left (short countName ms) _ d) in
-      let p₅ : x .output .value ≡ valueFrom 0 (fieldOf outputName ms) = value-of (x .output) (fieldIn outputName mostWord ms) (output-is ms x ex) ∙ said-value mostWord (fieldOf outputName ms) (left (long outputName ms) _ f) in
-      let p₆ : x .duration .value ≡ valueFrom 0 (fieldOf durationName ms) = value-of (x .duration) (fieldIn durationName mostWord ms) (duration-is ms x ex) ∙ said-value mostWord (fieldOf durationName ms) (right (long outputName ms) _ f) in
+      let a = and-right (eqb (getD v 0 0) 0x7B) _ e in
+      let b = and-right (short firstName ms) _ a in
+      let c = and-right (short lastName ms) _ b in
+      let d = and-right (long sourceName ms) _ c in
+      let f = and-right (short countName ms) _ d in
+      let p₁ : x .first .value ≡ valueFrom 0 (fieldOf firstName ms) = value-of (x .first) (fieldIn firstName mostFrame ms) (first-is ms x ex) ∙ said-value mostFrame (fieldOf firstName ms) (and-left (short firstName ms) _ a) in
+      let p₂ : x .last .value ≡ valueFrom 0 (fieldOf lastName ms) = value-of (x .last) (fieldIn lastName mostFrame ms) (last-is ms x ex) ∙ said-value mostFrame (fieldOf lastName ms) (and-left (short lastName ms) _ b) in
+      let p₃ : x .source .value ≡ valueFrom 0 (fieldOf sourceName ms) = value-of (x .source) (fieldIn sourceName mostWord ms) (source-is ms x ex) ∙ said-value mostWord (fieldOf sourceName ms) (and-left (long sourceName ms) _ c) in
+      let p₄ : x .frames .value ≡ valueFrom 0 (fieldOf countName ms) = value-of (x .frames) (fieldIn countName mostFrame ms) (frames-is ms x ex) ∙ said-value mostFrame (fieldOf countName ms) (and-left (short countName ms) _ d) in
+      let p₅ : x .output .value ≡ valueFrom 0 (fieldOf outputName ms) = value-of (x .output) (fieldIn outputName mostWord ms) (output-is ms x ex) ∙ said-value mostWord (fieldOf outputName ms) (and-left (long outputName ms) _ f) in
+      let p₆ : x .duration .value ≡ valueFrom 0 (fieldOf durationName ms) = value-of (x .duration) (fieldIn durationName mostWord ms) (duration-is ms x ex) ∙ said-value mostWord (fieldOf durationName ms) (and-right (long outputName ms) _ f) in
       λ i. p₁ i ∷ p₂ i ∷ p₃ i ∷ p₄ i ∷ p₅ i ∷ p₆ i ∷ []

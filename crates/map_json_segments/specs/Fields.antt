@@ -10,7 +10,7 @@ use Rattle.spec_json.specs.json.Num.{isPlain}
 use Rattle.spec_json.specs.json.Value.{valueWidth}
 use Rattle.spec_json.specs.json.Walk.{itemWidth, itemsOf, rowOf}
 use Rattle.spec_json.specs.json.Member.{Member, bare, memberOf, memberAll, fieldOf}
-use Rattle.spec_json.specs.map_json_write.Reads.{segmentSaid, segmentFrom}
+use Rattle.spec_map_json.specs.map_json_write.Reads.{segmentSaid, segmentFrom}
 use Rattle.map_json_segments.specs.declared.number.Numbers.{Numbers}
 use Rattle.map_json_segments.specs.declared.number.Slots.{Slots}
 use Rattle.map_json_segments.specs.declared.number.Found.{Found}

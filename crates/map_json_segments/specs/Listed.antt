@@ -8,7 +8,7 @@ use lib.ListN.{length}
 use Rattle.spec_base.specs.base.Limits.{mostSegments}
 use Rattle.spec_base.specs.base.Put.{put}
 use Rattle.spec_map.specs.segment.Segment.{flatOf}
-use Rattle.spec_json.specs.map_json_write.Reads.{segmentsFrom, listSaid}
+use Rattle.spec_map_json.specs.map_json_write.Reads.{segmentsFrom, listSaid}
 
 -- a list read: the numbers of its segments stand in the room where it has at most 1,024
 pub record ListRead (said : Bool) (es : List (List ℕ)) (good : Bool) (count : ℕ) (room room′ : List ℕ) : Type 0 where

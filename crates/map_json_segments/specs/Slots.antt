@@ -8,7 +8,7 @@ use Rattle.spec_text.specs.pattern.Find.{equals}
 use Rattle.spec_text.specs.text.Number.{valueFrom}
 use Rattle.spec_json.specs.json.Num.{isPlain}
 use Rattle.spec_json.specs.json.Member.{Member}
-use Rattle.spec_json.specs.map_json_write.Names.{firstName, lastName, sourceName, countName, outputName, durationName, mostWord}
+use Rattle.spec_map_json.specs.map_json_write.Names.{firstName, lastName, sourceName, countName, outputName, durationName, mostWord}
 use Rattle.map_json_segments.specs.declared.number.Numbers.{Numbers}
 use Rattle.map_json_segments.specs.declared.number.Slot.{Slot}
 use Rattle.map_json_segments.specs.declared.number.Slots.{Slots}

@@ -11,7 +11,7 @@ ghost use lib.ListN.{length};
 ghost use Rattle.spec_base.specs.base.Limits.{mostSegments};
 ghost use Rattle.spec_base.specs.base.Put.{putAt};
 ghost use Rattle.spec_json.specs.json.Member.{elementsOf};
-ghost use Rattle.spec_json.specs.map_json_write.Reads.{segmentsSaid, listSaid};
+ghost use Rattle.spec_map_json.specs.map_json_write.Reads.{segmentsSaid, listSaid};
 ghost use Rattle.map_json_segments.specs.Listed.{ListRead, listSaidIn};
 
 // Writes six numbers from the place `at` on.

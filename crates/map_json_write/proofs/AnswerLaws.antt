@@ -1,24 +1,24 @@
 -- Laws of the writer's answer.
-use mathlib.Core.Path.{_≡_, refl, sym, ap, subst, _∙_}
+use mathlib.Core.Path.{_≡_, refl, sym, ap, _∙_}
 use mathlib.Core.Bool.{Bool, true, false, not, cond, true≢false}
-use mathlib.Core.List.{List, [], _∷_}
-use Prim.Native.Nat.{ℕ, zero, suc, _+_, _*_, _%_, _≤_, _<_}
+use mathlib.Core.List.{List, []}
+use Prim.Native.Nat.{ℕ, _*_, _%_, _≤_, _<_}
 use native.Mathlib.Omega.{arith}
-use borrow.Author.Tests.{le-leb, lt-leb, leb-true, eq-eqb, ne-eqb, not-true, not-false, ltb-false}
+use borrow.Author.Tests.{le-leb, lt-leb, leb-true, ne-eqb, not-true, not-false, ltb-false}
 use lib.Dec.{eqb, ltb, leb}
 use lib.ListN.{length}
 use Rattle.spec_base.specs.base.Limits.{mostSegments}
 use Rattle.spec_base.specs.base.Refusal.{_orElse_, faultUnless}
-use Rattle.spec_base.specs.base.Put.{put, putAt}
+use Rattle.spec_base.specs.base.Put.{put}
 use Rattle.spec_base.proofs.base.PutLaws.{put-nil, putAt-zero}
 use Rattle.spec_text.specs.utf8.Utf8.{utf8}
-use Rattle.spec_caption.specs.caption_time.Convert.{timescaleBad}
+use Rattle.spec_time.specs.caption_time.Convert.{timescaleBad}
 use Rattle.spec_map.specs.segment.Segment.{segmentsOf, anyBad, mapBad}
-use Rattle.spec_json.specs.map_json_write.Names.{mostPath}
-use Rattle.spec_json.specs.map_json_write.Text.{mapText}
+use Rattle.spec_map_json.specs.map_json_write.Names.{mostPath}
+use Rattle.spec_map_json.specs.map_json_write.Text.{mapText}
 use Rattle.map_json_write.specs.Written.{Written}
-use Rattle.spec_json.specs.declared.map_json_write.Wrote.{Wrote}
-use Rattle.spec_json.specs.map_json_write.MapWritten.{askedNumber, writeNumber, whenDone, Writes}
+use Rattle.spec_map_json.specs.map_json_write.MapWritten.{askedNumber, writeNumber, whenDone, Writes}
+use Rattle.spec_base.proofs.base.RefusalLaws.{else-found}
 
 abbrev byTests : (a b c d : Bool) → ℕ
 byTests a b c d = faultUnless (not a) 15 orElse faultUnless (not b) 15 orElse faultUnless c 16 orElse faultUnless d 20
@@ -88,11 +88,6 @@ number-is : (m : List ℕ) (T : ℕ) (path text : List ℕ) (lent : ℕ) → wri
 unfolding writeNumber askedNumber
 number-is m T path text lent = room-last (timescaleBad T) (mapBad m) (leb (length path) mostPath) (utf8 path) (faultUnless (leb (length text) lent) 16)
 
-else-kept : (a b : ℕ) → (a ≡ 0 → ⊥) → a orElse b ≡ a
-unfolding _orElse_
-else-kept zero b h = absurd (h refl)
-else-kept (suc a) b h = refl
-
 none-then : (a b : ℕ) → a ≡ 0 → a orElse b ≡ b
 unfolding _orElse_
 none-then a b e = ap (λ (x : ℕ). x orElse b) e
@@ -118,7 +113,7 @@ module _ (m : List ℕ) (T num den : ℕ) (path : List ℕ) (frames n : ℕ) (te
       record { number = e; written = sym (ap length z); bytes = sym (ap (λ (v : List ℕ). put v text) z ∙ put-nil text) }
 
   pub write-refused : (n ≡ 0 → ⊥) → Writes m T num den path frames (record { number = n; written = 0 }) text text
-  write-refused h = refused n h (en ∙ sym (number-is m T path X (length text) ∙ else-kept (askedNumber m T path) _ (λ q. h (en ∙ q))))
+  write-refused h = refused n h (en ∙ sym (number-is m T path X (length text) ∙ else-found (askedNumber m T path) _ (λ q. h (en ∙ q))))
 
   module _ (size : ℕ) (none none′ : List ℕ) (z : n ≡ 0) (w : Written 0 X none size none′) where
     size-is : size ≡ length X

@@ -1,7 +1,7 @@
 -- The text of a map as its pieces one behind the other.
 use mathlib.Core.Path.{_≡_, refl, sym, ap, subst, _∙_}
 use mathlib.Core.List.{List, [], _∷_, _++_, append-assoc, append-nil}
-use Prim.Native.Nat.{ℕ, zero, suc, _+_, _*_, _-_, _≤_, _<_}
+use Prim.Native.Nat.{ℕ, _+_, _*_, _-_, _≤_, _<_}
 use native.Mathlib.Omega.{arith}
 use lib.ListN.{length, drop, getD, length-drop}
 use Rattle.spec_base.specs.base.Ascii.{ascii}
@@ -11,8 +11,8 @@ use Rattle.spec_map.proofs.segment.SegmentLaws.{segments-cut, segments-short}
 use Rattle.spec_json.specs.json.Member.{Member}
 use Rattle.spec_json.specs.json.Quote.{escaped, escapedAll, quoted, decimal}
 use Rattle.spec_json.specs.json.Pretty.{itemLines, memberLine, memberLines, prettyObject, prettyArray}
-use Rattle.spec_json.specs.map_json_write.Text.{field, line0, line2, line4, line6, segmentFirst, segmentRest, segmentText, segmentTexts, listText, mapRest, mapText}
-use Rattle.spec_json.specs.map_json_write.Names.{timescaleName, rateNumName, rateDenName, inputName, framesName, segmentsName, firstName, lastName, sourceName, countName, outputName, durationName}
+use Rattle.spec_map_json.specs.map_json_write.Text.{field, line0, line2, line4, line6, segmentFirst, segmentRest, segmentText, segmentTexts, listText, mapRest, mapText}
+use Rattle.spec_map_json.specs.map_json_write.Names.{timescaleName, rateNumName, rateDenName, inputName, framesName, segmentsName}
 use Rattle.map_json_write.specs.Written.{Written, threeText, segmentAt, frontText, backText, ratesText, pathText, headText, tailText, restText}
 use Rattle.map_json_write.proofs.WrittenLaws.{written-then, written-is}
 use Rattle.spec_base.proofs.base.PutLaws.{putAt-nil}
@@ -98,9 +98,6 @@ segment-written at p r a b c d e f t l l₁ l₂ ea eb ec ed ee ef x y =
     ∙ ap (λ (k : ℕ). segmentText (segment (getD t 0 0) (getD t 1 0) (getD t 2 0) (getD t 3 0) (getD t 4 0) k)) ef)
     (written-then at p r (frontText a b c) (backText d e f) l l₁ l₂ x y)
 
-pub led-written : (at p r : ℕ) (s v l l₁ l₂ : List ℕ) → Written at s l p l₁ → Written p v l₁ r l₂ → Written at (s ++ v) l r l₂
-led-written at p r s v l l₁ l₂ x y = written-then at p r s v l l₁ l₂ x y
-
 -- ---- the list
 rest-then : (x : Segment) (xs : List Segment) → itemLines line4 (segmentText x) (segmentTexts xs) ++ (line2 ++ 0x5D ∷ []) ≡ (line4 ++ segmentText x) ++ restText xs
 unfolding itemLines
@@ -161,9 +158,6 @@ list-end m t at p r l₀ l l′ b h w =
 -- the room that is used
 pub six-left : (at p q n : ℕ) (t u : List ℕ) → 6 * p + 540 * length t ≤ 6 * at + 540 * n → 6 ≤ length t → q ≤ p + 540 → u ≡ drop 6 t → 6 * q + 540 * length u ≤ 6 * at + 540 * n
 six-left at p q n t u inv h l d = let a : length u ≡ length t - 6 = ap length d ∙ length-drop 6 t in omega arith
-
-pub six-less : (t u : List ℕ) → u ≡ drop 6 t → 6 ≤ length t → length u < length t
-six-less t u d h = let a : length u ≡ length t - 6 = ap length d ∙ length-drop 6 t in omega arith
 
 -- ---- the map
 pub rates-written : (r T num den : ℕ) (l l′ : List ℕ)

@@ -1,18 +1,17 @@
 -- Laws of pieces written one behind the other.
-use mathlib.Core.Path.{_≡_, refl, sym, ap, subst, _∙_}
-use mathlib.Core.Bool.{Bool, true, false, cond}
-use mathlib.Core.List.{List, [], _∷_, _++_, append-assoc, append-nil}
-use Prim.Native.Nat.{ℕ, zero, suc, _+_, _*_, _-_, _^_, _≤_, _<_}
+use mathlib.Core.Path.{_≡_, sym, ap, subst, _∙_}
+use mathlib.Core.List.{List, _++_, append-assoc}
+use Prim.Native.Nat.{ℕ, _+_, _-_, _^_, _≤_, _<_}
 use native.Mathlib.Omega.{arith}
-use native.Mathlib.Nat.{le-of-eq}
-use lib.ListN.{length, take, drop, getD, length-append, length-drop, length-take, take-append-drop}
-use lib.Seq.{drop-drop, take-all, length-take-le, take-append-seam, drop-append-seam, take-at, drop-at}
+use lib.ListN.{length, take, drop, length-append, length-drop}
+use lib.Seq.{drop-drop, length-take-le, take-at, drop-at}
 use Rattle.spec_base.specs.base.Put.{put, putAt, placed, placedAt}
-use Rattle.spec_base.proofs.base.PutLaws.{at-yes, length-tail, placed-yes, tail-back, length-put, putAt-put, putAt-nil}
-use Rattle.spec_caption.specs.caption_stamp.Write.{pad, width}
-use Rattle.spec_caption.proofs.caption_stamp.Pad.{pad-length, width-bound}
-use Rattle.spec_json.specs.json.Quote.{decimal, quoted}
+use Rattle.spec_base.proofs.base.PutLaws.{at-yes, placed-yes, tail-back, length-put}
+use Rattle.spec_time.specs.caption_stamp.Write.{pad, width}
+use Rattle.spec_time.proofs.caption_stamp.Pad.{pad-length, width-bound}
+use Rattle.spec_json.specs.json.Quote.{decimal}
 use Rattle.map_json_write.specs.Written.{Written, threeText}
+use Rattle.spec_base.proofs.base.PartLaws.{rest-length}
 
 pub bytes-written : (at n : ℕ) (s l l′ : List ℕ) → n ≡ at + length s → l′ ≡ placedAt at s l → Written at s l n l′
 bytes-written at n s l l′ e h = record { place = e; bytes = λ k. h ∙ at-yes at s l (omega arith) }
@@ -81,7 +80,7 @@ decimal-none at w n l e h = record { place = ap (λ (k : ℕ). at + k) (e ∙ sy
 pub decimal-done : (at w n : ℕ) (l t : List ℕ) → w ≡ width n → at + w ≤ length l → t ≡ placed (pad w n) (take (length l - at) (drop at l)) → Written at (decimal n) l (at + w) (take at l ++ (t ++ drop (length l - at) (drop at l)))
 unfolding decimal
 decimal-done at w n l t e f h =
-    let r : length (take (length l - at) (drop at l)) ≡ length l - at = length-tail at l in
+    let r : length (take (length l - at) (drop at l)) ≡ length l - at = rest-length at l in
     let d : length (pad w n) ≡ w = pad-length w n in
     let q : t ≡ put (pad w n) (take (length l - at) (drop at l)) = h ∙ placed-yes (pad w n) (take (length l - at) (drop at l)) (omega arith) in
     record {

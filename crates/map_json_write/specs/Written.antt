@@ -8,7 +8,7 @@ use Rattle.spec_base.specs.base.Ascii.{ascii}
 use Rattle.spec_map.specs.declared.segment.Segment.{Segment}
 use Rattle.spec_map.specs.segment.Segment.{segment}
 use Rattle.spec_json.specs.json.Quote.{decimal, quoted}
-use Rattle.spec_json.specs.map_json_write.Text.{line4, segmentText, listText}
+use Rattle.spec_map_json.specs.map_json_write.Text.{line4, segmentText, listText}
 
 pub record Written (at : ℕ) (v l : List ℕ) (r : ℕ) (l′ : List ℕ) : Type 0 where
   pub place : r ≡ at + length v

@@ -3,12 +3,11 @@ use crate::pieces::bytes_at;
 use crate::pieces::named_at;
 use crate::pieces::three_at;
 use crate::quoting::quoted_at;
-ghost use mathlib.Core.Path.{_≡_};
 ghost use mathlib.Core.List.{[], _∷_, _++_};
 ghost use Prim.Native.Nat.{_+_, _≤_};
 ghost use lib.ListN.{length};
 ghost use Rattle.spec_map.specs.segment.Segment.{segmentsOf};
-ghost use Rattle.spec_json.specs.map_json_write.Text.{line2, line4, segmentText, listText, mapText};
+ghost use Rattle.spec_map_json.specs.map_json_write.Text.{line2, line4, segmentText, listText, mapText};
 ghost use Rattle.map_json_write.specs.Written.{Written, segmentAt, frontText, backText, ratesText, pathText, tailText, restText};
 
 fn front_at(out: &mut [u8], at: usize, a: u64, b: u64, c: u64) -> usize

@@ -1,5 +1,4 @@
 // Pieces of the text: each answers the place after it, and writes itself where it fits.
-ghost use mathlib.Core.Path.{_≡_};
 ghost use mathlib.Core.List.{_++_};
 ghost use Prim.Native.Nat.{_+_, _≤_};
 ghost use lib.ListN.{length};

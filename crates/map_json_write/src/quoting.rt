@@ -1,8 +1,8 @@
 // A string with its escapes, written.
 use crate::pieces::bytes_at;
 ghost use mathlib.Core.Path.{_≡_};
-ghost use Prim.Native.Nat.{_+_, _*_, _≤_, _<_};
-ghost use lib.ListN.{length, take};
+ghost use Prim.Native.Nat.{_+_, _≤_, _<_};
+ghost use lib.ListN.{length};
 ghost use Rattle.spec_json.specs.json.Quote.{hexLetter, escaped, escapedAll, quoted};
 ghost use Rattle.map_json_write.specs.Written.{Written};
 ghost use Rattle.map_json_write.specs.Escape.{lowLetter, lowEscape, EscapeOf};

@@ -2,9 +2,9 @@
 use crate::layout::map_at;
 use caption_time::timescale_bad;
 use segment::map_bad;
-use spec_json::map_json_write::Wrote;
+use spec_map_json::map_json_write::Wrote;
 ghost use mathlib.Core.Path.{_≡_};
-ghost use Rattle.spec_json.specs.map_json_write.MapWritten.{askedNumber, Writes};
+ghost use Rattle.spec_map_json.specs.map_json_write.MapWritten.{askedNumber, Writes};
 
 // The first limit that is broken, but for the room: 15, 16 for the path, 20.
 fn asked(map: &[u64], timescale: u32, path: &[u8]) -> u32

@@ -1,7 +1,6 @@
 -- What a blank list comes to on small sheets, by computation (document 02, 2.4): the segment of the range from 0 to n, or the refusal of that range.
 use mathlib.Core.Path.{_≡_, refl}
-use mathlib.Core.List.{List, [], _∷_}
-use Prim.Native.Nat.{ℕ}
+use mathlib.Core.List.{[], _∷_}
 use Rattle.spec_base.specs.base.Part.{last}
 use Rattle.spec_base.specs.base.Refusal.{_orElse_, faultUnless}
 use Rattle.spec_text.specs.utf8.Utf8.{leadLen, secondLow, secondHigh, tail, widthBy, charWidth, codeBy, codeHead}
@@ -10,7 +9,7 @@ use Rattle.spec_text.specs.text.Line.{blank}
 use Rattle.spec_sheet.specs.checked_blocks.Block.{wordAt}
 use Rattle.spec_sheet.specs.sheet_frames.Frames.{framesOf, recordWord, decodeOf, syncOf, durationOf, longOf, ticksFrom}
 use Rattle.sheet_vectors.specs.Small.{smallSheet}
-use Rattle.spec_map.specs.plan.Snap.{lastBelow, firstFrom, floorSync, ceilSync, snapStart, snapEnd, snapAll}
+use Rattle.spec_trim.specs.plan.Snap.{lastBelow, firstFrom, floorSync, ceilSync, snapStart, snapEnd, snapAll}
 use Rattle.spec_map.specs.segment.Segment.{flatOf}
 use Rattle.spec_map.specs.segmap.Build.{sourceStart, rangeTicks, rangeFault, rangesFault, segmentIn, segmentsIn}
 use Rattle.spec_map.specs.segmap.Map.{rangesFor, snappedOf}

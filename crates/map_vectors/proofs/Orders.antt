@@ -11,12 +11,12 @@ use Rattle.spec_text.specs.text.Line.{blank}
 use Rattle.spec_text.specs.pattern.Find.{starts}
 use Rattle.spec_text.specs.pattern.Piece.{piecesFrom, pieces}
 use Rattle.spec_text.specs.text.Number.{digit, digits, valueFrom, natural, unsigned, number}
-use Rattle.spec_map.specs.trim.Token.{rangeOf, boundsOf, pairOf, closedOf, tokenOf, behindEnd, stepOf, tokenNumber, tokenRange, tokenEnd}
-use Rattle.spec_map.specs.trim.TrimList.{tokensOf, listTokens, tokensNumber, headNumber, listNumber}
+use Rattle.spec_trim.specs.trim.Token.{rangeOf, boundsOf, pairOf, closedOf, tokenOf, behindEnd, stepOf, tokenNumber, tokenRange, tokenEnd}
+use Rattle.spec_trim.specs.trim.TrimList.{tokensOf, listTokens, tokensNumber, headNumber, listNumber}
 use Rattle.spec_sheet.specs.checked_blocks.Block.{wordAt}
 use Rattle.spec_sheet.specs.sheet_frames.Frames.{longOf, recordWord, decodeOf, durationOf, ticksFrom}
 use Rattle.sheet_vectors.specs.Long.{still, longWith, shared}
-use Rattle.spec_map.specs.plan.Snap.{overlapsFault}
+use Rattle.spec_trim.specs.plan.Snap.{overlapsFault}
 use Rattle.spec_map.specs.segmap.Build.{rangeTicks, keptTicks, rangeFault, rangesFault, keptNumber}
 use Rattle.map_vectors.specs.Turned.{backward}
 

@@ -6,7 +6,7 @@ use Rattle.spec_base.specs.base.Refusal.{_orElse_, faultUnless}
 use Rattle.spec_sheet.specs.checked_blocks.Block.{wordAt}
 use Rattle.spec_sheet.specs.sheet_frames.Frames.{framesOf, recordWord, decodeOf, syncOf, durationOf, longOf, ticksFrom}
 use Rattle.sheet_vectors.specs.Small.{smallSheet}
-use Rattle.spec_map.specs.plan.Snap.{lastBelow, firstFrom, floorSync, ceilSync, snapStart, snapEnd, snapAll, overlapsFault}
+use Rattle.spec_trim.specs.plan.Snap.{lastBelow, firstFrom, floorSync, ceilSync, snapStart, snapEnd, snapAll, overlapsFault}
 use Rattle.spec_map.specs.segment.Segment.{flatOf}
 use Rattle.spec_map.specs.segmap.Build.{sourceStart, rangeTicks, rangeFault, rangesFault, segmentIn, segmentsIn}
 use Rattle.spec_sheet.specs.sheet.Sheet.{sheetFault, sheetNumber, workAfter, totalFault}

@@ -5,7 +5,7 @@ use Rattle.spec_base.specs.base.Refusal.{_orElse_, faultUnless}
 use Rattle.spec_sheet.specs.checked_blocks.Block.{wordAt}
 use Rattle.spec_sheet.specs.sheet_frames.Frames.{longOf, recordWord, decodeOf, durationOf, ticksFrom}
 use Rattle.sheet_vectors.specs.Long.{slides, shared}
-use Rattle.spec_map.specs.plan.Snap.{overlapsFault}
+use Rattle.spec_trim.specs.plan.Snap.{overlapsFault}
 use Rattle.spec_map.specs.segment.Segment.{flatOf}
 use Rattle.spec_map.specs.segmap.Build.{sourceStart, rangeTicks, keptTicks, rangeFault, rangesFault, keptNumber, segmentIn, segmentsIn}
 

@@ -2,5 +2,4 @@
 mod running;
 mod telling;
 
-pub use running::piece_end;
 pub use telling::retime;

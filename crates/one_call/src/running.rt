@@ -1,6 +1,5 @@
 // A whole text: one feed of it, and the finish.
 use session::Fed;
-use session_counts::Counts;
 use session_state::Head;
 use session_state::Session;
 use session_text::TextFed;
@@ -12,20 +11,7 @@ ghost use lib.ListN.{length};
 ghost use Rattle.spec_base.specs.base.Limits.{mostHeld};
 ghost use Rattle.spec_session.specs.session_state.View.{view};
 ghost use Rattle.spec_session.specs.session_state.Head.{viewOf};
-ghost use Rattle.spec_runs.specs.one_call.Ran.{pieceEnd, Ready, begunOf, RanText};
-
-// Where a piece that begins at i of n bytes ends.
-pub fn piece_end(i: usize, n: usize) -> usize
-    ensures { λ r. ⌜ r ≡ pieceEnd i n ⌝ }
-{
-    if n < i {
-        return n;
-    }
-    if n - i < base::MOST_PIECE {
-        return n;
-    }
-    i + base::MOST_PIECE
-}
+ghost use Rattle.spec_runs.specs.one_call.Ran.{Ready, begunOf, RanText};
 
 // The numbers of a session that has just been opened.
 fn begun(session: Session) -> Head

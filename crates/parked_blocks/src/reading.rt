@@ -8,8 +8,8 @@ ghost use Prim.Native.Nat.{_+_, _-_, _*_, _≤_};
 ghost use lib.ListN.{length, take, drop};
 ghost use Rattle.spec_base.specs.base.Put.{put};
 ghost use Rattle.spec_sheet.specs.checked_blocks.Block.{blockHolds};
-ghost use Rattle.spec_parking.specs.parked_blocks.Sealed.{sealedLength, roomLength, bodyLength, allHold, bodies, roomOf, allZero, isRow, unsealed};
-ghost use Rattle.spec_parking.specs.parked_blocks.First.{blankAll, shortRow, firstRoom, unsealedFirst};
+ghost use Rattle.spec_parked_blocks.specs.parked_blocks.Sealed.{sealedLength, roomLength, bodyLength, allHold, bodies, roomOf, allZero, isRow, unsealed};
+ghost use Rattle.spec_parked_blocks.specs.parked_blocks.First.{blankAll, shortRow, firstRoom, unsealedFirst};
 
 // Whether the first n blocks hold.
 fn all_hold(s: &[u8], n: usize) -> bool

@@ -4,8 +4,8 @@ ghost use Prim.Native.Nat.{_+_, _*_, _-_, _%_, _^_, _≤_};
 ghost use lib.ListN.{length, take, drop, replicate};
 ghost use Rattle.spec_base.specs.base.Put.{put, putAt};
 ghost use Rattle.spec_sheet.specs.checked_blocks.Block.{sumWords};
-ghost use Rattle.spec_parking.specs.parked_blocks.Sealed.{bodyLength, roomLength, sealedLength, wordBytes, wordsBytes, sealed, sealedAll, filled, rowIn};
-ghost use Rattle.spec_parking.specs.parked_blocks.First.{blocksFor, firstBlocks, firstIn};
+ghost use Rattle.spec_parked_blocks.specs.parked_blocks.Sealed.{bodyLength, roomLength, sealedLength, wordBytes, wordsBytes, sealed, sealedAll, filled, rowIn};
+ghost use Rattle.spec_parked_blocks.specs.parked_blocks.First.{blocksFor, firstBlocks, firstIn};
 
 // A word's four bytes, from the place `at` on.
 fn put_word(out: &mut [u8], at: usize, w: u32)

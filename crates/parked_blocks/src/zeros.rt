@@ -1,7 +1,7 @@
 // Bytes that are all zero.
 ghost use mathlib.Core.Path.{_≡_};
 ghost use Prim.Native.Nat.{max};
-ghost use Rattle.spec_parking.specs.parked_blocks.Sealed.{allZero};
+ghost use Rattle.spec_parked_blocks.specs.parked_blocks.Sealed.{allZero};
 
 // The larger of two bytes.
 fn top(a: u8, b: u8) -> u8

@@ -11,8 +11,8 @@ ghost use lib.Dec.{eqb};
 ghost use lib.ListN.{length, take, drop};
 ghost use Rattle.spec_base.specs.base.Limits.{mostHeld};
 ghost use Rattle.spec_sheet.specs.checked_blocks.Block.{wordAt};
-ghost use Rattle.spec_session.specs.session_counts.Session.{isOutcome};
-ghost use Rattle.spec_parking.specs.parked_blocks.Sealed.{isRow, roomOf, allZero};
+ghost use Rattle.spec_machine.specs.session_counts.Session.{isOutcome};
+ghost use Rattle.spec_parked_blocks.specs.parked_blocks.Sealed.{isRow, roomOf, allZero};
 ghost use Rattle.spec_parking.specs.parking.Parked.{isMark, isFlag, unusedZero, isParked, sessionIn};
 ghost use Rattle.spec_parking.specs.parking.Head.{headIn};
 

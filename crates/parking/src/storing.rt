@@ -8,7 +8,7 @@ ghost use lib.ListN.{length};
 ghost use Rattle.spec_base.specs.base.Put.{put};
 ghost use Rattle.spec_parking.specs.parking.Parked.{flag, headWords, parkedOf};
 ghost use Rattle.spec_parking.specs.parking.Head.{headNumbers, bareOf, headBytes, restored};
-ghost use Rattle.spec_parking.specs.parked_blocks.Sealed.{sealedLength, wordsBytes};
+ghost use Rattle.spec_parked_blocks.specs.parked_blocks.Sealed.{sealedLength, wordsBytes};
 ghost use Rattle.spec_parking.specs.parking.Parkings.{parkNumber, Parks, Stores};
 
 // The mark of a house that warns of lost parts by request 2.7's rule.

@@ -15,10 +15,10 @@ ghost use lib.ListN.{length};
 ghost use Rattle.spec_base.specs.base.Limits.{mostHeld};
 ghost use Rattle.spec_base.specs.base.Put.{put};
 ghost use Rattle.spec_sheet.specs.checked_blocks.Block.{wordAt};
-ghost use Rattle.spec_session.specs.session_counts.Session.{noSession};
-ghost use Rattle.spec_session.specs.kinds.Kit.{kit};
+ghost use Rattle.spec_machine.specs.session_counts.Session.{noSession};
+ghost use Rattle.spec_machine.specs.kinds.Kit.{kit};
 ghost use Rattle.spec_session.specs.session_state.View.{stored};
-ghost use Rattle.spec_parking.specs.parked_blocks.Sealed.{isRow, roomOf};
+ghost use Rattle.spec_parked_blocks.specs.parked_blocks.Sealed.{isRow, roomOf};
 ghost use Rattle.spec_parking.specs.parking.Parkings.{TakesUp};
 ghost use Rattle.spec_parking.specs.parking.Head.{inNumber, copiedIn, TakesIn};
 

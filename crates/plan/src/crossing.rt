@@ -3,7 +3,7 @@ use order::DisplayIdx;
 ghost use mathlib.Core.Path.{_≡_};
 ghost use Prim.Native.Nat.{_*_};
 ghost use lib.ListN.{take};
-ghost use Rattle.spec_map.specs.plan.Snap.{overlapsFault};
+ghost use Rattle.spec_trim.specs.plan.Snap.{overlapsFault};
 
 // Whether one of the first `count` ranges starts below the end of the range before it: 8, else 0. Where there are fewer, all are tested.
 pub fn overlap(ranges: &[u32], count: usize) -> u32

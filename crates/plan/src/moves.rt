@@ -9,7 +9,7 @@ ghost use mathlib.Core.Path.{_≡_};
 ghost use Prim.Native.Nat.{_+_, _*_, _≤_};
 ghost use lib.ListN.{length, take, getD, set};
 ghost use Rattle.spec_base.specs.base.Put.{put};
-ghost use Rattle.spec_map.specs.plan.Snap.{floorSync, ceilSync, snapStart, snapEnd, snapAll};
+ghost use Rattle.spec_trim.specs.plan.Snap.{floorSync, ceilSync, snapStart, snapEnd, snapAll};
 
 // What the range before found: its boundary that moved down, and the one that moved up.
 struct Found {

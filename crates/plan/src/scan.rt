@@ -2,7 +2,7 @@
 use order::DisplayIdx;
 ghost use mathlib.Core.Path.{_≡_};
 ghost use Prim.Native.Nat.{_+_, _≤_, min};
-ghost use Rattle.spec_map.specs.plan.Snap.{floorSync, ceilSync};
+ghost use Rattle.spec_trim.specs.plan.Snap.{floorSync, ceilSync};
 
 // A boundary, and the sync frame found for it.
 pub struct Known {

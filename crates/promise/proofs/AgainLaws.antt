@@ -3,29 +3,28 @@ use mathlib.Core.Path.{_≡_, refl, sym, ap, subst, _∙_}
 use mathlib.Core.Bool.{Bool, true, false, cond, _&&_}
 use mathlib.Core.List.{List, [], _∷_, _++_}
 use Prim.Native.Nat.{ℕ, zero, suc, _+_, _*_}
-use lib.Dec.{eqb}
 use Rattle.spec_text.specs.text.Line.{lineCount, concat}
-use Rattle.spec_caption.specs.caption_time.Kind.{kindBad, unitsOf}
-use Rattle.spec_caption.proofs.caption_time.Limits.{by-kind}
-use Rattle.spec_caption.specs.caption_fate.Says.{Part, stays, cue, passes, faultNumber}
+use Rattle.spec_time.specs.caption_time.Kind.{kindBad, unitsOf}
+use Rattle.spec_time.proofs.caption_time.Limits.{by-kind}
+use Rattle.spec_caption.specs.caption_fate.Says.{Part, stays, cue, passes}
 use Rattle.spec_caption.specs.caption_fate.Bom.{startsBom, behindBom, bomWritten}
-use Rattle.spec_format.specs.declared.ass_columns.Columns.{Columns}
-use Rattle.spec_format.proofs.ass_columns.ColumnLaws.{Apart}
-use Rattle.spec_format.specs.ass_line.Line.{LineSays, lineSays, faulty, says}
-use Rattle.spec_format.specs.ass_line.AssThrough.{columnsAfter}
-use Rattle.spec_format.specs.ass_columns.Columns.{noColumns}
+use Rattle.spec_ass.specs.declared.ass_columns.Columns.{Columns}
+use Rattle.spec_ass.proofs.ass_columns.ColumnLaws.{Apart}
+use Rattle.spec_ass.specs.ass_line.Line.{LineSays, lineSays, faulty, says}
+use Rattle.spec_ass.specs.ass_line.AssThrough.{columnsAfter}
+use Rattle.spec_ass.specs.ass_columns.Columns.{noColumns}
 use Rattle.spec_format.proofs.back.AssLine.{line-back, line-apart}
-use Rattle.spec_format.specs.block_timing.Style.{styleOf}
-use Rattle.spec_format.specs.block_cue.Block.{BlockSays, blockSays, faulty as blockFaulty, says as blockSaid}
+use Rattle.spec_cue.specs.block_timing.Style.{styleOf}
+use Rattle.spec_cue.specs.block_cue.Block.{BlockSays, blockSays, faulty as blockFaulty, says as blockSaid}
 use Rattle.spec_format.specs.whole.Srt.{Block, blocksOf}
 use Rattle.spec_format.proofs.back.TimingLine.{TimeMark, Blocked}
 use Rattle.spec_format.proofs.back.TimingBlock.{block-back}
 use Rattle.spec_format.proofs.back.BlockKinds.{srt-blocked, Point, vtt-blocked}
 use Rattle.spec_format.proofs.back.Stands.{line-stands, block-stands}
 use Rattle.spec_format.proofs.whole.BlockShape.{blockLines, blocks-joined}
-use Rattle.spec_session.specs.session_counts.Reader.{Reading, fails, _⊕_}
+use Rattle.spec_machine.specs.session_counts.Reader.{Reading, fails, _⊕_}
 use Rattle.promise.specs.Plain.{lineFault, unlessFault, lineThen, assRead, bodyFault, blockThen, bodyThen, blanksThen, bomBehind, closesBlock, blocksRead, headFault, vttRead, linesRead, linesSay, opened, bomLength, readBehind, bomBack, plainRead}
-use Rattle.promise.specs.Again.{LineAgain, endSeconds, BlockAgain, CueAgain, PartAgain, AllAgain}
+use Rattle.promise.specs.Again.{endSeconds, PartAgain, AllAgain}
 use Rattle.promise.proofs.LinesCut.{Cut, cut-tail, cut-behind, cut-before, cut-lines, text-cut}
 
 again-append : (kind : ℕ) (xs ys : List Part) → AllAgain kind xs → AllAgain kind ys → AllAgain kind (xs ++ ys)

@@ -12,11 +12,11 @@ use Rattle.spec_base.specs.base.Refusal.{faultUnless}
 use Rattle.spec_text.specs.pattern.Find.{starts, equals}
 use Rattle.spec_text.specs.text.Line.{concat}
 use Rattle.spec_caption.specs.caption_fate.Bom.{bom, bomWritten}
-use Rattle.spec_session.specs.session_counts.Cut.{Cut, before, push, cut, isLf, closedLines, unfinished}
-use Rattle.spec_session.specs.session_counts.Machine.{Machine, Says, faulty, says, hasBom, withBom, takeLine, Rest, bomAlone, lastLine, restFor, restOf}
-use Rattle.spec_session.specs.session_counts.Reader.{Reading, fails, _⊕_, readLine, readClose, readLast, readRest, readLines, readText}
-use Rattle.spec_session.proofs.session_counts.CutLaws.{cut-joined, restLines, lines-of-cut}
-use Rattle.spec_session.proofs.session_counts.OpenLines.{bom-behind}
+use Rattle.spec_machine.specs.session_counts.Cut.{Cut, before, push, cut, isLf, closedLines, unfinished}
+use Rattle.spec_machine.specs.session_counts.Machine.{Machine, Says, faulty, says, hasBom, withBom, takeLine, Rest, bomAlone, lastLine, restFor, restOf}
+use Rattle.spec_machine.specs.session_counts.Reader.{Reading, fails, _⊕_, readLine, readClose, readLast, readRest, readLines, readText}
+use Rattle.spec_machine.proofs.session_counts.CutLaws.{cut-joined, restLines, lines-of-cut}
+use Rattle.spec_machine.proofs.session_counts.OpenLines.{bom-behind}
 use Rattle.promise.specs.Plain.{linesRead}
 
 -- the rest is a line after a finish

@@ -9,12 +9,12 @@ use borrow.Author.Tests.{le-leb}
 use Rattle.spec_base.specs.base.Refusal.{_orElse_, faultUnless}
 use Rattle.spec_text.specs.utf8.Utf8.{utf8}
 use Rattle.spec_text.specs.text.Line.{concat, hasLf}
-use Rattle.spec_caption.specs.caption_time.Convert.{timescaleBad}
+use Rattle.spec_time.specs.caption_time.Convert.{timescaleBad}
 use Rattle.spec_map.specs.segment.Segment.{segmentsOf, anyBad, mapBad}
-use Rattle.spec_session.specs.session_counts.Cut.{closedLines, unfinished}
-use Rattle.spec_session.specs.session_counts.Session.{feed, finish}
-use Rattle.spec_session.specs.session_counts.Calls.{readerRefusal}
-use Rattle.spec_session.specs.kinds.Kit.{linesBad, heldBad, columnsBad}
+use Rattle.spec_machine.specs.session_counts.Cut.{closedLines, unfinished}
+use Rattle.spec_machine.specs.session_counts.Session.{feed, finish}
+use Rattle.spec_machine.specs.session_counts.Calls.{readerRefusal}
+use Rattle.spec_machine.specs.kinds.Kit.{linesBad, heldBad, columnsBad}
 use Rattle.promise.specs.Plain.{lineFault, bodyLineFault}
 use Rattle.promise.specs.Bounds.{having, lending, Bounds}
 

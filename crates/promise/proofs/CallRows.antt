@@ -6,17 +6,17 @@ use Prim.Native.Nat.{ℕ}
 use lib.ListN.{replicate}
 use Rattle.spec_text.specs.utf8.Utf8.{leadLen, secondLow, secondHigh, tail, widthBy, charWidth, utf8From, utf8}
 use Rattle.spec_text.specs.pattern.Find.{starts, equals}
-use Rattle.spec_caption.specs.caption_time.Kind.{kindBad}
-use Rattle.spec_caption.specs.caption_time.Convert.{timescaleBad}
+use Rattle.spec_time.specs.caption_time.Kind.{kindBad}
+use Rattle.spec_time.specs.caption_time.Convert.{timescaleBad}
 use Rattle.spec_map.specs.segment.Segment.{anyBad, segmentsOf, mapBad}
 use Rattle.spec_caption.specs.caption_fate.Emit.{emitsOf}
-use Rattle.spec_format.specs.block_timing.Header.{headerDue}
+use Rattle.spec_cue.specs.block_timing.Header.{headerDue}
 use Rattle.spec_session.specs.declared.session_state.Session.{Session}
-use Rattle.spec_session.specs.session_counts.Counts.{countAll}
-use Rattle.spec_session.specs.session_counts.Machine.{hasBom}
-use Rattle.spec_session.specs.session_counts.Session.{isOutcome, outcomeBad}
-use Rattle.spec_session.specs.kinds.Takes.{takes, blockTakes, ends, blockEnds}
-use Rattle.spec_session.specs.kinds.Kit.{heldBad, columnsBad}
+use Rattle.spec_machine.specs.session_counts.Counts.{countAll}
+use Rattle.spec_machine.specs.session_counts.Machine.{hasBom}
+use Rattle.spec_machine.specs.session_counts.Session.{isOutcome, outcomeBad}
+use Rattle.spec_machine.specs.kinds.Takes.{takes, blockTakes, ends, blockEnds}
+use Rattle.spec_machine.specs.kinds.Kit.{heldBad, columnsBad}
 use Rattle.spec_session.specs.session_state.View.{heldOf, foreignOf, stored, padded}
 use Rattle.spec_session.specs.session.SessionCalls.{feedCall, finishCall, answerOf, sessionGate, nextOf}
 use Rattle.promise.specs.Foreign.{counted, session}

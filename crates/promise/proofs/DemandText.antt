@@ -4,31 +4,31 @@ use mathlib.Core.Bool.{Bool}
 use mathlib.Core.List.{List}
 use Prim.Native.Nat.{ℕ}
 use native.Mathlib.Omega.{arith}
-use Rattle.spec_caption.proofs.caption_time.Limits.{units-low, timescale-low}
+use Rattle.spec_time.proofs.caption_time.Limits.{units-low, timescale-low}
 use Rattle.spec_map.specs.segment.Segment.{segmentsOf}
 use Rattle.spec_caption.specs.declared.caption_fate.Config.{Config}
-use Rattle.spec_format.specs.declared.ass_columns.Columns.{Columns}
-use Rattle.spec_session.specs.declared.session_counts.Counts.{Counts}
-use Rattle.spec_session.specs.session_counts.Counts.{total, CountedBy}
-use Rattle.spec_session.specs.session_counts.Reader.{Reading}
-use Rattle.spec_session.specs.session_counts.Session.{Session, Answer, Call, openSession, fresh}
-use Rattle.spec_session.specs.session_counts.Calls.{play, Proper, newReader, hear, emitsIn, SameAsReader}
-use Rattle.spec_session.proofs.session_counts.Emits.{total-parts}
-use Rattle.spec_session.proofs.session_counts.Counted.{counted-by}
-use Rattle.spec_session.proofs.session_counts.Lists.{same-as-reader}
-use Rattle.spec_session.proofs.session_counts.Numbers.{Opened, opened, opens-fresh, opened-config}
-use Rattle.spec_session.proofs.session_counts.Refine.{Returned, Trace, traced, trace-plays}
-use Rattle.spec_session.specs.kinds.Kit.{kit, said}
+use Rattle.spec_ass.specs.declared.ass_columns.Columns.{Columns}
+use Rattle.spec_machine.specs.declared.session_counts.Counts.{Counts}
+use Rattle.spec_machine.specs.session_counts.Counts.{total, CountedBy}
+use Rattle.spec_machine.specs.session_counts.Reader.{Reading}
+use Rattle.spec_machine.specs.session_counts.Session.{Session, Answer, Call, openSession, fresh}
+use Rattle.spec_machine.specs.session_counts.Calls.{play, Proper, newReader, hear, emitsIn, SameAsReader}
+use Rattle.spec_machine.proofs.session_counts.Emits.{total-parts}
+use Rattle.spec_machine.proofs.session_counts.Counted.{counted-by}
+use Rattle.spec_machine.proofs.session_counts.Lists.{same-as-reader}
+use Rattle.spec_machine.proofs.session_counts.Numbers.{Opened, opened, opens-fresh, opened-config}
+use Rattle.spec_machine.proofs.session_counts.Refine.{Returned, Trace, traced, trace-plays}
+use Rattle.spec_machine.specs.kinds.Kit.{kit, said}
 use Rattle.promise.specs.Plain.{plainRead}
 use Rattle.promise.specs.Demand.{passings, heard, saidIn, played, Demand}
-use Rattle.spec_session.proofs.kinds.KindLaws.{lawful}
+use Rattle.spec_machine.proofs.kinds.KindLaws.{lawful}
 use Rattle.promise.proofs.PlainText.{said-plain}
 use Rattle.promise.proofs.AgainLaws.{text-again}
 use Rattle.promise.proofs.PartLaws.{all-right, passed-warnings}
 
 -- from a fresh session the plain reader's answers
 module _ (c : Config) (m : List ℕ) (o : Opened c m) where
-  read-same : _≡_ {A = Bool → List ℕ → Reading} (λ f t. said (c .kind) f t) (λ f t. plainRead (c .kind) f t)
+  pub read-same : _≡_ {A = Bool → List ℕ → Reading} (λ f t. said (c .kind) f t) (λ f t. plainRead (c .kind) f t)
   read-same = λ i f t. said-plain (c .kind) (o .kind-known) f t i
 
   fresh-same : (xs : List Call) → Proper m xs

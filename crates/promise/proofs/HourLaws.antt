@@ -9,19 +9,18 @@ use lib.ListN.{length, drop}
 use Rattle.spec_text.specs.whitespace.White.{trim}
 use Rattle.spec_text.specs.pattern.Find.{starts, equals, upTo}
 use Rattle.spec_text.specs.text.Line.{linesOf, concat, lineCount, textOf, terminatorOf}
-use Rattle.spec_caption.specs.declared.caption_stamp.Time.{Time}
-use Rattle.spec_caption.specs.declared.caption_stamp.Time.the-variants.{At, Bad}
-use Rattle.spec_caption.specs.caption_stamp.Read.{timeIn}
-use Rattle.spec_caption.proofs.caption_stamp.Reading.{time-below}
-use Rattle.spec_caption.specs.caption_time.Kind.{kindBad}
+use Rattle.spec_time.specs.declared.caption_stamp.Time.{Time}
+use Rattle.spec_time.specs.declared.caption_stamp.Time.the-variants.{At, Bad}
+use Rattle.spec_time.specs.caption_stamp.Read.{timeIn}
+use Rattle.spec_time.proofs.caption_stamp.Reading.{time-below}
 use Rattle.spec_caption.specs.caption_fate.Says.{Piece, unplaced, short, Cue, Part, stays, passes, cue}
-use Rattle.spec_format.specs.declared.ass_columns.Columns.{Columns}
-use Rattle.spec_format.specs.ass_columns.Columns.{columnsIn, fields, fieldAt}
-use Rattle.spec_format.specs.ass_columns.Section.{eventsName, bracketed, inside, inSection}
-use Rattle.spec_format.specs.ass_line.Line.{formatWord, dialogueWord, commentWord, LineSays, faulty, says, timesSay, captionSays, wordSays, textSays, lineSays}
-use Rattle.spec_format.specs.block_timing.Style.{styleOf, stampsIn}
-use Rattle.spec_format.specs.block_timing.Arrow.{arrow, Timing, untimed, timed, timingOf}
-use Rattle.spec_format.specs.block_cue.Block.{BlockSays, faulty as blockFaulty, says as blockSaid, blockFrame, bothSay, endText, trailing, timingLineSays, timingSays, blockSays}
+use Rattle.spec_ass.specs.declared.ass_columns.Columns.{Columns}
+use Rattle.spec_ass.specs.ass_columns.Columns.{columnsIn, fields, fieldAt}
+use Rattle.spec_ass.specs.ass_columns.Section.{eventsName, bracketed, inside, inSection}
+use Rattle.spec_ass.specs.ass_line.Line.{formatWord, dialogueWord, commentWord, LineSays, faulty, says, timesSay, captionSays, wordSays, textSays, lineSays}
+use Rattle.spec_cue.specs.block_timing.Style.{styleOf, stampsIn}
+use Rattle.spec_cue.specs.block_timing.Arrow.{arrow, Timing, untimed, timed, timingOf}
+use Rattle.spec_cue.specs.block_cue.Block.{BlockSays, faulty as blockFaulty, says as blockSaid, blockFrame, bothSay, endText, trailing, timingLineSays, timingSays, blockSays}
 use Rattle.promise.specs.Plain.{plainRead}
 use Rattle.promise.specs.Again.{PartAgain, AllAgain}
 use Rattle.promise.specs.Hours.{InHours, PartInHours, AllInHours, TimesInHours}

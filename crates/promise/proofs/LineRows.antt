@@ -1,7 +1,7 @@
 -- The plain reader's checks by rows: 21 does not count a BOM, a rest is tested for 19 alone, WebVTT's first line, and where a BOM is written back. By computation.
 use mathlib.Core.Path.{_≡_, refl}
-use mathlib.Core.Bool.{Bool, true, false}
-use mathlib.Core.List.{List, [], _∷_, map}
+use mathlib.Core.Bool.{true, false}
+use mathlib.Core.List.{[], _∷_, map}
 use lib.ListN.{replicate}
 use Rattle.spec_base.specs.base.Ascii.{ascii}
 use Rattle.spec_base.specs.base.Refusal.{_orElse_, faultUnless}

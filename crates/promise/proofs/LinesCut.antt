@@ -8,8 +8,8 @@ use native.Mathlib.Omega.{arith}
 use lib.ListN.{length}
 use Rattle.spec_text.specs.text.Line.{linesOf, concat, lineCount, endsLine, hasLf}
 use Rattle.spec_text.proofs.text.LineLaws.{line-then, line-last, Finished}
-use Rattle.spec_session.specs.session_counts.Cut.{closedLines, unfinished}
-use Rattle.spec_session.proofs.session_counts.CutLaws.{cut-ends, cut-open, has-none, restLines, lines-of-cut}
+use Rattle.spec_machine.specs.session_counts.Cut.{closedLines, unfinished}
+use Rattle.spec_machine.proofs.session_counts.CutLaws.{cut-ends, cut-open, has-none, restLines, lines-of-cut}
 use Rattle.promise.specs.Plain.{linesRead}
 
 abbrev pub Cut : List (List ℕ) → Type 0

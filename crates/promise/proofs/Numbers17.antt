@@ -1,21 +1,21 @@
 -- No call of a run from a session that open answered with 0 is answered 17: the sessions that calls return are never foreign.
-use mathlib.Core.Path.{_≡_, refl, sym, ap, subst, _∙_}
+use mathlib.Core.Path.{_≡_, sym, ap, subst, _∙_}
 use mathlib.Core.Logic.{inl, inr}
 use mathlib.Core.Bool.{Bool, true, false}
 use mathlib.Core.List.{List, [], _∷_, _++_}
 use Prim.Native.Nat.{ℕ}
 use native.Mathlib.Omega.{arith}
 use lib.ListN.{length}
-use Rattle.spec_caption.specs.caption_time.Kind.{kindBad}
+use Rattle.spec_time.specs.caption_time.Kind.{kindBad}
 use Rattle.spec_map.specs.segment.Segment.{mapBad}
-use Rattle.spec_session.specs.session_counts.Cut.{closedLines, unfinished}
-use Rattle.spec_session.specs.session_counts.Reader.{Reading}
-use Rattle.spec_session.specs.session_counts.Session.{Call, feed, finish, lentOf, argumentBad, gate}
-use Rattle.spec_session.specs.session_counts.Calls.{Proper, Reader, ReaderAnswer, newReader, readerAccepts, readerAnswer, hear}
-use Rattle.spec_session.proofs.session_counts.ReaderGate.{readerResponds, reader-gated}
-use Rattle.spec_session.proofs.session_counts.Numbers.{OfText, lines-number, opened}
-use Rattle.spec_session.specs.kinds.Takes.{machineOf, blankState}
-use Rattle.spec_session.specs.kinds.Kit.{kit}
+use Rattle.spec_machine.specs.session_counts.Cut.{closedLines, unfinished}
+use Rattle.spec_machine.specs.session_counts.Reader.{Reading}
+use Rattle.spec_machine.specs.session_counts.Session.{Call, feed, finish, lentOf, argumentBad, gate}
+use Rattle.spec_machine.specs.session_counts.Calls.{Proper, Reader, ReaderAnswer, newReader, readerAccepts, readerAnswer, hear}
+use Rattle.spec_machine.proofs.session_counts.ReaderGate.{readerResponds, reader-gated}
+use Rattle.spec_machine.proofs.session_counts.Numbers.{OfText, lines-number, opened}
+use Rattle.spec_machine.specs.kinds.Takes.{machineOf, blankState}
+use Rattle.spec_machine.specs.kinds.Kit.{kit}
 use Rattle.spec_session.specs.declared.session.Opened.{Opened}
 use Rattle.spec_session.specs.session.SessionCalls.{OpenAnswered, openOf}
 use Rattle.promise.specs.Plain.{plainRead}

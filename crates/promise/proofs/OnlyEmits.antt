@@ -1,19 +1,19 @@
 -- The emits that are right for the parts of a text are the only ones (`one-right`), and they are those that are computed (`right-is-computed`).
 use mathlib.Core.Path.{_≡_, refl, sym, ap, ap₂, subst, _∙_}
-use mathlib.Core.Bool.{Bool, false, _&&_}
+use mathlib.Core.Bool.{false, _&&_}
 use mathlib.Core.List.{List, [], _∷_, _++_, Forall₂, Forall₂·nil, Forall₂·cons}
 use Prim.Native.Nat.{ℕ}
 use native.Mathlib.Omega.{arith}
 use lib.Dec.{ltb}
-use Rattle.spec_caption.specs.caption_time.Kind.{unitsOf, kindBad}
-use Rattle.spec_caption.specs.caption_time.Convert.{timescaleBad}
-use Rattle.spec_caption.proofs.caption_time.Limits.{units-low, timescale-low}
+use Rattle.spec_time.specs.caption_time.Kind.{unitsOf, kindBad}
+use Rattle.spec_time.specs.caption_time.Convert.{timescaleBad}
+use Rattle.spec_time.proofs.caption_time.Limits.{units-low, timescale-low}
 use Rattle.spec_map.specs.declared.segment.Segment.{Segment}
 use Rattle.spec_map.specs.segment.Segment.{sourceOf, sourceEnd}
 use Rattle.spec_caption.specs.declared.caption_fate.Config.{Config}
 use Rattle.spec_caption.specs.caption_fate.Fates.{Fate, passed, dropped, shifted, clipped}
 use Rattle.spec_caption.specs.caption_fate.Says.{Cue, Part, stays, passes, cue}
-use Rattle.spec_caption.specs.caption_fate.Emit.{Warning, warnIf, Caption, decided, Emit, emitsOf}
+use Rattle.spec_caption.specs.caption_fate.Emit.{Warning, warnIf, decided, Emit, emitsOf}
 use Rattle.spec_caption.proofs.caption_fate.OnlyFate.{first-only, fate-only}
 use Rattle.promise.specs.Demand.{lostAmong, ticks, Warned, Leaves, CueRight, PartRight, AllRight}
 use Rattle.promise.specs.Stronger.{OneRight, RightIsComputed}

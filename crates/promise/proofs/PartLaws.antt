@@ -1,15 +1,13 @@
 -- Every part that a text says is put through the map rightly: its fate, its bytes and its warnings. And passed counts warnings 1 and 2.
-use mathlib.Core.Path.{_≡_, refl, sym, ap, ap₂, subst, _∙_}
-use mathlib.Core.Logic.{_⊎_, inl, inr}
-use mathlib.Core.Bool.{Bool, true, false, cond, _&&_, _||_, true≢false}
-use mathlib.Core.List.{List, [], _∷_, _++_, List·Memᴰ, List·Memᴰ·not-nil, List·Memᴰ·cases-cons}
+use mathlib.Core.Path.{_≡_, refl, sym, ap, ap₂, _∙_}
+use mathlib.Core.Bool.{Bool, true, false, cond, _&&_, _||_}
+use mathlib.Core.List.{List, [], _∷_, _++_, List·Memᴰ·not-nil}
 use Prim.Native.Nat.{ℕ, suc, _+_, _<_}
 use native.Mathlib.Omega.{arith}
 use lib.Dec.{ltb}
-use borrow.Author.Tests.{lt-ltb}
-use Rattle.spec_caption.specs.caption_time.Kind.{unitsOf}
-use Rattle.spec_caption.specs.caption_time.Convert.{ticksOf}
-use Rattle.spec_caption.specs.caption_stamp.Write.{timeText}
+use Rattle.spec_time.specs.caption_time.Kind.{unitsOf}
+use Rattle.spec_time.specs.caption_time.Convert.{ticksOf}
+use Rattle.spec_time.specs.caption_stamp.Write.{timeText}
 use Rattle.spec_map.specs.declared.segment.Segment.{Segment}
 use Rattle.spec_map.specs.segment.Segment.{sourceOf, sourceEnd}
 use Rattle.spec_caption.specs.declared.caption_fate.Config.{Config}
@@ -19,26 +17,15 @@ use Rattle.spec_caption.specs.declared.caption_fate.Decision.the-variants.{Stra
 use Rattle.spec_caption.specs.caption_fate.Hit.{meetsParts, meets, Found, miss, hit, findFrom, findHit, metOf}
 use Rattle.spec_caption.specs.caption_fate.Lost.{lostLater, lostRule}
 use Rattle.spec_caption.specs.caption_fate.Decide.{retimedAt, decideHit, decideTicks, decideOf}
-use Rattle.spec_caption.specs.caption_fate.Fates.{passed, dropped, shifted, clipped, fateFor, fateBy, fateOf, Meets, NoneMeets, FirstMet}
+use Rattle.spec_caption.specs.caption_fate.Fates.{passed, dropped, shifted, clipped, fateFor, fateBy, fateOf, FirstMet}
 use Rattle.spec_caption.specs.caption_fate.Says.{Reason, unplaced, short, Cue, Part, stays, passes, cue}
 use Rattle.spec_caption.specs.caption_fate.Emit.{Warning, warnIf, decided, Emit, render, cueEmit, emitBy, emitOf, emitsOf, warningsOf}
-use Rattle.spec_caption.proofs.caption_fate.FateLaws.{met, fate-right}
-use Rattle.spec_session.specs.declared.session_counts.Counts.{Counts}
-use Rattle.spec_session.specs.session_counts.Counts.{noCounts, countFate, countAll, countsOf}
+use Rattle.spec_caption.proofs.caption_fate.FateLaws.{met, fate-right, none-more}
+use Rattle.spec_machine.specs.declared.session_counts.Counts.{Counts}
+use Rattle.spec_machine.specs.session_counts.Counts.{noCounts, countFate, countAll, countsOf}
 use Rattle.promise.specs.Demand.{lostAmong, Warned, Leaves, CueRight, PartRight, AllRight, passings}
 
 -- ---- the first segment that is met, and those behind it
-meets-true : (x : Segment) (a b : ℕ) → Meets x a b → meets x a b ≡ true
-unfolding meetsParts
-meets-true x a b k = rw (lt-ltb 0 (x .duration) (k .long), lt-ltb a (sourceEnd x) (k .later), lt-ltb (sourceOf x) b (k .sooner))
-
-none-more : (x : Segment) (xs : List Segment) (a b : ℕ) → meets x a b ≡ false → NoneMeets xs a b → NoneMeets (x ∷ xs) a b
-none-more x xs a b e h y i k = go (List·Memᴰ·cases-cons i)
-  where
-    go : (y ≡ x) ⊎ List·Memᴰ y xs → ⊥
-    go (inl p) = true≢false (sym (meets-true x a b (subst (λ (z : Segment). Meets z a b) p k)) ∙ e)
-    go (inr j) = h y j k
-
 record HitFirst (m : List Segment) (a b : ℕ) (x : Segment) (xs : List Segment) : Type 0 where
   first : FirstMet m a b x
   behind : first .others ≡ xs

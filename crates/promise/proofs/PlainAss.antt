@@ -12,14 +12,14 @@ use Rattle.spec_text.specs.utf8.Utf8.{utf8}
 use Rattle.spec_text.specs.whitespace.White.{trim}
 use Rattle.spec_text.specs.text.Line.{textOf}
 use Rattle.spec_caption.specs.caption_fate.Says.{notUtf8}
-use Rattle.spec_format.specs.declared.ass_columns.Columns.{Columns}
-use Rattle.spec_format.specs.ass_line.Line.{LineSays, textSays, lineSays, faulty as lineFaulty, says as lineSaid}
-use Rattle.spec_format.specs.ass_columns.Section.{bracketed}
-use Rattle.spec_session.specs.session_counts.Machine.{Machine, Says, faulty}
-use Rattle.spec_session.specs.session_counts.Reader.{Reading, fails, _⊕_, readLine, readClose}
-use Rattle.spec_session.specs.kinds.Takes.{State, noColumns, blankState, ofLine, lineTakes, takes, machineOf}
+use Rattle.spec_ass.specs.declared.ass_columns.Columns.{Columns}
+use Rattle.spec_ass.specs.ass_line.Line.{LineSays, textSays, lineSays, faulty as lineFaulty, says as lineSaid}
+use Rattle.spec_ass.specs.ass_columns.Section.{bracketed}
+use Rattle.spec_machine.specs.session_counts.Machine.{Machine, Says, faulty}
+use Rattle.spec_machine.specs.session_counts.Reader.{Reading, fails, _⊕_, readLine, readClose}
+use Rattle.spec_machine.specs.kinds.Takes.{State, noColumns, blankState, ofLine, lineTakes, takes, machineOf}
 use Rattle.promise.specs.Plain.{lineFault, unlessFault, lineThen, assRead, restFault}
-use Rattle.spec_session.proofs.kinds.KindLaws.{takes-ass, ends-ass}
+use Rattle.spec_machine.proofs.kinds.KindLaws.{takes-ass, ends-ass}
 use Rattle.promise.proofs.Bare.{passed, endOf, readAll}
 
 -- a rest behind a line

@@ -13,17 +13,18 @@ use Rattle.spec_base.proofs.base.RefusalLaws.{else-none, else-zero}
 use Rattle.spec_text.specs.utf8.Utf8.{utf8}
 use Rattle.spec_text.specs.text.Line.{concat, lineCount}
 use Rattle.spec_caption.specs.caption_fate.Says.{Part, stays, notUtf8}
-use Rattle.spec_format.specs.block_timing.Style.{styleOf, blankIn}
-use Rattle.spec_format.specs.block_timing.Header.{headerDue}
-use Rattle.spec_format.specs.block_cue.Block.{BlockSays, blockSays, faulty as blockFaulty, says as blockSaid}
+use Rattle.spec_cue.specs.block_timing.Style.{styleOf, blankIn}
+use Rattle.spec_cue.specs.block_timing.Header.{headerDue}
+use Rattle.spec_cue.specs.block_cue.Block.{BlockSays, blockSays, faulty as blockFaulty, says as blockSaid}
 use Rattle.spec_format.specs.whole.Srt.{Block, blockOf, ontoBlock, ontoBlanks, blankOnto, blocksOf}
-use Rattle.spec_session.specs.session_counts.Machine.{Machine, Says, faulty}
-use Rattle.spec_session.specs.session_counts.Reader.{Reading, fails, _⊕_, readLine, readClose}
-use Rattle.spec_session.specs.kinds.Takes.{State, blankState, withBlock, ofBlock, closes, adds, blockTakes, takes, blockEnds, ends, machineOf}
+use Rattle.spec_machine.specs.session_counts.Machine.{Machine, Says, faulty}
+use Rattle.spec_machine.specs.session_counts.Reader.{Reading, fails, _⊕_, readLine, readClose}
+use Rattle.spec_machine.specs.kinds.Takes.{State, blankState, withBlock, ofBlock, closes, adds, blockTakes, takes, blockEnds, ends, machineOf}
 use Rattle.promise.specs.Plain.{lineFault, bodyLineFault, unlessFault, bodyFault, blockThen, bodyThen, blanksThen, bomBehind, closesBlock, blocksRead, restFault}
 use Rattle.spec_format.proofs.whole.BlockShape.{blocks-none, blocks-blank, blocks-body}
 use Rattle.promise.proofs.Bare.{passed, endOf, readAll}
 use Rattle.promise.proofs.PlainAss.{rest-behind, ending}
+use Rattle.spec_machine.proofs.kinds.KindLaws.{count-snoc}
 
 -- ---- the blocks of lines behind the lines that are held
 abbrev prefix : List (List ℕ) → List Block → List Block
@@ -45,7 +46,7 @@ body-none : (x size : ℕ) → bodyFault x size [] ≡ 0
 unfolding bodyFault
 body-none x size = refl
 
-mark-zero : (ks : List (List ℕ)) → bomBehind 0 ks ≡ 0
+pub mark-zero : (ks : List (List ℕ)) → bomBehind 0 ks ≡ 0
 mark-zero [] = refl
 mark-zero (k ∷ ks) = refl
 
@@ -74,10 +75,6 @@ body-faulty (k ∷ ks) more x size j e =
 
 first-line : (n n0 k : ℕ) → n ≡ n0 + k → suc n - k ≡ suc n0
 first-line n n0 k e = omega arith
-
-count-snoc : (ks : List (List ℕ)) (l : List ℕ) → lineCount (ks ++ (l ∷ [])) ≡ suc (lineCount ks)
-count-snoc [] l = refl
-count-snoc (k ∷ ks) l = ap suc (count-snoc ks l)
 
 mark-snoc : (x : ℕ) (ks : List (List ℕ)) (l : List ℕ) → bomBehind x (ks ++ (l ∷ [])) ≡ 0
 mark-snoc x [] l = refl

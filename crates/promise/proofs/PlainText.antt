@@ -7,19 +7,19 @@ use lib.Dec.{eqb, leb}
 use lib.ListN.{length, drop}
 use Rattle.spec_base.specs.base.Limits.{mostLine}
 use Rattle.spec_text.specs.pattern.Find.{starts}
-use Rattle.spec_caption.specs.caption_time.Kind.{kindBad}
+use Rattle.spec_time.specs.caption_time.Kind.{kindBad}
 use Rattle.spec_caption.specs.caption_fate.Bom.{bom, bomWritten}
-use Rattle.spec_caption.proofs.caption_time.Limits.{by-kind}
-use Rattle.spec_session.specs.session_counts.Cut.{closedLines, unfinished}
-use Rattle.spec_session.specs.session_counts.Machine.{hasBom}
-use Rattle.spec_session.specs.session_counts.Reader.{Reading, fails, _⊕_, readText}
-use Rattle.spec_session.specs.kinds.Takes.{blankState, closes, takes, ends, machineOf}
-use Rattle.spec_session.specs.kinds.Kit.{said}
+use Rattle.spec_time.proofs.caption_time.Limits.{by-kind}
+use Rattle.spec_machine.specs.session_counts.Cut.{closedLines, unfinished}
+use Rattle.spec_machine.specs.session_counts.Machine.{hasBom}
+use Rattle.spec_machine.specs.session_counts.Reader.{Reading, fails, _⊕_, readText}
+use Rattle.spec_machine.specs.kinds.Takes.{blankState, closes, takes, ends, machineOf}
+use Rattle.spec_machine.specs.kinds.Kit.{said}
 use Rattle.promise.specs.Plain.{linesRead, linesSay, restFault, firstFault, opened, readBehind, plainRead}
-use Rattle.spec_session.proofs.kinds.KindLaws.{ends-ass, ends-srt}
+use Rattle.spec_machine.proofs.kinds.KindLaws.{ends-ass, ends-srt}
 use Rattle.promise.proofs.Bare.{passed, opens, readAll, unmarked-text, marked-text}
 use Rattle.promise.proofs.PlainAss.{ending, ass-lines, ass-first}
-use Rattle.spec_format.specs.block_timing.Header.{headerDue}
+use Rattle.spec_cue.specs.block_timing.Header.{headerDue}
 use Rattle.promise.proofs.PlainBlocks.{block-lines, block-first}
 use Rattle.promise.proofs.PlainVtt.{ends-first, vtt-lines, vtt-first}
 

@@ -1,9 +1,8 @@
 -- WebVTT: the first line, then blocks, as the plain reader reads them.
-use mathlib.Core.Path.{_≡_, refl, sym, ap, _∙_}
+use mathlib.Core.Path.{_≡_, refl, ap, _∙_}
 use mathlib.Core.Bool.{Bool, true, false, cond, _&&_, _||_}
 use mathlib.Core.List.{List, [], _∷_, _++_}
-use Prim.Native.Nat.{ℕ, zero, suc, _+_}
-use borrow.Author.Tests.{eqb-true, eqb-false, eq-eqb, ne-eqb}
+use Prim.Native.Nat.{ℕ, _+_}
 use lib.Dec.{eqb, leb}
 use lib.ListN.{length, drop}
 use Rattle.spec_base.specs.base.Limits.{mostLine}
@@ -11,30 +10,24 @@ use Rattle.spec_base.specs.base.Refusal.{_orElse_, faultUnless}
 use Rattle.spec_text.specs.utf8.Utf8.{utf8}
 use Rattle.spec_text.specs.pattern.Find.{starts, equals}
 use Rattle.spec_text.specs.text.Line.{textOf}
-use Rattle.spec_caption.specs.caption_fate.Says.{Part, stays, notUtf8, badHeader}
-use Rattle.spec_format.specs.block_timing.Header.{webvtt, partsWord, isHeader, headerDue}
+use Rattle.spec_caption.specs.caption_fate.Says.{stays, notUtf8, badHeader}
+use Rattle.spec_cue.specs.block_timing.Header.{webvtt, partsWord, isHeader, headerDue}
 use Rattle.spec_format.specs.whole.Srt.{blocksOf}
-use Rattle.spec_session.specs.session_counts.Machine.{Machine, Says, faulty, says}
-use Rattle.spec_session.specs.session_counts.Reader.{Reading, fails, _⊕_, readLine, readClose}
-use Rattle.spec_session.specs.kinds.Takes.{State, blankState, headTakes, takes, ends, machineOf}
-use Rattle.spec_session.proofs.kinds.KindLaws.{takes-vtt, ends-vtt}
-use Rattle.promise.specs.Plain.{lineFault, unlessFault, headWord, headed, headFault, vttRead, blocksRead}
+use Rattle.spec_machine.specs.session_counts.Machine.{Machine, Says, faulty, says}
+use Rattle.spec_machine.specs.session_counts.Reader.{Reading, fails, _⊕_, readLine, readClose}
+use Rattle.spec_machine.specs.kinds.Takes.{State, blankState, headTakes, takes, ends, machineOf}
+use Rattle.spec_machine.proofs.kinds.KindLaws.{takes-vtt, ends-vtt}
+use Rattle.promise.specs.Plain.{lineFault, unlessFault, headed, headFault, vttRead, blocksRead}
 use Rattle.promise.proofs.Bare.{passed, endOf, readAll}
 use Rattle.promise.proofs.PlainAss.{rest-behind, ending}
 use Rattle.promise.proofs.PlainBlocks.{due-past, block-lines}
+use Rattle.spec_sheet.proofs.sheet_permutation.NamingLaws.{eqb-turn}
 
 -- ---- the reader's rule for the first line is the machine's: a word parted by nothing, a space or a tab
-either-way : (a b : ℕ) → eqb a b ≡ eqb b a
-either-way a b = go (eqb b a) refl
-  where
-    go : (t : Bool) → eqb b a ≡ t → eqb a b ≡ t
-    go true e = eq-eqb a b (sym (eqb-true b a e))
-    go false e = ne-eqb a b (λ q. eqb-false b a e (sym q))
-
 same-word : (w t : List ℕ) → (starts w t && partsWord (drop (length w) t)) ≡ (equals w t || (starts (w ++ 32 ∷ []) t || starts (w ++ 9 ∷ []) t))
 unfolding starts equals
 same-word [] [] = refl
-same-word [] (b ∷ t) = rw (either-way 32 b, either-way 9 b) (go (eqb b 32) (eqb b 9))
+same-word [] (b ∷ t) = rw (eqb-turn 32 b, eqb-turn 9 b) (go (eqb b 32) (eqb b 9))
   where
     go : (x y : Bool) → (x || y) ≡ (cond x true false || cond y true false)
     go true y = refl

@@ -1,36 +1,33 @@
 -- Demand 3 by `Demand`: `demand-built` from the bytes of a sheet and a trim list, `demand-opened` for every map that open accepts.
 use mathlib.Core.Path.{_≡_, refl, sym, ap, subst, _∙_}
-use mathlib.Core.Bool.{Bool, true, false, _||_}
+use mathlib.Core.Bool.{false, _||_}
 use mathlib.Core.List.{List}
 use Prim.Native.Nat.{ℕ, _≤_}
 use native.Mathlib.Omega.{arith}
 use lib.ListN.{length}
 use Rattle.spec_base.specs.base.Limits.{mostHeld}
 use Rattle.spec_sheet.proofs.sheet.SheetLaws.{sound-head}
-use Rattle.spec_caption.specs.caption_time.Kind.{kindBad}
-use Rattle.spec_caption.specs.caption_time.Convert.{timescaleBad}
-use Rattle.spec_caption.proofs.caption_time.Limits.{timescale-good}
+use Rattle.spec_time.specs.caption_time.Kind.{kindBad}
+use Rattle.spec_time.specs.caption_time.Convert.{timescaleBad}
+use Rattle.spec_time.proofs.caption_time.Limits.{timescale-good}
 use Rattle.spec_map.specs.declared.segment.Segment.{Segment}
 use Rattle.spec_map.specs.segment.Segment.{flatOf, mapBad}
 use Rattle.spec_map.specs.segmap.Map.{mapOf, mapNumber}
 use Rattle.spec_map.proofs.segment.SegmentLaws.{flat-back}
 use Rattle.spec_map.proofs.segmap.Built.{map-number, made-parts, made-timescale, made-good}
-use Rattle.spec_format.specs.declared.ass_columns.Columns.{Columns}
-use Rattle.spec_session.specs.session_counts.Session.{Gate, refuse, admit, gate, openBy, openSession}
-use Rattle.spec_session.specs.session_counts.Session as model
-use Rattle.spec_session.specs.session_counts.Calls.{Played, Proper}
-use Rattle.spec_session.proofs.session_counts.Refine.{traced}
-use Rattle.spec_session.proofs.session_counts.Numbers.{opens-fresh}
-use Rattle.spec_session.specs.kinds.Kit.{kit}
-use Rattle.spec_session.specs.declared.session_state.Session.{Session}
+use Rattle.spec_ass.specs.declared.ass_columns.Columns.{Columns}
+use Rattle.spec_machine.specs.session_counts.Session.{Gate, refuse, admit, gate, openBy, openSession}
+use Rattle.spec_machine.specs.session_counts.Session as model
+use Rattle.spec_machine.proofs.session_counts.Numbers.{opens-fresh}
+use Rattle.spec_machine.specs.kinds.Kit.{kit}
 use Rattle.spec_session.specs.session_state.View.{view, stored}
 use Rattle.spec_session.proofs.session_state.ViewLaws.{view-stored, padded-length}
 use Rattle.spec_session.specs.declared.session.Opened.{Opened}
 use Rattle.spec_session.specs.session.SessionCalls.{OpenAnswered, openOf}
 use Rattle.promise.specs.Demand.{AllRight, saidIn, Demand}
-use Rattle.promise.specs.Runs.{Made, callsOf, Ran, outcome}
+use Rattle.promise.specs.Runs.{callsOf}
 use Rattle.promise.specs.Promise.{configOf}
-use Rattle.promise.specs.Stronger.{DemandOpened, DemandRecords, DemandHolds, DemandBuilt}
+use Rattle.promise.specs.Stronger.{DemandOpened, DemandRecords, DemandBuilt}
 use Rattle.promise.proofs.DemandText.{demand-traced}
 use Rattle.promise.proofs.RunLaws.{Whole, returnedAll, ran-trace, ran-outcome}
 

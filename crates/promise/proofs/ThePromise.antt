@@ -9,11 +9,11 @@ use Rattle.spec_map.specs.segmap.Map.{mapOf}
 use Rattle.spec_map.proofs.segment.SegmentLaws.{flat-back}
 use Rattle.spec_caption.specs.declared.caption_fate.Config.{Config}
 use Rattle.spec_caption.specs.caption_fate.Emit.{Warning, Emit, outputOf, warningsOf, emitsOf}
-use Rattle.spec_format.specs.declared.ass_columns.Columns.{Columns}
-use Rattle.spec_session.specs.declared.session_counts.Counts.{Counts}
-use Rattle.spec_session.specs.session_counts.Counts.{countsOf, total, CountedBy}
-use Rattle.spec_session.specs.session_counts.Session as model
-use Rattle.spec_session.proofs.session_counts.Counted.{counted-by}
+use Rattle.spec_ass.specs.declared.ass_columns.Columns.{Columns}
+use Rattle.spec_machine.specs.declared.session_counts.Counts.{Counts}
+use Rattle.spec_machine.specs.session_counts.Counts.{countsOf, total, CountedBy}
+use Rattle.spec_machine.specs.session_counts.Session as model
+use Rattle.spec_machine.proofs.session_counts.Counted.{counted-by}
 use Rattle.spec_session.specs.declared.session_state.Session.{Session}
 use Rattle.spec_session.specs.session_state.View.{view}
 use Rattle.promise.specs.Demand.{passings, readerIn, saidIn, Demand}

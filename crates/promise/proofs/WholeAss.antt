@@ -10,14 +10,15 @@ use Rattle.spec_base.proofs.base.Laws.{and-true}
 use Rattle.spec_text.specs.text.Line.{linesOf, lineCount}
 use Rattle.spec_caption.specs.caption_fate.Says.{Part, Fault, longLine, notUtf8, longBlock, badTime, badHeader, faultNumber}
 use Rattle.spec_caption.specs.caption_fate.Bom.{startsBom, behindBom, bomWritten}
-use Rattle.spec_format.specs.declared.ass_columns.Columns.{Columns}
-use Rattle.spec_format.specs.ass_line.Line.{LineSays, lineSays, faulty as lineFaulty, says as lineSaid}
-use Rattle.spec_format.specs.ass_line.AssThrough.{columnsAfter}
-use Rattle.spec_format.specs.ass_columns.Columns.{noColumns}
+use Rattle.spec_ass.specs.declared.ass_columns.Columns.{Columns}
+use Rattle.spec_ass.specs.ass_line.Line.{LineSays, lineSays, faulty as lineFaulty, says as lineSaid}
+use Rattle.spec_ass.specs.ass_line.AssThrough.{columnsAfter}
+use Rattle.spec_ass.specs.ass_columns.Columns.{noColumns}
 use Rattle.spec_format.specs.whole.Ass.{saidThen, linesSaid, columnsBehind, assSaid}
-use Rattle.spec_session.specs.session_counts.Reader.{Reading, fails}
+use Rattle.spec_machine.specs.session_counts.Reader.{Reading, fails}
 use Rattle.promise.specs.Plain.{bomLength, lineFault, unlessFault, lineThen, assRead, bomBehind, linesSay, opened, bomBack, plainRead}
 use Rattle.promise.specs.Whole.{AssWhole, timeFault, AssStops, AssBefore}
+use Rattle.promise.proofs.PlainBlocks.{mark-zero}
 
 -- ---- lines, cut where the reader stops
 abbrev read : (x : ℕ) → Columns → (n : ℕ) → List (List ℕ) → Reading
@@ -37,10 +38,6 @@ stops-same rest x y c d n m k j p q r s h =
     (subst (λ (i : ℕ). AssStops y d i rest k) r
     (subst (λ (i : Columns). AssStops y i n rest k) q
     (subst (λ (i : ℕ). AssStops i c n rest k) p h)))
-
-pub mark-none : (ls : List (List ℕ)) → bomBehind 0 ls ≡ 0
-mark-none [] = refl
-mark-none (l ∷ ls) = refl
 
 pub number-positive : (f : Fault) → 0 < faultNumber f
 number-positive longLine = omega arith
@@ -98,7 +95,7 @@ module _ (x : ℕ) (c : Columns) (n : ℕ) (l : List ℕ) where
         stops =
             stops-same (r .rest) (bomBehind 0 (r .before)) 0 (columnsBehind d (suc n) (r .before)) (columnsBehind c n (l ∷ r .before))
             (suc n + lineCount (r .before)) (n + suc (lineCount (r .before))) (read 0 d (suc n) ls .fault) (read x c n (l ∷ ls) .fault)
-            (mark-none (r .before)) (sym (columns-line (r .before) (lineSaid d p) f)) m
+            (mark-zero (r .before)) (sym (columns-line (r .before) (lineSaid d p) f)) m
             (sym (ap (λ (k : Reading). k .fault) (read-line ls 0 (lineSaid d p) e f))) (r .stops);
       }
 

@@ -1,21 +1,22 @@
 -- Blocks and the plain reader: the same parts without a fault, and before one; the blocks are cut where the reader stops.
-use mathlib.Core.Path.{_≡_, refl, sym, ap, ap₂, subst, _∙_}
-use mathlib.Core.Bool.{Bool, true, false, cond}
+use mathlib.Core.Path.{_≡_, refl, sym, ap, subst, _∙_}
+use mathlib.Core.Bool.{true}
 use mathlib.Core.List.{List, [], _∷_, _++_, map, append-nil, append-assoc}
 use Prim.Native.Nat.{ℕ, zero, suc, _+_, _<_}
 use native.Mathlib.Omega.{arith}
 use Rattle.spec_base.specs.base.Refusal.{_orElse_}
 use Rattle.spec_text.specs.text.Line.{lineCount}
 use Rattle.spec_caption.specs.caption_fate.Says.{Part, stays, faultNumber}
-use Rattle.spec_format.specs.block_timing.Style.{styleOf}
-use Rattle.spec_format.specs.block_cue.Block.{BlockSays, blockSays, faulty as blockFaulty, says as blockSaid}
+use Rattle.spec_cue.specs.block_timing.Style.{styleOf}
+use Rattle.spec_cue.specs.block_cue.Block.{BlockSays, blockSays, faulty as blockFaulty, says as blockSaid}
 use Rattle.spec_format.specs.whole.Srt.{Block, blockOf, blockSaidThen, bodySaid, blocksSaid}
 use Rattle.spec_format.proofs.whole.BlockShape.{blockLines, AllBlank, Lines, BlankBehind, Others, Blocks, lines-more, others-blocks}
-use Rattle.spec_session.specs.session_counts.Reader.{Reading, fails, _⊕_}
+use Rattle.spec_machine.specs.session_counts.Reader.{Reading, fails, _⊕_}
 use Rattle.promise.specs.Plain.{lineFault, unlessFault, bodyFault, blockThen, bodyThen, blanksThen, bomBehind, closesBlock, blocksRead}
 use Rattle.promise.specs.Whole.{blockTimeFault, bodyTimeFault, firstBlankFault, blockFault, BlocksStop, endsBlank}
 use Rattle.promise.proofs.LinesCut.{many-append}
-use Rattle.promise.proofs.WholeAss.{mark-none, number-positive}
+use Rattle.promise.proofs.WholeAss.{number-positive}
+use Rattle.promise.proofs.PlainBlocks.{mark-zero}
 
 -- ---- a block by itself
 abbrev partOf : BlockSays → List Part
@@ -289,7 +290,7 @@ module _ (kind : ℕ) where
           stops =
               stops-same (c .rest) (bomBehind 0 head) (bomBehind x (body ++ (blanks ++ head))) (next blanks + lineCount head) (n + lineCount (body ++ (blanks ++ head)))
               (read 0 (next blanks) bs .fault) (read x n (blockOf body blanks ∷ bs) .fault)
-              (mark-none head ∙ sym (mark-lines x (body ++ (blanks ++ head)) (lines-either body blanks head (h .2)))) m
+              (mark-zero head ∙ sym (mark-lines x (body ++ (blanks ++ head)) (lines-either body blanks head (h .2)))) m
               (sym (ap (λ (y : Reading). y .fault) (reads bs))) (c .stops);
         }
 

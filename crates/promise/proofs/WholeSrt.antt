@@ -2,7 +2,7 @@
 use mathlib.Core.Path.{_≡_, refl, sym, ap, ap₂, subst, _∙_}
 use mathlib.Core.Bool.{Bool, true, false, cond}
 use mathlib.Core.List.{List, [], _∷_, _++_, append-nil}
-use Prim.Native.Nat.{ℕ, zero, suc, _+_}
+use Prim.Native.Nat.{ℕ, _+_}
 use native.Mathlib.Omega.{arith}
 use lib.Dec.{eqb}
 use lib.ListN.{length}
@@ -11,13 +11,13 @@ use Rattle.spec_base.proofs.base.RefusalLaws.{else-zero}
 use Rattle.spec_text.specs.text.Line.{linesOf, lineCount}
 use Rattle.spec_caption.specs.caption_fate.Says.{Part}
 use Rattle.spec_caption.specs.caption_fate.Bom.{startsBom, behindBom}
-use Rattle.spec_format.specs.block_timing.Style.{blankIn}
+use Rattle.spec_cue.specs.block_timing.Style.{blankIn}
 use Rattle.spec_format.specs.whole.Srt.{Block, ontoBlock, ontoBlanks, blankOnto, blocksOf, blocksSaid, srtSaid}
 use Rattle.spec_format.proofs.whole.BlockShape.{blockLines, blocks-joined, blocks-shape, blocks-only, blocks-blank, blocks-body}
 use Rattle.promise.specs.Plain.{bomLength, lineFault, bodyLineFault, bodyFault, bomBehind, blocksRead, linesSay, opened, bomBack, plainRead}
 use Rattle.promise.specs.Whole.{SrtWhole, BlocksStop, SrtBefore}
 use Rattle.promise.proofs.WholeAss.{no-fault, mark-back}
-use Rattle.promise.proofs.WholeBlocks.{read, Cut, cut-blocks, rest-none}
+use Rattle.promise.proofs.WholeBlocks.{read, cut-blocks, rest-none}
 
 -- ---- the text
 pub srt-before : (text : List ℕ) → SrtBefore text

@@ -1,7 +1,7 @@
 -- A whole WebVTT text and the plain reader: the same parts without a fault, and before one.
 use mathlib.Core.Path.{_≡_, refl, sym, ap, ap₂, subst, _∙_}
-use mathlib.Core.Bool.{Bool, true, false, _&&_, not, cond}
-use mathlib.Core.Logic.{_⊎_, inl, inr, ⊎-elim}
+use mathlib.Core.Bool.{Bool, true, false, _&&_}
+use mathlib.Core.Logic.{inl, inr, ⊎-elim}
 use mathlib.Core.List.{List, [], _∷_, _++_, append-nil}
 use Prim.Native.Nat.{ℕ, zero, suc, _+_, _<_}
 use native.Mathlib.Omega.{arith}
@@ -13,11 +13,12 @@ use Rattle.spec_caption.specs.caption_fate.Bom.{startsBom, behindBom, bomWritte
 use Rattle.spec_format.specs.whole.Srt.{Block, blocksOf, blocksSaid}
 use Rattle.spec_format.specs.whole.Vtt.{headSaid, vttSaid}
 use Rattle.spec_format.proofs.whole.BlockShape.{blockLines, blocks-joined, blocks-shape, blocks-only}
-use Rattle.spec_session.specs.session_counts.Reader.{Reading, fails, _⊕_}
-use Rattle.promise.specs.Plain.{bomLength, unlessFault, bomBehind, headFault, vttRead, blocksRead, linesSay, opened, plainRead}
-use Rattle.promise.specs.Whole.{VttWhole, BlocksStop, endsBlank, FirstStops, VttAtFirst, VttBehind, VttBefore}
-use Rattle.promise.proofs.WholeAss.{mark-none, mark-back}
+use Rattle.spec_machine.specs.session_counts.Reader.{Reading, fails, _⊕_}
+use Rattle.promise.specs.Plain.{bomLength, unlessFault, bomBehind, headFault, vttRead, linesSay, opened, plainRead}
+use Rattle.promise.specs.Whole.{VttWhole, BlocksStop, FirstStops, VttAtFirst, VttBehind, VttBefore}
+use Rattle.promise.proofs.WholeAss.{mark-back}
 use Rattle.promise.proofs.WholeBlocks.{read, stops-same, cut-blocks, rest-none}
+use Rattle.promise.proofs.PlainBlocks.{mark-zero}
 
 -- ---- a text behind its BOM, where b says whether there is one
 abbrev readBy : (b : Bool) → (x : ℕ) → List (List ℕ) → Reading
@@ -85,7 +86,7 @@ behind-first text l ls el e =
           subst (λ (bs : List Block). BlocksStop 2 0 (suc (lineCount (blockLines (c .before)))) bs (readBy (startsBom text) (bomLength text) (linesOf (behindBom text)) .fault)) (sym tail)
           (stops-same 2 (c .rest) (bomBehind 0 (blockLines (c .before))) 0 (1 + lineCount (blockLines (c .before))) (suc (lineCount (blockLines (c .before))))
           (read 2 0 1 (blocksOf 2 ls) .fault) (readBy (startsBom text) (bomLength text) (linesOf (behindBom text)) .fault)
-          (mark-none (blockLines (c .before))) m (sym fault) (c .stops));
+          (mark-zero (blockLines (c .before))) m (sym fault) (c .stops));
     }
 
 pub vtt-before : (text : List ℕ) → VttBefore text

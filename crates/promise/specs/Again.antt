@@ -6,14 +6,14 @@ use mathlib.Core.List.{List, [], _∷_}
 use Prim.Native.Nat.{ℕ, zero, suc, _*_, _<_}
 use lib.Dec.{eqb}
 use Rattle.spec_text.specs.text.Line.{linesOf}
-use Rattle.spec_caption.specs.caption_time.Kind.{unitsOf}
-use Rattle.spec_caption.specs.caption_stamp.Write.{timeText}
+use Rattle.spec_time.specs.caption_time.Kind.{unitsOf}
+use Rattle.spec_time.specs.caption_stamp.Write.{timeText}
 use Rattle.spec_caption.specs.caption_fate.Says.{Cue, withTimes, Part, stays, passes, cue}
 use Rattle.spec_caption.specs.caption_fate.Emit.{render}
-use Rattle.spec_format.specs.declared.ass_columns.Columns.{Columns}
-use Rattle.spec_format.specs.ass_line.Line.{lineSays, says}
-use Rattle.spec_format.specs.block_timing.Style.{styleOf}
-use Rattle.spec_format.specs.block_cue.Block.{blockSays, blockCue, says as blockSaid}
+use Rattle.spec_ass.specs.declared.ass_columns.Columns.{Columns}
+use Rattle.spec_ass.specs.ass_line.Line.{lineSays, says}
+use Rattle.spec_cue.specs.block_timing.Style.{styleOf}
+use Rattle.spec_cue.specs.block_cue.Block.{blockSays, blockCue, says as blockSaid}
 use Rattle.spec_format.specs.back.Stands.{LineStands, BlockStands}
 
 -- its frame with these times in the places of the old ones, as it is written

@@ -6,12 +6,12 @@ use Prim.Native.Nat.{ℕ, _+_, _≤_}
 use lib.ListN.{length}
 use Rattle.spec_text.specs.utf8.Utf8.{utf8}
 use Rattle.spec_text.specs.text.Line.{concat, hasLf}
-use Rattle.spec_caption.specs.caption_time.Convert.{timescaleBad}
+use Rattle.spec_time.specs.caption_time.Convert.{timescaleBad}
 use Rattle.spec_map.specs.segment.Segment.{segmentsOf, anyBad, mapBad}
-use Rattle.spec_session.specs.session_counts.Cut.{closedLines, unfinished}
-use Rattle.spec_session.specs.session_counts.Session.{Lent, feed, finish}
-use Rattle.spec_session.specs.session_counts.Calls.{Reader, readerRefusal}
-use Rattle.spec_session.specs.kinds.Kit.{linesBad, heldBad, columnsBad}
+use Rattle.spec_machine.specs.session_counts.Cut.{closedLines, unfinished}
+use Rattle.spec_machine.specs.session_counts.Session.{Lent, feed, finish}
+use Rattle.spec_machine.specs.session_counts.Calls.{Reader, readerRefusal}
+use Rattle.spec_machine.specs.kinds.Kit.{linesBad, heldBad, columnsBad}
 use Rattle.promise.specs.Plain.{lineFault, bodyLineFault}
 
 -- a reader that has taken some text

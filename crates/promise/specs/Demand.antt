@@ -1,25 +1,25 @@
 -- Demand 3: what is right for each part of a text, put through the map; what the plain reader has read after a list of calls; and `Demand`, which is
 -- stronger than the promise: the numbers, the bytes, the warnings and the counts are those that are computed from the text.
 use mathlib.Core.Path.{_≡_}
-use mathlib.Core.Bool.{Bool, true, false, _&&_, _||_}
+use mathlib.Core.Bool.{Bool, false, _&&_, _||_}
 use mathlib.Core.List.{List, [], _∷_, _++_}
-use Prim.Native.Nat.{ℕ, suc}
+use Prim.Native.Nat.{ℕ}
 use lib.Dec.{ltb, leb}
-use Rattle.spec_caption.specs.caption_time.Kind.{unitsOf}
-use Rattle.spec_caption.specs.caption_time.Convert.{ticksOf}
-use Rattle.spec_caption.specs.caption_stamp.Write.{timeText}
+use Rattle.spec_time.specs.caption_time.Kind.{unitsOf}
+use Rattle.spec_time.specs.caption_time.Convert.{ticksOf}
+use Rattle.spec_time.specs.caption_stamp.Write.{timeText}
 use Rattle.spec_map.specs.declared.segment.Segment.{Segment}
 use Rattle.spec_map.specs.segment.Segment.{sourceOf, sourceEnd, segmentsOf}
 use Rattle.spec_caption.specs.declared.caption_fate.Config.{Config}
 use Rattle.spec_caption.specs.caption_fate.Fates.{Fate, passed, dropped, shifted, clipped, FirstMet, Right}
 use Rattle.spec_caption.specs.caption_fate.Says.{reasonNumber, Cue, Part, stays, passes, cue, captionsIn}
 use Rattle.spec_caption.specs.caption_fate.Emit.{Warning, warning, warnIf, none, decided, Emit, render, emitOf}
-use Rattle.spec_format.specs.declared.ass_columns.Columns.{Columns}
-use Rattle.spec_session.specs.session_counts.Counts.{total, countIf, CountedBy}
-use Rattle.spec_session.specs.session_counts.Reader.{Reading}
-use Rattle.spec_session.specs.session_counts.Session.{Call, openSession}
-use Rattle.spec_session.specs.session_counts.Calls.{Played, play, Reader, Heard, newReader, readerAfter, hear, readingOf, emitsIn, SameAsReader}
-use Rattle.spec_session.specs.kinds.Kit.{kit}
+use Rattle.spec_ass.specs.declared.ass_columns.Columns.{Columns}
+use Rattle.spec_machine.specs.session_counts.Counts.{total, countIf, CountedBy}
+use Rattle.spec_machine.specs.session_counts.Reader.{Reading}
+use Rattle.spec_machine.specs.session_counts.Session.{Call, openSession}
+use Rattle.spec_machine.specs.session_counts.Calls.{Played, play, Reader, Heard, newReader, readerAfter, hear, readingOf, emitsIn, SameAsReader}
+use Rattle.spec_machine.specs.kinds.Kit.{kit}
 use Rattle.promise.specs.Plain.{plainRead}
 use Rattle.promise.specs.Again.{AllAgain}
 

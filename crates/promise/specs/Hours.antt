@@ -3,7 +3,7 @@ use mathlib.Core.Path.{_≡_}
 use mathlib.Core.Bool.{Bool, false}
 use mathlib.Core.List.{List, [], _∷_}
 use Prim.Native.Nat.{ℕ, _*_, _<_}
-use Rattle.spec_caption.specs.caption_time.Kind.{kindBad, unitsOf}
+use Rattle.spec_time.specs.caption_time.Kind.{kindBad, unitsOf}
 use Rattle.spec_caption.specs.caption_fate.Says.{Part, stays, passes, cue}
 use Rattle.promise.specs.Plain.{plainRead}
 

@@ -11,14 +11,14 @@ use Rattle.spec_text.specs.pattern.Find.{starts, equals}
 use Rattle.spec_text.specs.text.Line.{linesOf, lineCount, textOf}
 use Rattle.spec_caption.specs.caption_fate.Says.{Part, stays, faultNumber}
 use Rattle.spec_caption.specs.caption_fate.Bom.{startsBom, behindBom, bomWritten}
-use Rattle.spec_format.specs.declared.ass_columns.Columns.{Columns}
-use Rattle.spec_format.specs.ass_line.Line.{LineSays, lineSays, faulty as lineFaulty, says as lineSaid}
-use Rattle.spec_format.specs.ass_columns.Columns.{noColumns}
-use Rattle.spec_format.specs.block_timing.Style.{styleOf, blankIn}
-use Rattle.spec_format.specs.block_cue.Block.{BlockSays, blockSays, faulty as blockFaulty, says as blockSaid}
+use Rattle.spec_ass.specs.declared.ass_columns.Columns.{Columns}
+use Rattle.spec_ass.specs.ass_line.Line.{LineSays, lineSays, faulty as lineFaulty, says as lineSaid}
+use Rattle.spec_ass.specs.ass_columns.Columns.{noColumns}
+use Rattle.spec_cue.specs.block_timing.Style.{styleOf, blankIn}
+use Rattle.spec_cue.specs.block_cue.Block.{BlockSays, blockSays, faulty as blockFaulty, says as blockSaid}
 use Rattle.spec_format.specs.whole.Srt.{Block, blocksOf}
-use Rattle.spec_session.specs.session_counts.Cut.{closedLines, unfinished}
-use Rattle.spec_session.specs.session_counts.Reader.{Reading, fails, _⊕_}
+use Rattle.spec_machine.specs.session_counts.Cut.{closedLines, unfinished}
+use Rattle.spec_machine.specs.session_counts.Reader.{Reading, fails, _⊕_}
 
 -- ---- the bytes that a leading BOM adds to the first line
 abbrev pub bomLength : List ℕ → ℕ

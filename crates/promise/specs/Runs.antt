@@ -4,9 +4,9 @@ use mathlib.Core.List.{List, [], _∷_, _++_, map, foldl}
 use Prim.Native.Nat.{ℕ}
 use lib.ListN.{length, take}
 use Rattle.spec_caption.specs.caption_fate.Emit.{Warning, warning}
-use Rattle.spec_format.specs.declared.ass_columns.Columns.{Columns}
-use Rattle.spec_session.specs.session_counts.Session.{Call, lentOf}
-use Rattle.spec_session.specs.session_counts.Calls.{Played}
+use Rattle.spec_ass.specs.declared.ass_columns.Columns.{Columns}
+use Rattle.spec_machine.specs.session_counts.Session.{Call, lentOf}
+use Rattle.spec_machine.specs.session_counts.Calls.{Played}
 use Rattle.spec_session.specs.declared.session_state.Session.{Session}
 use Rattle.spec_session.specs.session_state.View.{view}
 use Rattle.spec_session.specs.declared.session.Fed.{Fed}

@@ -4,15 +4,15 @@ use mathlib.Core.Path.{_≡_}
 use mathlib.Core.Bool.{false}
 use mathlib.Core.List.{List, Forall₂}
 use Prim.Native.Nat.{ℕ}
-use Rattle.spec_caption.specs.caption_time.Kind.{kindBad}
-use Rattle.spec_caption.specs.caption_time.Convert.{timescaleBad}
+use Rattle.spec_time.specs.caption_time.Kind.{kindBad}
+use Rattle.spec_time.specs.caption_time.Convert.{timescaleBad}
 use Rattle.spec_map.specs.declared.segment.Segment.{Segment}
 use Rattle.spec_map.specs.segment.Segment.{segmentsOf, flatOf}
 use Rattle.spec_map.specs.segmap.Map.{mapOf}
 use Rattle.spec_caption.specs.declared.caption_fate.Config.{Config}
 use Rattle.spec_caption.specs.caption_fate.Says.{Part}
 use Rattle.spec_caption.specs.caption_fate.Emit.{Emit, emitsOf}
-use Rattle.spec_session.specs.session_counts.Calls.{Proper}
+use Rattle.spec_machine.specs.session_counts.Calls.{Proper}
 use Rattle.spec_session.specs.declared.session_state.Session.{Session}
 use Rattle.spec_session.specs.declared.session.Opened.{Opened}
 use Rattle.spec_session.specs.session.SessionCalls.{OpenAnswered}

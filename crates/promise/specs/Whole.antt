@@ -9,15 +9,15 @@ use Rattle.spec_base.specs.base.Refusal.{_orElse_}
 use Rattle.spec_text.specs.text.Line.{linesOf, lineCount}
 use Rattle.spec_caption.specs.caption_fate.Says.{stays, faultNumber}
 use Rattle.spec_caption.specs.caption_fate.Bom.{startsBom, behindBom, bomWritten}
-use Rattle.spec_format.specs.declared.ass_columns.Columns.{Columns}
-use Rattle.spec_format.specs.ass_line.Line.{LineSays, lineSays, faulty as lineFaulty, says as lineSaid}
-use Rattle.spec_format.specs.ass_columns.Columns.{noColumns}
+use Rattle.spec_ass.specs.declared.ass_columns.Columns.{Columns}
+use Rattle.spec_ass.specs.ass_line.Line.{LineSays, lineSays, faulty as lineFaulty, says as lineSaid}
+use Rattle.spec_ass.specs.ass_columns.Columns.{noColumns}
 use Rattle.spec_format.specs.whole.Ass.{linesSaid, columnsBehind, assSaid}
-use Rattle.spec_format.specs.block_timing.Style.{styleOf, blankIn}
-use Rattle.spec_format.specs.block_cue.Block.{BlockSays, blockSays, faulty as blockFaulty, says as blockSaid}
+use Rattle.spec_cue.specs.block_timing.Style.{styleOf, blankIn}
+use Rattle.spec_cue.specs.block_cue.Block.{BlockSays, blockSays, faulty as blockFaulty, says as blockSaid}
 use Rattle.spec_format.specs.whole.Srt.{Block, blocksOf, blocksSaid, srtSaid}
 use Rattle.spec_format.specs.whole.Vtt.{vttSaid}
-use Rattle.spec_session.specs.session_counts.Reader.{fails}
+use Rattle.spec_machine.specs.session_counts.Reader.{fails}
 use Rattle.promise.specs.Plain.{bomLength, lineFault, assRead, bodyFault, bomBehind, blocksRead, headFault, bomBack, plainRead}
 
 -- ---- without a fault

@@ -1,1 +1,2 @@
 pub mod OpLaws
+pub mod RunLaws

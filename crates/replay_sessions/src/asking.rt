@@ -1,25 +1,11 @@
 // The answer by its op.
 use crate::parked::print_parked;
 use crate::retimed::print_retimed;
-use replay_feeds::Plan;
+use crate::storing::plain;
+use crate::storing::with_parkings;
 use replay_taken::print_taken;
 ghost use mathlib.Core.Path.{_≡_};
 ghost use Rattle.replay_sessions.specs.Op.{isText};
-
-// No parking.
-fn plain(cut: u32) -> Plan {
-    Plan {
-        cut,
-        every: 0,
-        mark: 2,
-    }
-}
-
-// A parking after every so many calls, with the mark that is the first byte of y.
-fn with_parkings(cut: u32, every: u32, y: &[u8]) -> Plan {
-    let mark = base::byte(y, 0) as u32;
-    Plan { cut, every, mark }
-}
 
 // A case as `replay` has it: the words a to d of its head, the map of X, six numbers a segment, and the bytes X, Y and Z.
 // Prints the answer to an op about a text or a session: 5 the text Z retimed, 13 the same with parkings (request 2.10), 14 the session of the blocks X, 15 the blocks of

@@ -1,36 +1,8 @@
 // The session that a text leaves, parked.
 use crate::printing::print_output;
-use replay_feeds::Plan;
-use replay_feeds::Step;
-use replay_feeds::end;
-use replay_feeds::feed_all;
+use crate::running::run;
+use crate::storing::plain;
 use session_state::Session;
-
-// The text in pieces, then a finish where one is asked for.
-fn run(
-    session: Session,
-    map: &[u64],
-    text: &[u8],
-    cut: u32,
-    ending: bool,
-    all: &mut [u8],
-    notes: &mut [u8],
-) -> Step {
-    let plan = Plan {
-        cut,
-        every: 0,
-        mark: 2,
-    };
-    let s = feed_all(session, map, text, plan, all, notes);
-    if s.number != 0 {
-        return s;
-    }
-    if ending {
-        let at = s.session;
-        return end(at, map, plan, s.calls, all, notes, s.written, s.noted);
-    }
-    s
-}
 
 // Prints the blocks of a session, or `refused` and the number.
 fn print_blocks(session: Session) {
@@ -40,7 +12,7 @@ fn print_blocks(session: Session) {
         files_map::print_number(b"refused ", number);
         return;
     }
-    print_output(&bytes, 9216);
+    print_output(&bytes);
 }
 
 // Prints the session after the text as it is parked, or `refused` and the number. `how` is 1 with a finish, 0 without; 2 more, and a session that a fault has ended is parked too.
@@ -53,7 +25,15 @@ pub fn print_parked(kind: u32, timescale: u32, map: &[u64], text: &[u8], cut: u3
         return;
     }
     let fresh = opened.session;
-    let ran = run(fresh, map, text, cut, how % 2 == 1, &mut all, &mut notes);
+    let ran = run(
+        fresh,
+        map,
+        text,
+        plain(cut),
+        how % 2 == 1,
+        &mut all,
+        &mut notes,
+    );
     if ran.number != 0 {
         if how < 2 {
             files_map::print_number(b"refused ", ran.number);

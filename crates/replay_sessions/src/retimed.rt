@@ -1,28 +1,17 @@
 // A text retimed.
-use crate::printing::print_counts;
 use crate::printing::print_output;
+use crate::running::run;
+use crate::storing::Plan;
 use libc::STDOUT_FILENO;
-use replay_feeds::Plan;
-use replay_feeds::Step;
-use replay_feeds::end;
-use replay_feeds::feed_all;
-use session_state::Session;
+use session_counts::Counts;
 
-// The text in pieces, then a finish.
-fn run(
-    session: Session,
-    map: &[u64],
-    text: &[u8],
-    plan: Plan,
-    all: &mut [u8],
-    notes: &mut [u8],
-) -> Step {
-    let s = feed_all(session, map, text, plan, all, notes);
-    if s.number != 0 {
-        return s;
-    }
-    let at = s.session;
-    end(at, map, plan, s.calls, all, notes, s.written, s.noted)
+// The line `retimed` with its four counts.
+fn print_counts(counts: Counts) {
+    let shifted = counts.shifted as u64;
+    let clipped = counts.clipped as u64;
+    let dropped = counts.dropped as u64;
+    let passed = counts.passed as u64;
+    number_lines::print_line(b"retimed", &[shifted, clipped, dropped, passed]);
 }
 
 // Prints what becomes of the text, or `refused` and the number.
@@ -35,7 +24,7 @@ pub fn print_retimed(kind: u32, timescale: u32, map: &[u64], text: &[u8], plan: 
         return;
     }
     let fresh = opened.session;
-    let ran = run(fresh, map, text, plan, &mut all, &mut notes);
+    let ran = run(fresh, map, text, plan, true, &mut all, &mut notes);
     if ran.number != 0 {
         files_map::print_number(b"refused ", ran.number);
         return;
@@ -44,5 +33,5 @@ pub fn print_retimed(kind: u32, timescale: u32, map: &[u64], text: &[u8], plan: 
     let counts = over.counts;
     print_counts(counts);
     io::write_all(STDOUT_FILENO, base::front(&notes, ran.noted));
-    print_output(&all, ran.written);
+    print_output(base::front(&all, ran.written));
 }

@@ -1,7 +1,9 @@
 // A session taken up, printed.
 use libc::STDOUT_FILENO;
-use replay_feeds::number_at;
+use number_lines::print_line;
 use session_state::Session;
+ghost use mathlib.Core.Path.{_≡_};
+ghost use Rattle.spec_parking.specs.parking.Parkings.{takeNumber};
 
 fn flag(t: bool) -> u64 {
     if t {
@@ -36,40 +38,27 @@ fn numbers(session: Session) -> [u64; 15] {
     ]
 }
 
-// Numbers with a space before each.
-fn numbers_at(line: &mut [u8], start: usize, ns: &[u64]) -> usize {
-    let mut at = start;
-    let mut i: usize = 0;
-    while i < ns.len() {
-        let next = base::bytes_at(line, at, b" ");
-        at = number_at(line, next, ns[i]);
-        i += 1;
-    }
-    at
-}
-
-// The held bytes and a line end.
-fn print_held(session: Session) {
+// The line `taken` with fifteen numbers, the line `held` with a length, the held bytes and a line end.
+fn print_session(session: Session) {
+    let ns = numbers(session);
+    print_line(b"taken", &ns);
+    let n = session.held_len;
+    print_line(b"held", &[n as u64]);
     let held = session.held;
-    io::write_all(STDOUT_FILENO, base::front(&held, session.held_len));
+    io::write_all(STDOUT_FILENO, base::front(&held, n));
     io::write_all(STDOUT_FILENO, b"\n");
 }
 
-// The line `taken` with fifteen numbers, the line `held` with a length, the held bytes and a line end; or `refused` and the number.
-pub fn print_taken(bytes: &[u8]) {
+// Prints the session that the blocks name, or `refused` and the number that it answers.
+pub fn print_taken(bytes: &[u8]) -> u32
+    ensures { λ r. ⌜ r ≡ takeNumber (now (bytes .entry)) ⌝ }
+{
     let up = parking::take_up(bytes);
-    if up.number != 0 {
-        files_map::print_number(b"refused ", up.number);
-        return;
+    let number = up.number;
+    if number != 0 {
+        return files_map::print_number(b"refused ", number);
     }
     let session = up.session;
-    let mut line = [0u8; 512];
-    let a = base::bytes_at(&mut line, 0, b"taken");
-    let ns = numbers(session);
-    let b = numbers_at(&mut line, a, &ns);
-    let c = base::bytes_at(&mut line, b, b"\nheld ");
-    let d = number_at(&mut line, c, session.held_len as u64);
-    let e = base::bytes_at(&mut line, d, b"\n");
-    io::write_all(STDOUT_FILENO, base::front(&line, e));
-    print_held(session);
+    print_session(session);
+    0
 }

@@ -9,10 +9,8 @@ use spec_session::session::Fed;
 use spec_session::session::Going;
 use spec_session::session::Opened;
 ghost use mathlib.Core.Path.{_≡_};
-ghost use Prim.Native.Nat.{_≤_};
-ghost use lib.ListN.{length, replicate, drop};
-ghost use Rattle.spec_base.specs.base.Put.{put};
-ghost use Rattle.spec_session.specs.kinds.Takes.{noColumns};
+ghost use lib.ListN.{length};
+ghost use Rattle.spec_machine.specs.kinds.Takes.{noColumns};
 ghost use Rattle.spec_session.specs.session.SessionCalls.{Answered, OpenAnswered, feedCall, finishCall, openOf, lengthsBad, refusalOf, beginAt, endedSession, unchangedFed, endedFed, heldFed};
 
 // 16, by the lengths.
@@ -150,17 +148,6 @@ pub fn open(kind: u32, timescale: u32, map: &[u64]) -> Opened
     Opened { number: 0, session }
 }
 
-// Zeros to the end.
-fn clear(rest: &mut [u8])
-    ensures { λ _. ⌜ now (rest .exit) ≡ replicate (length (now (rest .entry))) 0 ⌝ }
-{
-    let mut i = 0;
-    while i < rest.len() {
-        rest[i] = 0;
-        i += 1;
-    }
-}
-
 // The session as it came.
 fn unchanged(number: u32, session: Session) -> Fed
     ensures { λ r. ⌜ r ≡ unchangedFed number session ⌝ }
@@ -238,7 +225,7 @@ pub fn feed(
         return over(config, taken, end);
     }
     let n = end.held;
-    clear(&mut held[n..]);
+    base::clear(&mut held[n..]);
     going_on(config, session.outcome, taken, end, held)
 }
 

@@ -8,14 +8,14 @@ use session_lines::put_bom;
 use spec_session::session::Going;
 ghost use mathlib.Core.Path.{_≡_};
 ghost use mathlib.Core.List.{List, []};
-ghost use Prim.Native.Nat.{ℕ, _≤_, _<_, _+_, _^_};
+ghost use Prim.Native.Nat.{ℕ, _<_, _+_, _^_};
 ghost use lib.Dec.{eqb};
 ghost use lib.ListN.{length, take};
 ghost use Rattle.spec_text.specs.text.Line.{concat};
 ghost use Rattle.spec_caption.specs.caption_fate.Says.{Part};
-ghost use Rattle.spec_session.specs.declared.session_counts.Counts.{Counts};
-ghost use Rattle.spec_session.specs.session_counts.Machine.{going, closed, withBom, finishRun};
-ghost use Rattle.spec_session.specs.kinds.Takes.{State, ends, machineOf};
+ghost use Rattle.spec_machine.specs.declared.session_counts.Counts.{Counts};
+ghost use Rattle.spec_machine.specs.session_counts.Machine.{going, closed, withBom, finishRun};
+ghost use Rattle.spec_machine.specs.kinds.Takes.{State, ends, machineOf};
 ghost use Rattle.spec_session.specs.session_lines.Done.{Ready, Parsed};
 ghost use Rattle.spec_session.specs.session.Stand.{Shows, CloseRoom, Opening, resumeAt, closingTo, bomTo, bomAloneOf};
 

@@ -1,5 +1,5 @@
-// A piece taken byte by byte.
-use ass_columns::Columns;
+// A piece is taken byte by byte. `Going` says how far the call is: the text's number and counts, what is held, and how much is written.
+// The held bytes up to `start` are the open block, those up to `held` also the unfinished line.
 use caption_fate::Config;
 use session_counts::Counts;
 use session_lines::Taken;
@@ -12,13 +12,13 @@ ghost use Prim.Native.Nat.{ℕ, _≤_, _<_, _+_, _-_, _^_};
 ghost use lib.Dec.{eqb};
 ghost use lib.ListN.{length, take, drop};
 ghost use Rattle.spec_caption.specs.caption_fate.Says.{Part};
-ghost use Rattle.spec_session.specs.declared.session_counts.Counts.{Counts};
-ghost use Rattle.spec_session.specs.session_counts.Machine.{Run, going, lineEnd, takeLine, byteStep, run};
-ghost use Rattle.spec_session.specs.kinds.Takes.{State, machineOf};
+ghost use Rattle.spec_machine.specs.declared.session_counts.Counts.{Counts};
+ghost use Rattle.spec_machine.specs.session_counts.Machine.{Run, going, lineEnd, takeLine, byteStep, run};
+ghost use Rattle.spec_machine.specs.kinds.Takes.{State, machineOf};
 ghost use Rattle.spec_session.specs.session_lines.Done.{Ready, Parsed};
 ghost use Rattle.spec_session.specs.session.Stand.{Joins, Shows, Room, ByteRoom, Opening, ParsedIn, resumeAt, stoppedAt, holdingTo, linedTo};
 
-// Stopped by a fault.
+// The call stops with a fault of the text.
 pub fn stop(at: Going, number: u32) -> Going
     ensures { λ r. ⌜ r ≡ stoppedAt at number ⌝ }
 {
@@ -36,7 +36,7 @@ pub fn stop(at: Going, number: u32) -> Going
     }
 }
 
-// With m bytes held.
+// The same with m bytes held.
 fn holding(at: Going, m: usize) -> Going
     ensures { λ r. ⌜ r ≡ holdingTo at m ⌝ }
 {
@@ -54,7 +54,7 @@ fn holding(at: Going, m: usize) -> Going
     }
 }
 
-// After a line, with an open block of e bytes.
+// After a line that was taken: one line more, what it wrote, and an open block of e bytes.
 fn lined(at: Going, told: Taken, e: usize) -> Going
     requires { ⌜ (at .lines ≤ 2 ^ 31) × (at .written + told .written < 2 ^ 64) × (at .warned + told .warned < 2 ^ 64) ⌝ }
     ensures { λ r. ⌜ r ≡ linedTo at told e ⌝ }
@@ -73,7 +73,7 @@ fn lined(at: Going, told: Taken, e: usize) -> Going
     }
 }
 
-// The held bytes from s + k to s + k + n go down to s.
+// Moves n held bytes from s + k down to s: k bytes before them, a BOM, are left out.
 fn move_down(held: &mut [u8], s: usize, k: usize, n: usize)
     requires { ⌜ (s + k) + n ≤ length (now held) ⌝ }
     ensures { λ _. ⌜ take (s + n) (now (held .exit)) ≡ take s (now (held .entry)) ++ take n (drop (s + k) (now (held .entry))) ⌝ }
@@ -88,7 +88,7 @@ fn move_down(held: &mut [u8], s: usize, k: usize, n: usize)
     }
 }
 
-// A complete line: it ends where the held bytes end.
+// Takes the line that the held bytes end with. It joins the open block, or it is written and the block is empty.
 pub fn end_line(
     config: Config,
     map: &[u64],
@@ -128,7 +128,7 @@ pub fn end_line(
     lined(at, told, m - k)
 }
 
-// One byte.
+// Takes one byte: 19 where the line is too long, else it is held, and LF ends the line.
 fn step(
     config: Config,
     map: &[u64],

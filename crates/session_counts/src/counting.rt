@@ -1,7 +1,7 @@
 // How many captions of a text met each fate.
-use spec_session::session_counts::Counts;
+use spec_machine::session_counts::Counts;
 ghost use mathlib.Core.Path.{_≡_};
-ghost use Rattle.spec_session.specs.session_counts.Session.{countsAbove};
+ghost use Rattle.spec_machine.specs.session_counts.Session.{countsAbove};
 
 // Whether a count is above a number: for 17 the bytes taken.
 pub fn counts_above(taken: u32, counts: Counts) -> bool

@@ -2,4 +2,4 @@
 mod counting;
 
 pub use counting::counts_above;
-pub use spec_session::session_counts::Counts;
+pub use spec_machine::session_counts::Counts;

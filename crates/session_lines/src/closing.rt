@@ -11,8 +11,8 @@ ghost use lib.ListN.{length};
 ghost use Rattle.spec_text.specs.text.Line.{linesOf};
 ghost use Rattle.spec_map.specs.segment.Segment.{segmentsOf};
 ghost use Rattle.spec_caption.specs.caption_fate.Grouped.{segmentsBy};
-ghost use Rattle.spec_format.specs.block_timing.Style.{styleOf};
-ghost use Rattle.spec_session.specs.kinds.Takes.{blankState, closes};
+ghost use Rattle.spec_cue.specs.block_timing.Style.{styleOf};
+ghost use Rattle.spec_machine.specs.kinds.Takes.{blankState, closes};
 ghost use Rattle.spec_session.specs.session_lines.LinesThrough.{answerIn, endIn, EndTells};
 ghost use Rattle.spec_session.specs.session_lines.Done.{Ample};
 

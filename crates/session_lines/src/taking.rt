@@ -18,9 +18,9 @@ ghost use Rattle.spec_base.specs.base.Put.{placed};
 ghost use Rattle.spec_text.specs.text.Line.{linesOf};
 ghost use Rattle.spec_map.specs.segment.Segment.{segmentsOf};
 ghost use Rattle.spec_caption.specs.caption_fate.Grouped.{segmentsBy};
-ghost use Rattle.spec_format.specs.block_timing.Style.{styleOf};
-ghost use Rattle.spec_session.specs.session_counts.Machine.{bom, hasBom, takeLine};
-ghost use Rattle.spec_session.specs.kinds.Takes.{lineTakes, blockTakes, headTakes, takes, machineOf};
+ghost use Rattle.spec_cue.specs.block_timing.Style.{styleOf};
+ghost use Rattle.spec_machine.specs.session_counts.Machine.{bom, hasBom, takeLine};
+ghost use Rattle.spec_machine.specs.kinds.Takes.{lineTakes, blockTakes, headTakes, takes, machineOf};
 ghost use Rattle.spec_session.specs.session_lines.LinesThrough.{takenIn, stateOf, bomSize, takeIn, LineTells};
 ghost use Rattle.spec_session.specs.session_lines.Done.{Ample};
 

@@ -1,4 +1,4 @@
-// What is told of a line and of the end of a block.
+// The results of taking a line and of ending a block: number, counts, bytes written, warning places written.
 use ass_columns::Columns;
 use caption_fate::Counted;
 use session_counts::Counts;
@@ -13,7 +13,7 @@ ghost use Rattle.spec_session.specs.session_lines.Done.{Below};
 // The most that a count may be before a line or a block's end.
 const MOST_COUNT: u32 = 2147483648;
 
-// A line that wrote nothing.
+// The result of a line that wrote nothing; `added` where the line joins the open block.
 pub fn quiet(number: u32, added: bool, counts: Counts, columns: Columns) -> Taken
     ensures { λ r. ⌜ r ≡ quietLine number added counts columns ⌝ }
 {
@@ -28,7 +28,7 @@ pub fn quiet(number: u32, added: bool, counts: Counts, columns: Columns) -> Take
     }
 }
 
-// The end of a block that wrote nothing.
+// The result of a block's end that wrote nothing.
 pub fn still(number: u32, counts: Counts) -> Ended
     ensures { λ r. ⌜ r ≡ quietEnd number counts ⌝ }
 {
@@ -40,7 +40,7 @@ pub fn still(number: u32, counts: Counts) -> Ended
     }
 }
 
-// A blank line that ended a block, with `written` bytes of both.
+// The result of a blank line that ended a block; `written` counts the bytes of block and line together.
 pub fn blank(end: Ended, columns: Columns, written: usize) -> Taken
     ensures { λ r. ⌜ r ≡ blankLine columns end written ⌝ }
 {
@@ -56,7 +56,7 @@ pub fn blank(end: Ended, columns: Columns, written: usize) -> Taken
     }
 }
 
-// One more caption.
+// The counts with one more caption of this fate.
 pub fn count(counts: Counts, counted: Counted) -> Counts
     requires { ⌜ Below counts mostCount ⌝ }
     ensures { λ r. ⌜ r ≡ countBy counted counts ⌝ }
@@ -90,7 +90,7 @@ pub fn count(counts: Counts, counted: Counted) -> Counts
     }
 }
 
-// A line that passed behind a BOM.
+// The result of a line behind a BOM, whose three bytes are written before it and are no part of the block.
 pub fn behind_bom(told: Taken) -> Taken
     requires { ⌜ 3 + told .written < 2 ^ 64 ⌝ }
     ensures { λ r. ⌜ r ≡ behindLine told ⌝ }

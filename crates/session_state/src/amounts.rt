@@ -1,9 +1,9 @@
-// The numbers of a session that 17 bounds.
+// The limits of a session's numbers; a session past one of them is foreign (17).
 use ass_columns::Columns;
 use caption_fate::Config;
 ghost use mathlib.Core.Path.{_≡_};
-ghost use Rattle.spec_session.specs.session_counts.Session.{configBad, isOutcome, outcomeBad};
-ghost use Rattle.spec_session.specs.kinds.Kit.{columnsBad};
+ghost use Rattle.spec_machine.specs.session_counts.Session.{configBad, isOutcome, outcomeBad};
+ghost use Rattle.spec_machine.specs.kinds.Kit.{columnsBad};
 
 // Whether there is no such kind, or the timescale is out of range.
 pub fn config_bad(config: Config) -> bool
@@ -15,7 +15,7 @@ pub fn config_bad(config: Config) -> bool
     caption_time::timescale_bad(config.timescale)
 }
 
-// Whether a text can end with this number.
+// Whether a text can end with this number: 0, a fault of the text (19 to 22), or 24 (no WebVTT header).
 pub fn is_outcome(outcome: u32) -> bool
     ensures { λ r. ⌜ r ≡ isOutcome outcome ⌝ }
 {
@@ -31,7 +31,7 @@ pub fn is_outcome(outcome: u32) -> bool
     outcome <= 22
 }
 
-// Whether there is no such outcome, or one before the end.
+// Whether no text ends with this number, or it is a fault of a text that has not ended.
 pub fn outcome_bad(ended: bool, outcome: u32) -> bool
     ensures { λ r. ⌜ r ≡ outcomeBad ended outcome ⌝ }
 {
@@ -44,7 +44,7 @@ pub fn outcome_bad(ended: bool, outcome: u32) -> bool
     true
 }
 
-// Whether there are too many columns, or a place past them.
+// Whether there are too many ASS columns, or the column of the start or the end is past the last.
 pub fn columns_bad(columns: Columns) -> bool
     ensures { λ r. ⌜ r ≡ columnsBad columns ⌝ }
 {

@@ -1,15 +1,15 @@
-// The held bytes: the open block's lines, each with its LF, then the unfinished line.
+// The held bytes: in SRT and WebVTT the open block's lines, each with its LF; behind them the unfinished line, which is all that ASS holds.
 ghost use mathlib.Core.Path.{_≡_};
 ghost use mathlib.Core.Bool.{_||_, not, cond};
 ghost use lib.Dec.{eqb};
 ghost use lib.ListN.{length};
 ghost use Rattle.spec_text.specs.utf8.Utf8.{utf8};
 ghost use Rattle.spec_text.specs.text.Line.{concat, linesOf, lineCount};
-ghost use Rattle.spec_format.specs.block_timing.Style.{blankIn};
-ghost use Rattle.spec_session.specs.session_counts.Cut.{closedLines};
-ghost use Rattle.spec_session.specs.kinds.Kit.{linesBad, heldBad};
+ghost use Rattle.spec_cue.specs.block_timing.Style.{blankIn};
+ghost use Rattle.spec_machine.specs.session_counts.Cut.{closedLines};
+ghost use Rattle.spec_machine.specs.kinds.Kit.{linesBad, heldBad};
 
-// How many bytes the finished lines have together.
+// How many bytes the finished lines have together: all up to the last LF.
 pub fn block_end(held: &[u8]) -> usize
     ensures { λ r. ⌜ r ≡ length (concat (closedLines (now (held .entry)))) ⌝ }
 {
@@ -46,7 +46,7 @@ pub fn lf_count(held: &[u8]) -> usize
     n
 }
 
-// Whether a finished line ends a block or is not UTF-8.
+// Whether this can't be a line of an open block: a blank line would have ended the block, and a line that is not UTF-8 is a fault (20).
 fn line_bad(kind: u32, line: &[u8]) -> bool
     ensures { λ r. ⌜ r ≡ (blankIn kind (now (line .entry)) || not (utf8 (now (line .entry)))) ⌝ }
 {
@@ -56,7 +56,7 @@ fn line_bad(kind: u32, line: &[u8]) -> bool
     !utf8::is_utf8(line)
 }
 
-// Whether one of the lines is such a line.
+// Whether one of the lines can't be a line of an open block.
 fn lines_bad(kind: u32, s: &[u8]) -> bool
     ensures { λ r. ⌜ r ≡ linesBad kind (linesOf (now (s .entry))) ⌝ }
 {
@@ -72,7 +72,8 @@ fn lines_bad(kind: u32, s: &[u8]) -> bool
     false
 }
 
-// Whether these are held bytes that can't be.
+// Whether no session of this kind holds these bytes: ASS holds no finished line, a block and an unfinished line keep their limits, and every line of the block
+// can be one.
 pub fn held_bad(kind: u32, held: &[u8]) -> bool
     ensures { λ r. ⌜ r ≡ heldBad kind (now (held .entry)) ⌝ }
 {

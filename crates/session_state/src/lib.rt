@@ -1,7 +1,6 @@
 // The session that a caller keeps between two calls, and the test for a foreign one (17).
 mod amounts;
 mod held;
-mod holding;
 mod whole;
 
 pub use amounts::is_outcome;

@@ -1,4 +1,4 @@
-// A foreign session (17).
+// Whether a session is foreign (17): it breaks a limit that every session from our calls keeps.
 use crate::amounts::columns_bad;
 use crate::amounts::config_bad;
 use crate::amounts::outcome_bad;
@@ -13,14 +13,14 @@ ghost use mathlib.Core.Bool.{_||_};
 ghost use lib.Dec.{ltb};
 ghost use lib.ListN.{length};
 ghost use Rattle.spec_text.specs.text.Line.{lineCount};
-ghost use Rattle.spec_session.specs.session_counts.Cut.{closedLines};
-ghost use Rattle.spec_session.specs.session_counts.Session.{outcomeBad};
-ghost use Rattle.spec_session.specs.session_counts.Session as model;
-ghost use Rattle.spec_session.specs.kinds.Kit.{kit, strange};
+ghost use Rattle.spec_machine.specs.session_counts.Cut.{closedLines};
+ghost use Rattle.spec_machine.specs.session_counts.Session.{outcomeBad};
+ghost use Rattle.spec_machine.specs.session_counts.Session as model;
+ghost use Rattle.spec_machine.specs.kinds.Kit.{kit, strange};
 ghost use Rattle.spec_session.specs.session_state.Head.{viewOf};
 ghost use Rattle.spec_session.specs.session_state.View.{foreignOf};
 
-// Whether the outcome can't be, or more LFs are held than lines have ended.
+// Whether the outcome can't be, or the open block has more lines than the text has had so far.
 fn marks_bad(ended: bool, outcome: u32, lines: u32, held: &[u8]) -> bool
     ensures { λ r. ⌜ r ≡ (outcomeBad ended outcome || ltb lines (lineCount (closedLines (now (held .entry))))) ⌝ }
 {
@@ -30,7 +30,7 @@ fn marks_bad(ended: bool, outcome: u32, lines: u32, held: &[u8]) -> bool
     (lines as usize) < lf_count(held)
 }
 
-// Whether more bytes are held than were taken, or the columns or the held bytes are ones that 17 refuses.
+// Whether more bytes are held than were taken, or the columns, the held bytes or the outcome can't be.
 fn kept_bad(
     kind: u32,
     taken: u32,

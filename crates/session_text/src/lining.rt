@@ -15,7 +15,7 @@ ghost use Rattle.spec_map.specs.segment.Segment.{segmentsOf, mapBad};
 ghost use Rattle.spec_map.specs.segment.Groups.{groupsOf};
 ghost use Rattle.spec_text.specs.utf8.Utf8.{utf8};
 ghost use Rattle.spec_text.specs.text.Line.{concat};
-ghost use Rattle.spec_session.specs.session_counts.Cut.{closedLines};
+ghost use Rattle.spec_machine.specs.session_counts.Cut.{closedLines};
 ghost use Rattle.spec_session.specs.session_lines.LinesThrough.{takeIn, LineTells};
 ghost use Rattle.spec_session.specs.session_text.Lined.{LineEnd, Joins, lineStart, Starts, linedOf, Onto, textRun, Ends};
 

@@ -2,19 +2,8 @@
 use order::DecodeIdx;
 ghost use mathlib.Core.Path.{_≡_};
 ghost use Prim.Native.Nat.{_*_, _<_};
-ghost use lib.ListN.{length, replicate};
+ghost use lib.ListN.{length};
 ghost use Rattle.spec_sheet.specs.sheet_permutation.Once.{bitOf, withBit};
-
-// Every byte becomes zero.
-pub fn clear(bits: &mut [u8])
-    ensures { λ _. ⌜ now (bits .exit) ≡ replicate (length (now (bits .entry))) 0 ⌝ }
-{
-    let mut i = 0;
-    while i < bits.len() {
-        bits[i] = 0;
-        i += 1;
-    }
-}
 
 // Sets the bit of a decode index, and answers whether it was set before.
 pub fn set_bit(bits: &mut [u8], index: DecodeIdx) -> bool

@@ -1,5 +1,4 @@
 // The decode indices of a sheet's records, each met once.
-use crate::bits::clear;
 use crate::bits::set_bit;
 use order::DecodeIdx;
 use order::DisplayIdx;
@@ -60,9 +59,9 @@ fn clean_pass(s: &[u8], n: u32, bits: &mut [u8]) -> u32
     requires { ⌜ n ≤ 8 * length (now bits) ⌝ }
     ensures { λ r. ⌜ (r ≡ firstOf (repeatFault (now (s .entry)) n) 0 n) × (now (bits .exit) ≡ replicate (length (now (bits .entry))) 0) ⌝ }
 {
-    clear(bits);
+    base::clear(bits);
     let f = pass_by_layout(s, n, bits);
-    clear(bits);
+    base::clear(bits);
     f
 }
 

@@ -9,7 +9,7 @@ use Rattle.spec_sheet.specs.sheet_frames.Frames.{timescaleOf, framesOf, longOf,
 use Rattle.spec_sheet.specs.sheet_permutation.Once.{timesNamed, repeatFault, workBytes, onceNumber}
 use Rattle.spec_sheet.specs.sheet.Sheet.{spareFault, headFault, recordFault, checkFault, blockFault, recordBlocks, sheetFault, totalFault, sheetNumber}
 use Rattle.sheet_vectors.specs.Small.{checkedBlock, syncFrame, frame, sheetWith}
-use Rattle.sheet_vectors.specs.Long.{still, longWith}
+use Rattle.sheet_vectors.specs.Long.{longWith}
 
 -- one frame, and a block 0 of these words
 abbrev oneWith : List ℕ → List ℕ

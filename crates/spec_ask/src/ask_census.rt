@@ -1,4 +1,4 @@
-// Types that the definitions of census name.
+// Types that the definitions of ask_census name.
 
 // How many starts are shifted, clipped and dropped; where the number is not 0, three zeros.
 pub struct StartCounts {

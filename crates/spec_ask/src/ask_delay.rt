@@ -1,4 +1,4 @@
-// Types that the definitions of delay name.
+// Types that the definitions of ask_delay name.
 
 // The delay, how many captions it loses, how many delays were tried, and by how many captions another can do better at most; where the number is not
 // 0, four zeros.

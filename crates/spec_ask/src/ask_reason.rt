@@ -1,4 +1,4 @@
-// Types that the definitions of reason name.
+// Types that the definitions of ask_reason name.
 use spec_caption::caption_fate::Counted;
 
 // The number; the fate (Dropped, Shifted or Clipped); the place of the segment that is met, from 0; how many ticks were cut off at each end.

@@ -5,3 +5,4 @@ pub mod Refusals
 pub mod PartLaws
 pub mod PutLaws
 pub mod LentRows
+pub mod PartRows

@@ -1,3 +1,1 @@
-pub mod caption_time
-pub mod caption_stamp
 pub mod caption_fate

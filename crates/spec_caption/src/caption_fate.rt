@@ -1,4 +1,4 @@
-// Types that the definitions of event name.
+// Types that the definitions of caption_fate name.
 
 // A segment that is met, and its place in the list from 0.
 pub struct Met {

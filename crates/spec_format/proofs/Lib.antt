@@ -1,4 +1,2 @@
-pub mod ass_write
-pub mod ass_line
 pub mod whole
 pub mod back

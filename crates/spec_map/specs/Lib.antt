@@ -1,4 +1,2 @@
-pub mod trim
-pub mod plan
 pub mod segment
 pub mod segmap

@@ -1,4 +1,3 @@
-// No function: the trim list, snapping, the segment map, as definitions in specs/ and laws in proofs/, and the types that they name.
+// No function: the segment map, as definitions in specs/ and laws in proofs/, and the types that they name.
 pub mod segmap;
 pub mod segment;
-pub mod trim;

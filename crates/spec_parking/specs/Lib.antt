@@ -1,3 +1,2 @@
-pub mod parked_blocks
 pub mod parking
 pub mod session_bytes

@@ -1,4 +1,4 @@
-// Types that the definitions of through name.
+// Types that the definitions of map_records_own name.
 use spec_caption::caption_fate::Hit;
 use spec_map::segmap::Made;
 

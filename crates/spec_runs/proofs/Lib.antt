@@ -4,5 +4,3 @@ pub mod fed
 pub mod parkruns
 pub mod keptruns
 pub mod atonceruns
-pub mod cueplaces
-pub mod cuefates

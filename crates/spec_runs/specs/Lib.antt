@@ -5,6 +5,3 @@ pub mod parkruns
 pub mod keptruns
 pub mod one_call
 pub mod atonceruns
-pub mod caption_rows
-pub mod cueplaces
-pub mod cuefates

@@ -1,5 +1,5 @@
-// Types that the definitions of atonce name.
-use spec_session::session_counts::Counts;
+// Types that the definitions of one_call name.
+use spec_machine::session_counts::Counts;
 
 // What the calls told together.
 pub struct Ran {

@@ -1,5 +1,3 @@
-pub mod session_counts
-pub mod kinds
 pub mod session_state
 pub mod session_lines
 pub mod session

@@ -1,7 +1,7 @@
 // Types that the definitions of session name.
-use crate::session_counts::Counts;
 use crate::session_state::Session;
-use spec_format::ass_columns::Columns;
+use spec_ass::ass_columns::Columns;
+use spec_machine::session_counts::Counts;
 
 // What feed and finish hand back: both lengths are those written to the lent output and places.
 pub struct Fed {

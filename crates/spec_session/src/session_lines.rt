@@ -1,6 +1,6 @@
-// Types that the definitions of lines name.
-use crate::session_counts::Counts;
-use spec_format::ass_columns::Columns;
+// Types that the definitions of session_lines name.
+use spec_ass::ass_columns::Columns;
+use spec_machine::session_counts::Counts;
 
 // What a line told. `skip`: the bytes of a BOM before it; `added`: it joins the open block.
 pub struct Taken {

@@ -1,9 +1,10 @@
-// Types that the definitions of foreign name.
-use crate::session_counts::Counts;
+// The session that a caller keeps between two calls, and its numbers alone.
+use spec_ass::ass_columns::Columns;
 use spec_caption::caption_fate::Config;
-use spec_format::ass_columns::Columns;
+use spec_machine::session_counts::Counts;
 
-// Held: the unfinished line, in SRT behind the open block's lines; the first `held_len` bytes count, the rest are zero.
+// `held` has the bytes that no line or block has taken yet: in ASS the unfinished line; in SRT and WebVTT the open block's lines, then the unfinished line.
+// The first `held_len` bytes count. Behind them our calls leave zeros.
 pub struct Session {
     pub config: Config,
     pub ended: bool,

@@ -1,7 +1,7 @@
 // Types that the definitions of session_text name.
-use crate::session_counts::Counts;
 use crate::session_state::Head;
-use spec_format::ass_columns::Columns;
+use spec_ass::ass_columns::Columns;
+use spec_machine::session_counts::Counts;
 
 // What take_text hands back: both lengths are those written to the lent output and places; what is held afterwards stands in the text from `begin` on.
 pub struct TextFed {

@@ -11,14 +11,14 @@ use borrow.Author.Tests.{lt-ltb}
 use Rattle.spec_text.specs.declared.text.Number.{Number}
 use Rattle.spec_text.specs.declared.text.Number.the-variants.{Value, Bad}
 use Rattle.spec_text.specs.text.Number.{digits, valueFrom, natural, unsigned, number, numberFault, numberValues}
-use Rattle.spec_caption.specs.declared.caption_stamp.Time.{Time}
-use Rattle.spec_caption.specs.declared.caption_stamp.Time.the-variants.{At, Bad as NoTime}
-use Rattle.spec_caption.specs.caption_stamp.Read.{timeIn}
-use Rattle.spec_caption.proofs.caption_stamp.Reading.{time-below}
+use Rattle.spec_time.specs.declared.caption_stamp.Time.{Time}
+use Rattle.spec_time.specs.declared.caption_stamp.Time.the-variants.{At, Bad as NoTime}
+use Rattle.spec_time.specs.caption_stamp.Read.{timeIn}
+use Rattle.spec_time.proofs.caption_stamp.Reading.{time-below}
 use Rattle.spec_sheet.specs.sheet.Sheet.{numberOf, valuesOf}
 use Rattle.spec_sheet.proofs.sheet.SheetLaws.{number-is}
 use Rattle.spec_sheet.proofs.sheet.AnswerLaws.{sheet-values}
-use Rattle.spec_caption.specs.caption_time.Convert.{ticksWithin}
+use Rattle.spec_time.specs.caption_time.Convert.{ticksWithin}
 use Rattle.spec_map.specs.segment.Segment.{sourceOf, outputStartOf, endBad}
 use Rattle.spec_caption.specs.declared.caption_fate.Config.{Config}
 use Rattle.spec_caption.specs.declared.caption_fate.Decision.the-variants.{Strange, Kept}

@@ -10,3 +10,4 @@ pub mod FateRows
 pub mod HeadRows
 pub mod WarnRows
 pub mod RoomRows
+pub mod MapTexts

@@ -1,9 +1,8 @@
 -- A segment past the limits of a map, and one at them.
 use mathlib.Core.Path.{_≡_, refl}
-use mathlib.Core.Bool.{cond}
-use mathlib.Core.List.{List, [], _∷_}
-use Rattle.spec_caption.specs.caption_time.Kind.{kindBad, unitsOf}
-use Rattle.spec_caption.specs.caption_time.Convert.{ticksOf, coreHolds, ticksWithin}
+use mathlib.Core.List.{[], _∷_}
+use Rattle.spec_time.specs.caption_time.Kind.{kindBad, unitsOf}
+use Rattle.spec_time.specs.caption_time.Convert.{ticksOf, coreHolds, ticksWithin}
 use Rattle.spec_map.specs.segment.Segment.{segment, endBad}
 use Rattle.spec_caption.specs.caption_fate.Hit.{meetsParts, findFrom}
 use Rattle.spec_caption.specs.caption_fate.Decide.{decideIn}

@@ -1,18 +1,17 @@
 -- What a line asks for at every input: three bytes of output for each of its own, and four places (16). By computation.
 use mathlib.Core.Path.{_≡_, refl}
-use mathlib.Core.List.{List, [], _∷_}
+use mathlib.Core.List.{[], _∷_}
 use Prim.Native.Nat.{ℕ}
 use Rattle.spec_base.specs.base.Part.{last}
-use Rattle.spec_base.specs.base.Ascii.{ascii}
 use Rattle.spec_text.specs.utf8.Utf8.{leadLen, secondLow, secondHigh, tail, widthBy, charWidth, codeBy, codeHead}
 use Rattle.spec_text.specs.whitespace.White.{whiteHigh, white, whiteHead, endsWhite, whiteTail, headFrom, keepFrom, trimHead, trimTail, trim}
 use Rattle.spec_text.specs.pattern.Find.{equals}
 use Rattle.spec_text.specs.text.Line.{textOf, terminatorLength}
 use Rattle.spec_caption.specs.caption_fate.Emit.{emitBy}
 use Rattle.spec_caption.specs.caption_fate.Told.{partIn}
-use Rattle.spec_format.specs.ass_columns.Section.{bracketed, inside}
-use Rattle.spec_format.specs.ass_line.Line.{textSays, lineSays}
-use Rattle.spec_format.specs.ass_line.AssThrough.{lineIn, columnsNext}
+use Rattle.spec_ass.specs.ass_columns.Section.{bracketed, inside}
+use Rattle.spec_ass.specs.ass_line.Line.{textSays, lineSays}
+use Rattle.spec_ass.specs.ass_line.AssThrough.{lineIn, columnsNext}
 use Rattle.table.specs.Example.{setting}
 use Rattle.table.specs.Table.{lf, outside, inEvents}
 

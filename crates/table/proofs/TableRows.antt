@@ -1,7 +1,6 @@
 -- The rows of document 01's table, over the map of its example: each by computation.
-use mathlib.Core.Path.{_≡_, refl}
-use mathlib.Core.Bool.{cond}
-use mathlib.Core.List.{List, [], _∷_}
+use mathlib.Core.Path.{refl}
+use mathlib.Core.List.{[], _∷_}
 use Rattle.table.proofs.Past.{strange-told, limit-told}
 use Rattle.spec_base.specs.base.Part.{last}
 use Rattle.spec_text.specs.utf8.Utf8.{leadLen, secondLow, secondHigh, tail, widthBy, charWidth, codeBy, codeHead}
@@ -10,25 +9,24 @@ use Rattle.spec_text.specs.pattern.Find.{starts, equals, first, contains, upTo,
 use Rattle.spec_text.specs.pattern.Piece.{piecesFrom, pieces}
 use Rattle.spec_text.specs.text.Number.{digit, digits, valueFrom, natural, unsigned, number}
 use Rattle.spec_text.specs.text.Line.{linesOf, textOf, terminatorLength, terminatorOf}
-use Rattle.spec_caption.specs.caption_time.Kind.{kindBad, unitsOf, markOf, fractionDigits, hourDigits}
-use Rattle.spec_caption.specs.caption_time.Convert.{ticksOf, startUnits, endUnits, scaledUp}
-use Rattle.spec_caption.specs.caption_stamp.Read.{markIn, timeWith, timeIn}
-use Rattle.spec_caption.specs.caption_stamp.Write.{pad, widthUnder, width, textWith, timeText}
-use Rattle.spec_map.specs.declared.segment.Segment.{Segment}
+use Rattle.spec_time.specs.caption_time.Kind.{kindBad, unitsOf, markOf, fractionDigits, hourDigits}
+use Rattle.spec_time.specs.caption_time.Convert.{ticksOf, startUnits, endUnits, scaledUp}
+use Rattle.spec_time.specs.caption_stamp.Read.{markIn, timeWith, timeIn}
+use Rattle.spec_time.specs.caption_stamp.Write.{pad, widthUnder, width, textWith, timeText}
 use Rattle.spec_map.specs.segment.Segment.{segment}
 use Rattle.spec_caption.specs.caption_fate.Hit.{meetsParts, findFrom}
 use Rattle.spec_caption.specs.caption_fate.Lost.{lostLater}
 use Rattle.spec_caption.specs.caption_fate.Decide.{decideTicks, decideOf}
 use Rattle.spec_caption.specs.caption_fate.Fates.{fateOf}
 use Rattle.spec_caption.specs.caption_fate.Emit.{emitBy, render}
-use Rattle.spec_format.specs.ass_columns.Columns.{namesIn, placeIn, columnsIn, fields, fieldAt}
-use Rattle.spec_format.specs.ass_write.Tags.{holdsAny}
-use Rattle.spec_format.specs.ass_columns.Section.{bracketed, inside}
-use Rattle.spec_format.specs.ass_write.Frame.{pieceAt, fieldPieces}
-use Rattle.spec_format.specs.ass_line.Line.{captionSays, wordSays, textSays, lineSays}
-use Rattle.spec_format.specs.block_timing.Style.{srtEnd, endIn, stampsIn}
-use Rattle.spec_format.specs.block_timing.Arrow.{timingOf, afterArrow}
-use Rattle.spec_format.specs.block_cue.Block.{timingLineSays, blockSays}
+use Rattle.spec_ass.specs.ass_columns.Columns.{namesIn, placeIn, columnsIn, fields, fieldAt}
+use Rattle.spec_ass.specs.ass_write.Tags.{holdsAny}
+use Rattle.spec_ass.specs.ass_columns.Section.{bracketed, inside}
+use Rattle.spec_ass.specs.ass_write.Frame.{pieceAt, fieldPieces}
+use Rattle.spec_ass.specs.ass_line.Line.{captionSays, wordSays, textSays, lineSays}
+use Rattle.spec_cue.specs.block_timing.Style.{srtEnd, endIn, stampsIn}
+use Rattle.spec_cue.specs.block_timing.Arrow.{timingOf, afterArrow}
+use Rattle.spec_cue.specs.block_cue.Block.{timingLineSays, blockSays}
 use Rattle.table.specs.Table.{Table}
 
 pub rows : Table (segment 0 3 0 3 0 3003 ∷ segment 6 10 6006 4 3003 4004 ∷ [])

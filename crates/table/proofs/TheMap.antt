@@ -1,26 +1,24 @@
 -- The map of document 01's example, from the bytes of its sheet and list.
-use mathlib.Core.Path.{_≡_, refl, ap, _∙_}
-use mathlib.Core.Bool.{true, false, cond}
+use mathlib.Core.Path.{_≡_, refl, ap}
+use mathlib.Core.Bool.{false}
 use mathlib.Core.List.{List, [], _∷_}
 use Prim.Native.Nat.{ℕ}
 use Rattle.spec_base.specs.base.Limits.{mostWork}
 use Rattle.spec_base.specs.base.Refusal.{_orElse_, faultUnless}
-use Rattle.spec_base.specs.base.Width.{byWidth}
 use Rattle.spec_base.specs.base.Part.{last}
 use Rattle.spec_text.specs.utf8.Utf8.{leadLen, secondLow, secondHigh, tail, widthBy, charWidth, utf8From, utf8, codeBy, codeHead}
 use Rattle.spec_text.specs.whitespace.White.{whiteHigh, white, whiteHead, endsWhite, whiteTail, headFrom, keepFrom, trimHead, trimTail, trim}
-use Rattle.spec_text.specs.pattern.Find.{starts, first}
+use Rattle.spec_text.specs.pattern.Find.{starts}
 use Rattle.spec_text.specs.pattern.Piece.{piecesFrom, pieces}
 use Rattle.spec_text.specs.text.Number.{digit, digits, valueFrom, natural, unsigned, number}
 use Rattle.spec_text.specs.text.Line.{blank}
 use Rattle.spec_sheet.specs.checked_blocks.Block.{wordAt}
-use Rattle.spec_sheet.specs.sheet_frames.Frames.{recordWord, decodeOf, syncOf, durationOf, framesOf, timescaleOf, longOf, ticksFrom}
+use Rattle.spec_sheet.specs.sheet_frames.Frames.{recordWord, decodeOf, syncOf, durationOf, longOf, ticksFrom}
 use Rattle.sheet_vectors.specs.Small.{smallSheet}
 use Rattle.sheet_vectors.proofs.Vectors.{small-number, small-timescale, small-frames}
-use Rattle.spec_map.specs.trim.Token.{rangeOf, boundsOf, pairOf, closedOf, tokenOf, behindEnd, stepOf, tokenNumber, tokenRange, tokenEnd}
-use Rattle.spec_map.specs.trim.TrimList.{tokensOf, listTokens, tokensNumber, rangesIn, headNumber, listNumber, rangesOf}
-use Rattle.spec_map.specs.plan.Snap.{lastBelow, firstFrom, floorSync, ceilSync, snapStart, snapEnd, snapAll, overlapsFault}
-use Rattle.spec_map.specs.declared.segment.Segment.{Segment}
+use Rattle.spec_trim.specs.trim.Token.{rangeOf, boundsOf, pairOf, closedOf, tokenOf, behindEnd, stepOf, tokenNumber, tokenRange, tokenEnd}
+use Rattle.spec_trim.specs.trim.TrimList.{tokensOf, listTokens, tokensNumber, rangesIn, headNumber, listNumber, rangesOf}
+use Rattle.spec_trim.specs.plan.Snap.{lastBelow, firstFrom, floorSync, ceilSync, snapStart, snapEnd, snapAll, overlapsFault}
 use Rattle.spec_map.specs.segment.Segment.{segment}
 use Rattle.spec_map.specs.segmap.Build.{sourceStart, rangeTicks, rangeFault, rangesFault, segmentIn, segmentsIn, keptNumber, keptTicks}
 use Rattle.spec_map.specs.segmap.Map.{rangesFor, snappedOf, cutNumber, mapNumber, Map, mapAnswer, mapOf}

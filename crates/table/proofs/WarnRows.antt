@@ -8,20 +8,20 @@ use Rattle.spec_text.specs.pattern.Find.{starts, equals, first, contains, upTo,
 use Rattle.spec_text.specs.pattern.Piece.{piecesFrom, pieces}
 use Rattle.spec_text.specs.text.Number.{digit, digits, valueFrom, natural, unsigned, number}
 use Rattle.spec_text.specs.text.Line.{textOf, terminatorLength, terminatorOf}
-use Rattle.spec_caption.specs.caption_time.Kind.{kindBad, unitsOf, markOf, fractionDigits, hourDigits}
-use Rattle.spec_caption.specs.caption_time.Convert.{ticksOf, startUnits, endUnits, scaledUp}
-use Rattle.spec_caption.specs.caption_stamp.Read.{markIn, timeWith, timeIn}
-use Rattle.spec_caption.specs.caption_stamp.Write.{pad, widthUnder, width, textWith, timeText}
+use Rattle.spec_time.specs.caption_time.Kind.{kindBad, unitsOf, markOf, fractionDigits, hourDigits}
+use Rattle.spec_time.specs.caption_time.Convert.{ticksOf, startUnits, endUnits, scaledUp}
+use Rattle.spec_time.specs.caption_stamp.Read.{markIn, timeWith, timeIn}
+use Rattle.spec_time.specs.caption_stamp.Write.{pad, widthUnder, width, textWith, timeText}
 use Rattle.spec_map.specs.segment.Segment.{segment}
 use Rattle.spec_caption.specs.caption_fate.Hit.{meetsParts, findFrom}
 use Rattle.spec_caption.specs.caption_fate.Lost.{lostLater}
 use Rattle.spec_caption.specs.caption_fate.Decide.{decideTicks, decideOf}
 use Rattle.spec_caption.specs.caption_fate.Emit.{warning, emitBy, render}
-use Rattle.spec_format.specs.ass_columns.Columns.{namesIn, placeIn, columnsIn, fields, fieldAt}
-use Rattle.spec_format.specs.ass_write.Tags.{holdsAny}
-use Rattle.spec_format.specs.ass_columns.Section.{bracketed, inside}
-use Rattle.spec_format.specs.ass_write.Frame.{pieceAt, fieldPieces}
-use Rattle.spec_format.specs.ass_line.Line.{captionSays, wordSays, textSays, lineSays}
+use Rattle.spec_ass.specs.ass_columns.Columns.{namesIn, placeIn, columnsIn, fields, fieldAt}
+use Rattle.spec_ass.specs.ass_write.Tags.{holdsAny}
+use Rattle.spec_ass.specs.ass_columns.Section.{bracketed, inside}
+use Rattle.spec_ass.specs.ass_write.Frame.{pieceAt, fieldPieces}
+use Rattle.spec_ass.specs.ass_line.Line.{captionSays, wordSays, textSays, lineSays}
 use Rattle.table.specs.Table.{lf, inPlace, warns}
 
 -- cut at both ends by 300 to 3303, with a part in 6006 to 10010

@@ -5,15 +5,15 @@ use mathlib.Core.List.{List, [], _∷_, _++_}
 use Prim.Native.Nat.{ℕ}
 use Rattle.spec_base.specs.base.Ascii.{ascii}
 use Rattle.spec_text.specs.text.Line.{linesOf}
-use Rattle.spec_caption.specs.caption_time.Kind.{kindBad, unitsOf, markOf, fractionDigits, hourDigits}
+use Rattle.spec_time.specs.caption_time.Kind.{kindBad, unitsOf, markOf, fractionDigits, hourDigits}
 use Rattle.spec_map.specs.declared.segment.Segment.{Segment}
 use Rattle.spec_map.specs.segment.Segment.{segment}
 use Rattle.spec_caption.specs.declared.caption_fate.Decision.the-variants.{Kept}
 use Rattle.spec_caption.specs.caption_fate.Decide.{decideOf}
 use Rattle.spec_caption.specs.caption_fate.Says.{faultNumber}
 use Rattle.spec_caption.specs.caption_fate.Emit.{Warning, warning, emitOf}
-use Rattle.spec_format.specs.block_timing.Style.{styleOf}
-use Rattle.spec_format.specs.block_cue.Block.{BlockSays, faulty, says, blockSays}
+use Rattle.spec_cue.specs.block_timing.Style.{styleOf}
+use Rattle.spec_cue.specs.block_cue.Block.{BlockSays, faulty, says, blockSays}
 use Rattle.table.specs.Example.{setting}
 use Rattle.table.specs.Table.{lf}
 

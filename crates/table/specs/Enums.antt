@@ -9,9 +9,9 @@ use lib.Dec.{eqb, leb, ltb}
 use lib.ListN.{length}
 use Rattle.spec_text.specs.declared.text.Number.{Number}
 use Rattle.spec_text.specs.text.Number.{digits, valueFrom, natural, unsigned, number, numberFault, numberValues}
-use Rattle.spec_caption.specs.caption_time.Kind.{unitsOf}
-use Rattle.spec_caption.specs.declared.caption_stamp.Time.{Time}
-use Rattle.spec_caption.specs.caption_stamp.Read.{timeIn, timeNumber, timeUnits, timeMark}
+use Rattle.spec_time.specs.caption_time.Kind.{unitsOf}
+use Rattle.spec_time.specs.declared.caption_stamp.Time.{Time}
+use Rattle.spec_time.specs.caption_stamp.Read.{timeIn, timeNumber, timeUnits, timeMark}
 use Rattle.spec_sheet.specs.sheet_frames.Frames.{timescaleOf, framesOf, rateNumOf, rateDenOf}
 use Rattle.spec_sheet.specs.declared.sheet.Sheet.{Sheet}
 use Rattle.spec_sheet.specs.sheet.Sheet.{sheetNumber, sheetOf, numberOf, valuesOf}
@@ -20,7 +20,7 @@ use Rattle.spec_map.specs.segment.Segment.{sourceOf, outputStartOf, endBad}
 use Rattle.spec_caption.specs.declared.caption_fate.Config.{Config}
 use Rattle.spec_caption.specs.declared.caption_fate.Hit.{Hit}
 use Rattle.spec_caption.specs.declared.caption_fate.Decision.{Decision}
-use Rattle.spec_caption.specs.caption_time.Convert.{ticksWithin, startWithin, endWithin}
+use Rattle.spec_time.specs.caption_time.Convert.{ticksWithin, startWithin, endWithin}
 use Rattle.spec_caption.specs.caption_fate.Hit.{Found, miss, hit, findHit, hitOf, metOf}
 use Rattle.spec_caption.specs.caption_fate.Lost.{lostRule}
 use Rattle.spec_caption.specs.caption_fate.Decide.{retimedBy, decideIn}

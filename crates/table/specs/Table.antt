@@ -6,8 +6,8 @@ use mathlib.Core.List.{List, [], _∷_, _++_}
 use Prim.Native.Nat.{ℕ}
 use Prim.Native.String.{String}
 use Rattle.spec_base.specs.base.Ascii.{ascii}
-use Rattle.spec_caption.specs.declared.caption_stamp.Time.the-variants.{At}
-use Rattle.spec_caption.specs.caption_stamp.Read.{timeIn, timeNumber, timeUnits, timeMark}
+use Rattle.spec_time.specs.declared.caption_stamp.Time.the-variants.{At}
+use Rattle.spec_time.specs.caption_stamp.Read.{timeIn, timeNumber, timeUnits, timeMark}
 use Rattle.spec_map.specs.declared.segment.Segment.{Segment}
 use Rattle.spec_map.specs.segment.Segment.{segment}
 use Rattle.spec_caption.specs.declared.caption_fate.Decision.the-variants.{Kept}
@@ -17,10 +17,10 @@ use Rattle.spec_caption.specs.caption_fate.Cases.{told, hitCase, decisionCase}
 use Rattle.spec_caption.specs.caption_fate.Fates.{dropped, shifted, clipped, fateOf}
 use Rattle.spec_caption.specs.caption_fate.Says.{bytes, start, stop, stays, passes, cue, unplaced, short, faultNumber}
 use Rattle.spec_caption.specs.caption_fate.Emit.{Warning, warning, emitOf}
-use Rattle.spec_format.specs.declared.ass_columns.Columns.{Columns}
-use Rattle.spec_format.specs.ass_line.Line.{LineSays, faulty, says, lineSays}
-use Rattle.spec_format.specs.block_timing.Style.{styleOf}
-use Rattle.spec_format.specs.block_cue.Block.{blockFrame, blockCue, blockSays, says as blockSaid}
+use Rattle.spec_ass.specs.declared.ass_columns.Columns.{Columns}
+use Rattle.spec_ass.specs.ass_line.Line.{LineSays, faulty, says, lineSays}
+use Rattle.spec_cue.specs.block_timing.Style.{styleOf}
+use Rattle.spec_cue.specs.block_cue.Block.{blockFrame, blockCue, blockSays, says as blockSaid}
 use Rattle.table.specs.Example.{setting}
 
 -- a line that LF ends

@@ -4,4 +4,4 @@ mod token;
 
 pub use list::check;
 pub use list::parse;
-pub use spec_map::trim::Parsed;
+pub use spec_trim::trim::Parsed;

@@ -1,8 +1,8 @@
 // The whole list: its tokens from the left, and the ranges that they give.
 use crate::token::step_of;
 use order::DisplayIdx;
-use spec_map::trim::Parsed;
-use spec_map::trim::Token;
+use spec_trim::trim::Parsed;
+use spec_trim::trim::Token;
 ghost use mathlib.Core.Path.{_≡_};
 ghost use Prim.Native.Nat.{_+_, _*_, _≤_, _<_};
 ghost use lib.ListN.{length, take, set};
@@ -11,8 +11,8 @@ ghost use Rattle.spec_base.specs.base.Put.{put};
 ghost use mathlib.Core.Bool.{false};
 ghost use Rattle.spec_text.specs.pattern.Find.{first};
 ghost use Rattle.spec_text.specs.text.Line.{blank};
-ghost use Rattle.spec_map.specs.trim.Token.{mark};
-ghost use Rattle.spec_map.specs.trim.TrimList.{parsed, listAnswer, tokensOf, tokensNumber, headNumber, listNumber, rangesOf, parseOf, rangePlaces};
+ghost use Rattle.spec_trim.specs.trim.Token.{mark};
+ghost use Rattle.spec_trim.specs.trim.TrimList.{parsed, listAnswer, tokensOf, tokensNumber, headNumber, listNumber, rangesOf, parseOf, rangePlaces};
 
 // Where the first `++` begins, or the length of `s`. Where the second byte is no plus, neither place can begin one.
 fn next_mark(s: &[u8]) -> usize

@@ -1,12 +1,12 @@
 // One token of a trim list: `Trim(a,b)`.
 use order::DisplayIdx;
-use spec_map::trim::Token;
+use spec_trim::trim::Token;
 use text::Number;
 ghost use mathlib.Core.Path.{_≡_};
 ghost use mathlib.Core.Bool.{cond, false};
 ghost use lib.Dec.{ltb};
 ghost use Rattle.spec_text.specs.pattern.Find.{starts, first};
-ghost use Rattle.spec_map.specs.trim.Token.{opening, rangeOf, boundsOf, pairOf, closedOf, tokenOf, stepOf};
+ghost use Rattle.spec_trim.specs.trim.Token.{opening, rangeOf, boundsOf, pairOf, closedOf, tokenOf, stepOf};
 ghost use Rattle.spec_text.specs.pattern.Piece.{pieces, comma};
 ghost use Rattle.spec_text.specs.whitespace.White.{trim};
 

@@ -181,6 +181,15 @@ pub fn is_utf8(s: &[u8]) -> bool
             t = v;
             continue;
         }
+        if 6 <= t.len() {
+            if three(a, t[1], t[2]) {
+                if three(t[3], t[4], t[5]) {
+                    let y = base::rest(t, 6);
+                    t = y;
+                    continue;
+                }
+            }
+        }
         if 3 <= t.len() {
             if three(a, t[1], t[2]) {
                 let x = base::rest(t, 3);

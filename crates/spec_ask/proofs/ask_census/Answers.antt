@@ -1,16 +1,16 @@
 -- Laws of the answer: its refusals, and the three counts.
-use mathlib.Core.Path.{_≡_, refl, sym, _∙_}
-use mathlib.Core.Bool.{Bool, true, false, not, true≢false}
+use mathlib.Core.Path.{_≡_, sym, _∙_}
+use mathlib.Core.Bool.{true, false, not}
 use mathlib.Core.List.{List}
 use Prim.Native.Nat.{ℕ, _+_, _-_, _≤_}
 use native.Mathlib.Omega.{arith}
 use lib.Dec.{leb}
-use borrow.Author.Tests.{eq-eqb, ne-eqb, leb-true}
+use borrow.Author.Tests.{eq-eqb, ne-eqb, leb-true, not-true}
 use Rattle.spec_base.specs.base.Refusal.{faultUnless}
 use Rattle.spec_base.proofs.base.RefusalLaws.{held, else-zero}
 use Rattle.spec_base.proofs.base.Laws.{yes!, no! }
-use Rattle.spec_caption.specs.caption_time.Kind.{kindBad, unitsOf}
-use Rattle.spec_caption.specs.caption_time.Convert.{timescaleBad}
+use Rattle.spec_time.specs.caption_time.Kind.{kindBad, unitsOf}
+use Rattle.spec_time.specs.caption_time.Convert.{timescaleBad}
 use Rattle.spec_map.specs.segment.Segment.{segmentsOf, mapBad}
 use Rattle.spec_caption.specs.declared.caption_fate.Config.{Config}
 use Rattle.spec_ask.specs.ask_order.Ascending.{ascends}
@@ -20,10 +20,6 @@ use Rattle.spec_ask.specs.declared.ask_census.StartCounts.{StartCounts}
 use Rattle.spec_ask.specs.ask_census.Census.{mostStarts, isShifted, isClipped, isDropped, startsWith, censusNumber, censusOf}
 use Rattle.spec_ask.proofs.ask_census.Starts.{starts-sum, whole-counted, kept-counted}
 use Rattle.spec_ask.proofs.ask_census.Turns.{posT, posU, kept-most, whole-most}
-
-not-true : (b : Bool) → not b ≡ true → b ≡ false
-not-true true e = absurd (true≢false (sym e))
-not-true false e = refl
 
 -- what is not refused
 pub record Taken (m : List ℕ) (T kind L N : ℕ) : Type 0 where

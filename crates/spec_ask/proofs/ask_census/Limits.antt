@@ -1,15 +1,13 @@
 -- The refusals in plain numbers, from both sides: 15, then 28 for a map that 2.12 does not admit, whatever else is asked; then 16 for the kind, a length or a count above 36,000,000;
 -- else 0. N = 0 is no exception.
 use mathlib.Core.Path.{_≡_}
-use mathlib.Core.Bool.{true, false, not}
+use mathlib.Core.Bool.{true, false}
 use mathlib.Core.List.{List}
-use Prim.Native.Nat.{ℕ, _≤_, _<_}
-use native.Mathlib.Omega.{arith}
-use lib.Dec.{leb}
+use Prim.Native.Nat.{ℕ, _≤_}
 use borrow.Author.Tests.{le-leb, lt-leb}
 use Rattle.spec_base.specs.base.Refusal.{_orElse_, faultUnless}
-use Rattle.spec_caption.specs.caption_time.Kind.{kindBad}
-use Rattle.spec_caption.specs.caption_time.Convert.{timescaleBad}
+use Rattle.spec_time.specs.caption_time.Kind.{kindBad}
+use Rattle.spec_time.specs.caption_time.Convert.{timescaleBad}
 use Rattle.spec_map.specs.segment.Segment.{segmentsOf, mapBad}
 use Rattle.spec_ask.specs.ask_order.Ascending.{ascends}
 use Rattle.spec_ask.specs.ask_census.Census.{mostStarts, censusNumber}

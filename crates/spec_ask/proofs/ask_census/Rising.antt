@@ -1,24 +1,21 @@
 -- The edges of a map that ascends ascend.
 use mathlib.Core.Path.{_≡_, refl}
-use mathlib.Core.Bool.{Bool, true, false, cond, true≢false}
+use mathlib.Core.Bool.{Bool, true, false, cond}
 use mathlib.Core.List.{List, [], _∷_}
-use Prim.Native.Nat.{ℕ, zero, suc, _≤_, _<_}
+use Prim.Native.Nat.{ℕ, _≤_, _<_}
 use native.Mathlib.Omega.{arith}
 use native.Mathlib.Nat.{le-trans}
 use lib.Dec.{eqb}
 use borrow.Author.Tests.{eqb-true}
-use Rattle.spec_caption.specs.caption_time.Convert.{endUnits}
-use Rattle.spec_caption.proofs.caption_time.Conversions.{end-mono}
+use Rattle.spec_time.specs.caption_time.Convert.{endUnits}
+use Rattle.spec_time.proofs.caption_time.Conversions.{end-mono}
 use Rattle.spec_map.specs.declared.segment.Segment.{Segment}
 use Rattle.spec_map.specs.segment.Segment.{sourceOf, sourceEnd}
 use Rattle.spec_ask.specs.ask_order.Ascending.{outputEnd, ascendsFrom}
 use Rattle.spec_ask.proofs.ask_order.Places.{Step, step, after-long, after-empty}
 use Rattle.spec_ask.specs.ask_edges.Edge.{edgeAt, edgesOf}
 use Rattle.spec_ask.specs.ask_edges.Count.{EdgesAscend}
-
-pub pos-of : (k : ℕ) → eqb k 0 ≡ false → 0 < k
-pos-of zero q = absurd (true≢false q)
-pos-of (suc k) q = omega arith
+use Rattle.spec_base.proofs.base.Laws.{pos-of}
 
 module _ (T U : ℕ) (hT : 0 < T) where
   by-length : (x : Segment) (xs : List Segment) (s o p : ℕ) → Step s o x xs → p ≤ endUnits T U s

@@ -3,8 +3,8 @@ use mathlib.Core.Path.{_≡_, refl}
 use mathlib.Core.List.{List, [], _∷_}
 use Prim.Native.Nat.{ℕ}
 use Rattle.spec_base.specs.base.Refusal.{_orElse_, faultUnless}
-use Rattle.spec_caption.specs.caption_time.Kind.{unitsOf, kindBad}
-use Rattle.spec_caption.specs.caption_time.Convert.{scaledUp, ticksOf, startUnits, endUnits, timescaleBad}
+use Rattle.spec_time.specs.caption_time.Kind.{unitsOf, kindBad}
+use Rattle.spec_time.specs.caption_time.Convert.{scaledUp, ticksOf, startUnits, endUnits, timescaleBad}
 use Rattle.spec_map.specs.declared.segment.Segment.{Segment}
 use Rattle.spec_map.specs.segment.Segment.{segment, segmentsOf, endBad, segmentBad, anyBad, mapBad}
 use Rattle.spec_ask.specs.ask_order.Ascending.{stepsBack, after, ascendsFrom, ascends}

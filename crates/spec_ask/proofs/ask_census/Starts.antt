@@ -4,7 +4,7 @@ use mathlib.Core.Bool.{Bool, true, false, cond, _||_}
 use mathlib.Core.List.{List}
 use Prim.Native.Nat.{ℕ, zero, suc, _+_, _<_}
 use native.Mathlib.Omega.{arith}
-use Rattle.spec_caption.specs.caption_time.Kind.{unitsOf}
+use Rattle.spec_time.specs.caption_time.Kind.{unitsOf}
 use Rattle.spec_map.specs.declared.segment.Segment.{Segment}
 use Rattle.spec_caption.specs.declared.caption_fate.Config.{Config}
 use Rattle.spec_caption.specs.declared.caption_fate.Decision.{Decision}

@@ -9,9 +9,9 @@ use mir.Val.{Fits}
 use lib.Dec.{eqb}
 use lib.ListN.{length, drop, getD}
 use borrow.Author.Tests.{eqb-true}
-use Rattle.spec_caption.specs.caption_time.Kind.{kindBad, unitsOf}
-use Rattle.spec_caption.specs.caption_time.Convert.{timescaleBad}
-use Rattle.spec_caption.proofs.caption_time.Limits.{timescale-low, units-low}
+use Rattle.spec_time.specs.caption_time.Kind.{kindBad, unitsOf}
+use Rattle.spec_time.specs.caption_time.Convert.{timescaleBad}
+use Rattle.spec_time.proofs.caption_time.Limits.{timescale-low, units-low}
 use Rattle.spec_map.specs.declared.segment.Segment.{Segment}
 use Rattle.spec_map.specs.segment.Segment.{segment, segmentsOf, sourceOf, segmentBad, anyBad, endBad, mapBad}
 use Rattle.spec_map.proofs.segment.SegmentLaws.{segments-cut, segments-short, any-good}
@@ -23,8 +23,8 @@ use Rattle.spec_ask.specs.ask_edges.Edge.{edge, edgeAt, edgesOf, edgeWit
 use Rattle.spec_ask.specs.ask_edges.Count.{startsIn, keptFast, wholeFast, EdgesAscend}
 use Rattle.spec_ask.proofs.ask_edges.Fine.{edge-empty, edge-fine}
 use Rattle.spec_ask.specs.ask_census.Census.{mostStarts}
-use Rattle.spec_ask.proofs.ask_census.Rising.{pos-of}
 use Rattle.spec_ask.proofs.ask_census.Starts.{starts-sum, rises, whole-counted, kept-counted}
+use Rattle.spec_base.proofs.base.Laws.{pos-of}
 
 within-none : (lo hi N : ℕ) → hi ≡ 0 → startsIn lo hi N ≡ 0
 unfolding startsIn

@@ -4,8 +4,8 @@ use mathlib.Core.List.{List, [], _∷_}
 use Prim.Native.Nat.{ℕ}
 use lib.IntN.{ℤ, pos, negsuc}
 use Rattle.spec_base.specs.base.Refusal.{_orElse_, faultUnless}
-use Rattle.spec_caption.specs.caption_time.Kind.{kindBad, unitsOf}
-use Rattle.spec_caption.specs.caption_time.Convert.{timescaleBad, scaledUp, ticksOf, startUnits, endUnits}
+use Rattle.spec_time.specs.caption_time.Kind.{kindBad, unitsOf}
+use Rattle.spec_time.specs.caption_time.Convert.{timescaleBad, scaledUp, ticksOf, startUnits, endUnits}
 use Rattle.spec_map.specs.segment.Segment.{segment, segmentsOf, endBad, segmentBad, anyBad, mapBad}
 use Rattle.spec_caption.specs.caption_fate.Hit.{meetsParts, findFrom}
 use Rattle.spec_caption.specs.caption_fate.Lost.{lostLater}

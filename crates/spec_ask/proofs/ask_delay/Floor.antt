@@ -8,9 +8,9 @@ use lib.Dec.{ltb}
 use lib.IntN.{ℤ, pos, negsuc}
 use borrow.Author.Tests.{ltb-true, ltb-false}
 use Rattle.spec_base.proofs.base.Laws.{and-left, and-right}
-use Rattle.spec_caption.specs.caption_time.Kind.{unitsOf}
-use Rattle.spec_caption.specs.caption_time.Convert.{ticksOf}
-use Rattle.spec_caption.proofs.caption_time.Conversions.{ticks-add}
+use Rattle.spec_time.specs.caption_time.Kind.{unitsOf}
+use Rattle.spec_time.specs.caption_time.Convert.{ticksOf}
+use Rattle.spec_time.proofs.caption_time.Conversions.{ticks-add}
 use Rattle.spec_map.specs.declared.segment.Segment.{Segment}
 use Rattle.spec_map.specs.segment.Segment.{sourceOf}
 use Rattle.spec_caption.specs.declared.caption_fate.Config.{Config}

@@ -8,7 +8,7 @@ use lib.Dec.{ltb, eqb}
 use lib.IntN.{ℤ, pos, negsuc}
 use lib.ListN.{getD}
 use borrow.Author.Tests.{ltb-false}
-use Rattle.spec_caption.specs.caption_time.Kind.{unitsOf}
+use Rattle.spec_time.specs.caption_time.Kind.{unitsOf}
 use Rattle.spec_map.specs.declared.segment.Segment.{Segment}
 use Rattle.spec_caption.specs.declared.caption_fate.Config.{Config}
 use Rattle.spec_caption.specs.caption_fate.Fates.{Fate, passed, dropped, shifted, clipped, fateOf}

@@ -11,14 +11,11 @@ use borrow.Author.Tests.{lt-ltb, le-ltb, le-leb, lt-leb, ltb-true, ltb-false, le
 use Rattle.spec_ask.specs.declared.ask_edges.Edge.{Edge}
 use Rattle.spec_ask.specs.ask_edges.Edge.{gradeBy}
 use Rattle.spec_ask.specs.ask_delay.Paint.{reach, Filled, metMoved, wholeMoved, Painted}
-
-and-no : (t : Bool) → (t && false) ≡ false
-and-no true = refl
-and-no false = refl
+use Rattle.spec_base.proofs.base.Laws.{and-false}
 
 -- ---- the loop of a fill
 inside : (lo i j : ℕ) → i ≤ j → (leb lo j && ltb j i) ≡ false
-inside lo i j h = ap (λ (t : Bool). leb lo j && t) (le-ltb j i h) ∙ and-no (leb lo j)
+inside lo i j h = ap (λ (t : Bool). leb lo j && t) (le-ltb j i h) ∙ sym (and-false (leb lo j))
 
 outside : (lo i j : ℕ) → j < lo → (leb lo j && ltb j i) ≡ false
 outside lo i j h = ap (λ (t : Bool). t && ltb j i) (lt-leb lo j h)
@@ -138,7 +135,7 @@ module _ (lo hi first last S E j old : ℕ) (e : Edge) (h : j < 12001)
             lt-ltb j last (hi-in (e .high + reach) E j hi last ea (ltb-true (E + j) (e .high + reach) s) b),
           )
       inner true false r s =
-          rw (le-ltb j last (hi-out (e .high + reach) E j hi last ea (ltb-false (E + j) (e .high + reach) s)), and-no (leb first j), le-leb lo j a, lt-ltb j hi b)
+          rw (le-ltb j last (hi-out (e .high + reach) E j hi last ea (ltb-false (E + j) (e .high + reach) s)), sym (and-false (leb first j)), le-leb lo j a, lt-ltb j hi b)
       inner false x r s =
           rw (lt-leb first j (first-out (e .low + reach) S j lo first ef (leb-false (e .low + reach) (S + j) r)), le-leb lo j a, lt-ltb j hi b)
   by-tests true false w x p q r s =
@@ -146,7 +143,7 @@ module _ (lo hi first last S E j old : ℕ) (e : Edge) (h : j < 12001)
       rw (lt-leb first j (first-low (e .low + reach) S j lo first ef a), lt-leb lo j a)
   by-tests false v w x p q r s =
       let b : hi ≤ j = hi-out (e .till + reach) S j 12001 hi eh (ltb-false (S + j) (e .till + reach) p) in
-      rw (le-ltb j last (hi-most (e .high + reach) E j hi last ea b), and-no (leb first j), le-ltb j hi b, and-no (leb lo j))
+      rw (le-ltb j last (hi-most (e .high + reach) E j hi last ea b), sym (and-false (leb first j)), le-ltb j hi b, sym (and-false (leb lo j)))
 
   grade-is : cond (leb first j && ltb j last) 2 (cond (leb lo j && ltb j hi) 1 old) ≡ gradeBy (metMoved e S E j) (wholeMoved e S E j) old
   grade-is = by-tests (ltb (S + j) (e .till + reach)) (leb (e .from + reach) (E + j)) (leb (e .low + reach) (S + j)) (ltb (E + j) (e .high + reach)) refl refl refl refl

@@ -7,9 +7,9 @@ use native.Mathlib.Omega.{arith}
 use lib.Dec.{ltb}
 use lib.ListN.{length, getD, drop}
 use borrow.Author.Tests.{lt-ltb, le-ltb}
-use Rattle.spec_caption.specs.caption_time.Kind.{kindBad, unitsOf}
-use Rattle.spec_caption.specs.caption_time.Convert.{timescaleBad, ticksOf, ticksWithin}
-use Rattle.spec_caption.proofs.caption_time.Limits.{ticks-within, timescale-low, timescale-high}
+use Rattle.spec_time.specs.caption_time.Kind.{kindBad, unitsOf}
+use Rattle.spec_time.specs.caption_time.Convert.{timescaleBad, ticksOf, ticksWithin}
+use Rattle.spec_time.proofs.caption_time.Limits.{ticks-within, timescale-low, timescale-high}
 use Rattle.spec_map.specs.declared.segment.Segment.{Segment}
 use Rattle.spec_map.specs.segment.Segment.{segment, segmentsOf}
 use Rattle.spec_map.proofs.segment.SegmentLaws.{segments-cut, segments-short}

@@ -1,6 +1,6 @@
 -- The loop over the segments, the last one first.
 use mathlib.Core.Path.{_≡_, refl, sym, ap, ap₂, subst, _∙_}
-use mathlib.Core.Bool.{Bool, true, false, _&&_, cond, true≢false}
+use mathlib.Core.Bool.{Bool, true, false, _&&_, cond}
 use mathlib.Core.List.{List, [], _∷_}
 use Prim.Native.Nat.{ℕ, zero, suc, _+_, _-_, _*_, _/_, _^_, _≤_, _<_}
 use native.Mathlib.Omega.{arith}
@@ -9,10 +9,10 @@ use lib.Dec.{ltb, leb, eqb}
 use lib.ListN.{length, getD, drop, length-drop}
 use lib.Seq.{drop-drop}
 use borrow.Author.Tests.{lt-ltb, le-ltb, le-leb, lt-leb, ltb-true, ltb-false, leb-true, leb-false, eqb-true}
-use Rattle.spec_caption.specs.caption_time.Kind.{kindBad, unitsOf}
-use Rattle.spec_caption.specs.caption_time.Convert.{scaledUp, timescaleBad, endUnits, endWithin, coreHolds, coreTicks}
-use Rattle.spec_caption.proofs.caption_time.Scale.{quotient-below, up-down}
-use Rattle.spec_caption.proofs.caption_time.Limits.{core-within, units-high}
+use Rattle.spec_time.specs.caption_time.Kind.{kindBad, unitsOf}
+use Rattle.spec_time.specs.caption_time.Convert.{scaledUp, timescaleBad, endUnits, endWithin, coreHolds, coreTicks}
+use Rattle.spec_time.proofs.caption_time.Scale.{quotient-below, up-down}
+use Rattle.spec_time.proofs.caption_time.Limits.{core-within, units-high}
 use Rattle.spec_map.specs.declared.segment.Segment.{Segment}
 use Rattle.spec_map.specs.segment.Segment.{segment, segmentsOf, sourceOf, segmentBad, anyBad, endBad, mapBad}
 use Rattle.spec_map.proofs.segment.SegmentLaws.{segments-cut, segments-short, any-good}
@@ -21,6 +21,7 @@ use Rattle.spec_ask.specs.declared.ask_edges.Edge.{Edge}
 use Rattle.spec_ask.specs.ask_edges.Edge.{edge, edgeAt, edgesOf, edgeWithin, gradeBy, gradeThrough}
 use Rattle.spec_ask.proofs.ask_edges.Fine.{edge-empty, edge-fine}
 use Rattle.spec_ask.specs.ask_delay.Paint.{reach, Filled, metMoved, wholeMoved, Painted, Window}
+use Rattle.spec_base.proofs.base.Laws.{pos-of, cond-left, cond-right}
 
 -- ---- comparisons 6000 larger on both sides
 shift-lt : (a b : ℕ) → reach ≤ a → ltb a (b + reach) ≡ ltb (a - reach) b
@@ -46,10 +47,6 @@ module _ (e : Edge) (S E j old : ℕ) (hS : reach ≤ S + j) (hE : reach ≤ E +
       (ap₂ _&&_ (shift-le (S + j) (e .low) hS) (shift-lt (E + j) (e .high) hE))
 
 -- ---- a segment painted over those behind it
-pos-of : (k : ℕ) → eqb k 0 ≡ false → 0 < k
-pos-of zero q = absurd (true≢false q)
-pos-of (suc k) q = omega arith
-
 module _ (kind T : ℕ) (hk : kindBad kind ≡ false) (hT : timescaleBad T ≡ false) where
   grade-step : (x : Segment) (xs : List Segment) (s e : ℕ) → endBad (sourceOf x) (x .duration) ≡ false
       → (let g = edgeWithin kind T (sourceOf x) (x .duration) in gradeBy (ltb s (g .till) && leb (g .from) e) (leb (g .low) s && ltb e (g .high)) (gradeThrough (edgesOf T (unitsOf kind) xs) s e))
@@ -135,14 +132,6 @@ module _ (kind T q d : ℕ) (e : Edge) (h : e ≡ edgeWithin kind T q d) where
   high-fits = small .high
 
 -- ---- a good map has no bad segment, from any place on
-cond-right : (s t : Bool) → cond s true t ≡ false → t ≡ false
-cond-right true t e = absurd (true≢false e)
-cond-right false t e = e
-
-cond-left : (s t : Bool) → cond s true t ≡ false → s ≡ false
-cond-left true t e = absurd (true≢false e)
-cond-left false t e = refl
-
 abbrev badOf : Segment → Bool
 badOf x = segmentBad (x .«source_start_frame») (x .«source_end_frame») (x .«source_start_dts») (x .«frame_count») (x .«output_start») (x .duration)
 

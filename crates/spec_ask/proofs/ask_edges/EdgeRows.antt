@@ -1,9 +1,8 @@
 -- The edges of document 01's worked segments in hundredths of a second, and the fates of its captions by them (0 dropped, 1 clipped, 2 shifted): by computation.
 use mathlib.Core.Path.{_≡_, refl}
 use mathlib.Core.List.{List, [], _∷_}
-use Prim.Native.Nat.{ℕ}
-use Rattle.spec_caption.specs.caption_time.Kind.{kindBad, unitsOf}
-use Rattle.spec_caption.specs.caption_time.Convert.{scaledUp, endUnits, coreHolds, endWithin}
+use Rattle.spec_time.specs.caption_time.Kind.{kindBad, unitsOf}
+use Rattle.spec_time.specs.caption_time.Convert.{scaledUp, endUnits, coreHolds, endWithin}
 use Rattle.spec_map.specs.segment.Segment.{segment, endBad}
 use Rattle.spec_caption.specs.caption_fate.Fates.{passed, dropped, shifted, clipped}
 use Rattle.spec_ask.specs.declared.ask_edges.Edge.{Edge}

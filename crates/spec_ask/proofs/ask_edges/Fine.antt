@@ -7,9 +7,9 @@ use native.Mathlib.Numerals.{add-one}
 use borrow.Author.Tests.{eq-eqb, ne-eqb}
 use Rattle.spec_base.specs.base.Limits.{mostTicks}
 use Rattle.spec_base.proofs.base.Laws.{yes!, no! }
-use Rattle.spec_caption.specs.caption_time.Kind.{kindBad, unitsOf}
-use Rattle.spec_caption.specs.caption_time.Convert.{endUnits, endWithin, timescaleBad, coreTicks}
-use Rattle.spec_caption.proofs.caption_time.Limits.{end-within, timescale-low, timescale-high}
+use Rattle.spec_time.specs.caption_time.Kind.{kindBad, unitsOf}
+use Rattle.spec_time.specs.caption_time.Convert.{endUnits, endWithin, timescaleBad, coreTicks}
+use Rattle.spec_time.proofs.caption_time.Limits.{end-within, timescale-low, timescale-high}
 use Rattle.spec_map.specs.segment.Segment.{endBad}
 use Rattle.spec_map.proofs.segment.SegmentLaws.{end-good}
 use Rattle.spec_ask.specs.declared.ask_edges.Edge.{Edge}

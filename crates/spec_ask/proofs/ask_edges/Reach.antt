@@ -6,7 +6,7 @@ use native.Mathlib.Nat.{le-div-iff-mul-le, div-lt-iff-lt-mul, add-mul, le-trans,
 use native.Mathlib.Omega.{arith}
 use borrow.Author.Tests.{ltb-true, ltb-false, leb-true, leb-false}
 use lib.Dec.{ltb, leb}
-use Rattle.spec_caption.specs.caption_time.Convert.{scaledUp, ticksOf, endUnits}
+use Rattle.spec_time.specs.caption_time.Convert.{scaledUp, ticksOf, endUnits}
 
 up-low : (n T : ℕ) → 0 < T → n ≤ (n + (T - 1)) / T * T
 up-low n T h = let l : n + (T - 1) < (n + (T - 1)) / T * T + T = lt-div-mul-add h in omega arith

@@ -4,10 +4,10 @@ use mathlib.Core.Bool.{Bool, true, false, _&&_, _||_, not, cond, true≢false}
 use mathlib.Core.List.{List, [], _∷_}
 use Prim.Native.Nat.{ℕ, zero, suc, _+_, _<_}
 use native.Mathlib.Omega.{arith}
-use borrow.Author.Tests.{lt-ltb, le-ltb, le-leb, lt-leb, ltb-true, ltb-false, eqb-true}
+use borrow.Author.Tests.{lt-ltb, le-ltb, eqb-true}
 use lib.Dec.{ltb, leb, eqb, leb·suc-suc}
-use Rattle.spec_caption.specs.caption_time.Kind.{unitsOf}
-use Rattle.spec_caption.specs.caption_time.Convert.{ticksOf}
+use Rattle.spec_time.specs.caption_time.Kind.{unitsOf}
+use Rattle.spec_time.specs.caption_time.Convert.{ticksOf}
 use Rattle.spec_map.specs.declared.segment.Segment.{Segment}
 use Rattle.spec_map.specs.segment.Segment.{sourceOf}
 use Rattle.spec_caption.specs.declared.caption_fate.Config.{Config}
@@ -17,15 +17,9 @@ use Rattle.spec_caption.specs.caption_fate.Decide.{retimedAt, decideHit, decide
 use Rattle.spec_caption.specs.caption_fate.Fates.{shifted, clipped, fateBy, fateOf}
 use Rattle.spec_ask.specs.ask_edges.Edge.{edgeAt, edgesOf, fateGrade, gradeBy, gradeThrough}
 use Rattle.spec_ask.proofs.ask_edges.Reach.{at-least, below}
+use Rattle.spec_base.proofs.base.Laws.{leb-not}
 
 -- uncut at both ends: whole in the segment
-uncut : (x y : ℕ) → leb x y ≡ not (ltb y x)
-uncut x y = go (ltb y x) refl
-  where
-    go : (t : Bool) → ltb y x ≡ t → leb x y ≡ not t
-    go true e = lt-leb x y (ltb-true y x e)
-    go false e = le-leb x y (ltb-false y x e)
-
 grade-for : (s e : ℕ) (sc ec : Bool) (r : ℕ) → fateGrade (cond (sc || ec) (clipped s e) (shifted s e)) ≡ gradeBy true (not sc && not ec) r
 grade-for s e true ec r = refl
 grade-for s e false true r = refl
@@ -48,7 +42,7 @@ module _ (T U : ℕ) (hT : 0 < T) (hU : 0 < U) (S E : ℕ) where
   -- and the caption lies in it whole
   whole-units : (q d : ℕ) → (not (ltb a q) && not (ltb (q + d) b)) ≡ (leb (edgeAt T U q d .low) S && ltb E (edgeAt T U q d .high))
   whole-units q d =
-      ap₂ _&&_ (sym (uncut q a) ∙ at-least T U hT hU S q) (sym (uncut b (q + d)) ∙ sym (leb·suc-suc b (q + d)) ∙ below T U hT hU E (suc (q + d)))
+      ap₂ _&&_ (sym (leb-not q a) ∙ at-least T U hT hU S q) (sym (leb-not b (q + d)) ∙ sym (leb·suc-suc b (q + d)) ∙ below T U hT hU E (suc (q + d)))
 
   -- a segment without length is never met
   empty-missed : (q d : ℕ) → d ≡ 0 → meetsParts q d a b ≡ false

@@ -9,7 +9,7 @@ use lib.Dec.{ltb, eqb}
 use lib.ListN.{length, drop, getD}
 use Rattle.spec_base.proofs.base.Laws.{yes!, no! }
 use Rattle.spec_map.specs.declared.segment.Segment.{Segment}
-use Rattle.spec_map.specs.segment.Segment.{segment, segmentsOf}
+use Rattle.spec_map.specs.segment.Segment.{segmentsOf}
 use Rattle.spec_map.proofs.segment.SegmentLaws.{segments-cut, segments-short}
 use Rattle.spec_ask.specs.ask_order.Ascending.{stepsBack, after, ascendsFrom, ascends}
 

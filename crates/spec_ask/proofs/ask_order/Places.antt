@@ -7,9 +7,9 @@ use native.Mathlib.Omega.{arith}
 use native.Mathlib.Nat.{le-trans, le-refl}
 use borrow.Author.Tests.{lt-ltb, eq-eqb, ne-eqb, ltb-false}
 use lib.Dec.{ltb, eqb}
-use Rattle.spec_caption.specs.caption_time.Kind.{unitsOf}
-use Rattle.spec_caption.specs.caption_time.Convert.{ticksOf}
-use Rattle.spec_caption.proofs.caption_time.Conversions.{ticks-mono, start-mono, end-mono}
+use Rattle.spec_time.specs.caption_time.Kind.{unitsOf}
+use Rattle.spec_time.specs.caption_time.Convert.{ticksOf}
+use Rattle.spec_time.proofs.caption_time.Conversions.{ticks-mono, start-mono, end-mono}
 use Rattle.spec_map.specs.declared.segment.Segment.{Segment}
 use Rattle.spec_map.specs.segment.Segment.{sourceOf, outputStartOf, sourceEnd}
 use Rattle.spec_caption.specs.declared.caption_fate.Config.{Config}

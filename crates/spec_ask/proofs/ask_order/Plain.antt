@@ -1,13 +1,13 @@
 -- The test says what its plain words say, both ways.
 use mathlib.Core.Path.{_≡_, refl, sym, ap, subst}
-use mathlib.Core.Bool.{Bool, true, false, true≢false}
+use mathlib.Core.Bool.{Bool, true, false}
 use mathlib.Core.List.{List, [], _∷_, _++_}
-use Prim.Native.Nat.{ℕ, zero, suc, _≤_, _<_}
+use Prim.Native.Nat.{ℕ, _≤_, _<_}
 use native.Mathlib.Omega.{arith}
 use native.Mathlib.Nat.{le-trans}
 use lib.Dec.{eqb}
 use borrow.Author.Tests.{le-ltb, ne-eqb, eqb-true}
-use Rattle.spec_base.proofs.base.Laws.{no! }
+use Rattle.spec_base.proofs.base.Laws.{no!, pos-of}
 use Rattle.spec_map.specs.declared.segment.Segment.{Segment}
 use Rattle.spec_map.specs.segment.Segment.{sourceOf, outputStartOf, sourceEnd}
 use Rattle.spec_ask.specs.ask_order.Ascending.{outputEnd, stepsBack, after, ascendsFrom, ascends, Before, Ascending}
@@ -41,10 +41,6 @@ ascends-plain m w earlier between others x y p hx hy =
 -- ---- and back
 abbrev Behind : (s o : ℕ) → List Segment → Type 0
 Behind s o m = (pre post : List Segment) (y : Segment) → m ≡ pre ++ y ∷ post → 0 < y .duration → (s ≤ sourceOf y) × (o ≤ outputStartOf y)
-
-pos-of : (k : ℕ) → eqb k 0 ≡ false → 0 < k
-pos-of zero q = absurd (true≢false q)
-pos-of (suc k) q = omega arith
 
 at-long : (s o q p d : ℕ) → 0 < d → s ≤ q → o ≤ p → false ≡ stepsBack s o q p d
 unfolding stepsBack

@@ -1,47 +1,35 @@
 -- Laws of the answer: its refusals, a dropped caption, a kept one.
 use mathlib.Core.Path.{_≡_, refl, sym, ap, subst, _∙_}
-use mathlib.Core.Bool.{Bool, true, false, cond, not, true≢false}
+use mathlib.Core.Bool.{Bool, true, false, cond, not}
 use mathlib.Core.List.{List, [], _∷_}
-use Prim.Native.Nat.{ℕ, suc, _+_, _-_, _*_, _/_, _%_, _≤_, _<_}
+use Prim.Native.Nat.{ℕ, suc, _+_, _-_, _/_, _≤_}
 use native.Mathlib.Omega.{arith}
 use mir.Syntax.{w64}
 use mir.Val.{Fits}
-use lib.Dec.{eqb, ltb, leb}
+use lib.Dec.{eqb, leb}
 use lib.ListN.{length}
-use borrow.Author.Tests.{eq-eqb, ne-eqb, leb-true}
-use Rattle.spec_base.specs.base.Limits.{mostUnits, mostTicks, mostSegments}
-use Rattle.spec_base.specs.base.Refusal.{_orElse_, faultUnless}
+use borrow.Author.Tests.{eq-eqb, ne-eqb, leb-true, not-true}
+use Rattle.spec_base.specs.base.Limits.{mostUnits, mostTicks}
+use Rattle.spec_base.specs.base.Refusal.{faultUnless}
 use Rattle.spec_base.specs.base.Put.{put}
 use Rattle.spec_base.proofs.base.RefusalLaws.{held, else-zero}
-use Rattle.spec_base.proofs.base.Laws.{yes!, no! }
-use Rattle.spec_caption.specs.caption_time.Kind.{kindBad, unitsOf}
-use Rattle.spec_caption.specs.caption_time.Convert.{timescaleBad, ticksOf, ticksWithin, coreTimescale, coreUnits}
-use Rattle.spec_caption.proofs.caption_time.Limits.{ticks-within, timescale-low, timescale-high}
+use Rattle.spec_base.proofs.base.Laws.{yes!, no!, cond-left, cond-right}
+use Rattle.spec_time.specs.caption_time.Kind.{kindBad, unitsOf}
+use Rattle.spec_time.specs.caption_time.Convert.{timescaleBad, ticksOf, ticksWithin}
+use Rattle.spec_time.proofs.caption_time.Limits.{ticks-within, timescale-low, timescale-high}
 use Rattle.spec_map.specs.declared.segment.Segment.{Segment}
 use Rattle.spec_map.specs.segment.Segment.{sourceOf, sourceEnd, segmentsOf, segmentBad, anyBad, endBad, mapBad}
 use Rattle.spec_map.proofs.segment.SegmentLaws.{end-good, any-good}
 use Rattle.spec_caption.specs.declared.caption_fate.Config.{Config}
 use Rattle.spec_caption.specs.declared.caption_fate.Counted.{Counted}
-use Rattle.spec_caption.specs.declared.caption_fate.Counted.the-variants.{Nothing, Dropped, Shifted, Clipped}
+use Rattle.spec_caption.specs.declared.caption_fate.Counted.the-variants.{Nothing, Dropped}
 use Rattle.spec_caption.specs.declared.caption_fate.Met.{Met}
 use Rattle.spec_caption.specs.declared.caption_fate.Hit.{Hit}
 use Rattle.spec_caption.specs.declared.caption_fate.Hit.the-variants.{Miss, At}
 use Rattle.spec_caption.specs.caption_fate.Hit.{meets, Found, miss, hit, findFrom, findHit, metOf, hitOf}
 use Rattle.spec_caption.proofs.caption_fate.FineLaws.{Set, segment-good}
 use Rattle.spec_ask.specs.declared.ask_reason.Why.{Why}
-use Rattle.spec_ask.specs.ask_reason.Reason.{causesOf, countedCut, refusedWhy, droppedWhy, keptWhy, whyFound, whyNumber, whyOf, causesFound, causesLeft}
-
-not-true : (b : Bool) → not b ≡ true → b ≡ false
-not-true true e = absurd (true≢false (sym e))
-not-true false e = refl
-
-cond-right : (s t : Bool) → cond s true t ≡ false → t ≡ false
-cond-right true t e = absurd (true≢false e)
-cond-right false t e = e
-
-cond-left : (s t : Bool) → cond s true t ≡ false → s ≡ false
-cond-left true t e = absurd (true≢false e)
-cond-left false t e = refl
+use Rattle.spec_ask.specs.ask_reason.Reason.{causesOf, countedCut, refusedWhy, keptWhy, whyFound, whyNumber, whyOf, causesFound, causesLeft}
 
 -- ---- what is not refused
 record Taken (m : List ℕ) (T kind S E places : ℕ) : Type 0 where

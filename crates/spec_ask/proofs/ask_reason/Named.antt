@@ -1,20 +1,14 @@
 -- The segment that is named is the first that is met, at its place in the list.
 use mathlib.Core.Path.{_≡_, refl, sym, ap, subst, _∙_}
-use mathlib.Core.Bool.{Bool, true, false, cond, true≢false}
-use mathlib.Core.List.{List, [], _∷_, _++_, List·Memᴰ, List·Memᴰ·head, List·Memᴰ·tail}
+use mathlib.Core.Bool.{Bool, true, false}
+use mathlib.Core.List.{List, [], _∷_, _++_, List·Memᴰ·head, List·Memᴰ·tail}
 use Prim.Native.Nat.{ℕ, suc, _+_}
 use native.Mathlib.Omega.{arith}
 use lib.ListN.{length}
-use borrow.Author.Tests.{lt-ltb}
 use Rattle.spec_map.specs.declared.segment.Segment.{Segment}
-use Rattle.spec_map.specs.segment.Segment.{sourceOf, sourceEnd}
-use Rattle.spec_caption.specs.caption_fate.Hit.{meetsParts, meets, Found, miss, hit, findFrom, findHit}
+use Rattle.spec_caption.specs.caption_fate.Hit.{meets, Found, miss, hit, findFrom, findHit}
 use Rattle.spec_caption.specs.caption_fate.Fates.{Meets, NoneMeets, FirstMet}
-use Rattle.spec_caption.proofs.caption_fate.FateLaws.{met, HitRight, find-right}
-
-meets-true : (x : Segment) (a b : ℕ) → Meets x a b → meets x a b ≡ true
-unfolding meetsParts
-meets-true x a b k = rw (lt-ltb 0 (x .duration) (k .long), lt-ltb a (sourceEnd x) (k .later), lt-ltb (sourceOf x) b (k .sooner))
+use Rattle.spec_caption.proofs.caption_fate.FateLaws.{met, HitRight, find-right, meets-true}
 
 meets-false : (x : Segment) (a b : ℕ) → (Meets x a b → ⊥) → meets x a b ≡ false
 meets-false x a b n = go (meets x a b) refl

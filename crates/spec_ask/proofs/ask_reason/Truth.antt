@@ -2,37 +2,32 @@
 use mathlib.Core.Path.{_≡_, refl, sym, ap, subst, _∙_}
 use mathlib.Core.Bool.{Bool, true, false, cond, _||_, true≢false}
 use mathlib.Core.List.{List, [], _∷_}
-use Prim.Native.Nat.{ℕ, zero, suc, _+_, _-_, _*_, _/_, _≤_, _<_}
+use Prim.Native.Nat.{ℕ, suc, _-_, _*_, _/_, _≤_, _<_}
 use native.Mathlib.Omega.{arith}
 use lib.Dec.{leb, ltb, eqb}
 use lib.ListN.{length, take}
-use borrow.Author.Tests.{le-leb, lt-leb, eqb-true, lt-ltb, le-ltb, eq-eqb, ne-eqb, leb-true, leb-false, ltb-true, ltb-false}
+use borrow.Author.Tests.{le-leb, eqb-true, lt-ltb, eq-eqb, ne-eqb, leb-true, leb-false, ltb-true, ltb-false}
 use Rattle.spec_base.specs.base.Limits.{mostUnits}
 use Rattle.spec_base.specs.base.Refusal.{_orElse_, faultUnless}
 use Rattle.spec_base.specs.base.Put.{put}
 use Rattle.spec_base.proofs.base.PutLaws.{take-put}
-use Rattle.spec_caption.specs.caption_time.Kind.{kindBad, unitsOf}
-use Rattle.spec_caption.specs.caption_time.Convert.{ticksOf, timescaleBad}
-use Rattle.spec_caption.proofs.caption_time.Limits.{units-high}
+use Rattle.spec_time.specs.caption_time.Kind.{kindBad, unitsOf}
+use Rattle.spec_time.specs.caption_time.Convert.{ticksOf, timescaleBad}
+use Rattle.spec_time.proofs.caption_time.Limits.{units-high}
 use Rattle.spec_map.specs.declared.segment.Segment.{Segment}
 use Rattle.spec_map.specs.segment.Segment.{sourceOf, sourceEnd, segmentsOf, mapBad}
 use Rattle.spec_caption.specs.declared.caption_fate.Config.{Config}
-use Rattle.spec_caption.specs.declared.caption_fate.Counted.{Counted}
-use Rattle.spec_caption.specs.declared.caption_fate.Counted.the-variants.{Nothing, Dropped, Shifted, Clipped}
-use Rattle.spec_caption.specs.declared.caption_fate.Retimed.{Retimed}
+use Rattle.spec_caption.specs.declared.caption_fate.Counted.the-variants.{Shifted, Clipped}
 use Rattle.spec_caption.specs.caption_fate.Hit.{meetsParts, meets, Found, miss, hit, findFrom, findHit, metOf}
 use Rattle.spec_caption.specs.caption_fate.Lost.{lostRule}
 use Rattle.spec_caption.specs.caption_fate.Decide.{retimedAt, decideHit, decideTicks, decideOf}
-use Rattle.spec_caption.specs.caption_fate.Fates.{Fate, dropped, shifted, clipped, fateBy, fateOf}
+use Rattle.spec_caption.specs.caption_fate.Fates.{shifted, clipped, fateBy, fateOf}
 use Rattle.spec_caption.specs.caption_fate.Emit.{decided}
 use Rattle.spec_caption.specs.caption_fate.Told.{countedOf}
 use Rattle.spec_ask.specs.declared.ask_reason.Why.{Why}
 use Rattle.spec_ask.specs.ask_reason.Reason.{causeParts, causesOf, Fails, AllFail, TrueHit, TrueReason, countedCut, whyFound, whyNumber, whyOf, causesFound, causesLeft}
 use Rattle.spec_ask.proofs.ask_reason.Named.{hit-first, first-named}
-
-pos-of : (k : ℕ) → eqb k 0 ≡ false → 0 < k
-pos-of zero q = absurd (true≢false q)
-pos-of (suc k) q = omega arith
+use Rattle.spec_base.proofs.base.Laws.{pos-of}
 
 -- a segment that is not met fails for its cause
 fails : (x : Segment) (a b : ℕ) → meets x a b ≡ false → Fails x a b (causeParts (sourceOf x) (x .duration) a b)

@@ -1,6 +1,6 @@
 -- Laws of the code.
 use mathlib.Core.Path.{_≡_, refl, sym, ap, _∙_}
-use mathlib.Core.Bool.{Bool, true, false, cond}
+use mathlib.Core.Bool.{Bool, true, false}
 use mathlib.Core.List.{List}
 use Prim.Native.Nat.{ℕ}
 use native.Mathlib.Omega.{arith}
@@ -13,7 +13,6 @@ use Rattle.spec_caption.specs.declared.caption_fate.Met.{Met}
 use Rattle.spec_caption.specs.declared.caption_fate.Hit.{Hit}
 use Rattle.spec_caption.specs.declared.caption_fate.Hit.the-variants.{Miss, At}
 use Rattle.spec_caption.specs.caption_fate.Hit.{Found, miss, hit, findHit, hitOf}
-use Rattle.spec_ask.specs.declared.ask_rough.Judged.{Judged}
 use Rattle.spec_ask.specs.declared.ask_rough.Judged.the-variants.{Refused, SurelyKept, SurelyDropped, Unsure}
 use Rattle.spec_ask.specs.ask_rough.Rough.{found, keptAt, judged, roughNumber, roughOf}
 

@@ -1,16 +1,16 @@
 -- The answer means what it says and no other does, and where each range holds a single tick it agrees with the fate of a caption so read.
-use mathlib.Core.Path.{_≡_, refl, sym, ap, subst, _∙_}
+use mathlib.Core.Path.{_≡_, refl, sym, _∙_}
 use mathlib.Core.Bool.{Bool, true, false, cond, not, true≢false, _||_}
 use mathlib.Core.List.{List}
 use Prim.Native.Nat.{ℕ, _≤_}
 use native.Mathlib.Omega.{arith}
 use native.Mathlib.Nat.{le-refl}
-use lib.Dec.{leb, eqb}
+use lib.Dec.{leb}
 use borrow.Author.Tests.{leb-true, le-leb, eq-eqb}
 use Rattle.spec_base.specs.base.Refusal.{_orElse_, faultUnless}
 use Rattle.spec_base.proofs.base.RefusalLaws.{held, else-zero}
-use Rattle.spec_caption.specs.caption_time.Kind.{unitsOf}
-use Rattle.spec_caption.specs.caption_time.Convert.{ticksOf}
+use Rattle.spec_time.specs.caption_time.Kind.{unitsOf}
+use Rattle.spec_time.specs.caption_time.Convert.{ticksOf}
 use Rattle.spec_map.specs.declared.segment.Segment.{Segment}
 use Rattle.spec_map.specs.segment.Segment.{segmentsOf, mapBad}
 use Rattle.spec_caption.specs.declared.caption_fate.Config.{Config}

@@ -1,15 +1,13 @@
 -- An earlier start and a later end keep what was kept, through any map.
-use mathlib.Core.Path.{_≡_, refl, sym, ap, subst, _∙_}
+use mathlib.Core.Path.{_≡_, refl}
 use mathlib.Core.Bool.{Bool, true, false, cond}
 use mathlib.Core.List.{List, [], _∷_}
-use Prim.Native.Nat.{ℕ, suc, _≤_, _<_}
+use Prim.Native.Nat.{ℕ, suc, _≤_}
 use native.Mathlib.Omega.{arith}
-use lib.Dec.{ltb}
 use borrow.Author.Tests.{lt-ltb}
 use Rattle.spec_map.specs.declared.segment.Segment.{Segment}
 use Rattle.spec_map.specs.segment.Segment.{sourceOf, sourceEnd}
-use Rattle.spec_caption.specs.caption_fate.Hit.{meetsParts, meets, Found, miss, hit, findFrom, findHit}
-use Rattle.spec_caption.specs.caption_fate.Fates.{Meets}
+use Rattle.spec_caption.specs.caption_fate.Hit.{meetsParts, meets, hit, findFrom}
 use Rattle.spec_caption.proofs.caption_fate.FateLaws.{met}
 use Rattle.spec_ask.specs.ask_rough.Rough.{found, keptAt}
 

@@ -5,8 +5,8 @@ use mathlib.Core.List.{List}
 use Prim.Native.Nat.{ℕ, zero, suc, _+_}
 use lib.Dec.{leb, eqb}
 use Rattle.spec_base.specs.base.Refusal.{_orElse_, faultUnless}
-use Rattle.spec_caption.specs.caption_time.Kind.{kindBad}
-use Rattle.spec_caption.specs.caption_time.Convert.{timescaleBad}
+use Rattle.spec_time.specs.caption_time.Kind.{kindBad}
+use Rattle.spec_time.specs.caption_time.Convert.{timescaleBad}
 use Rattle.spec_map.specs.declared.segment.Segment.{Segment}
 use Rattle.spec_map.specs.segment.Segment.{segmentsOf, mapBad}
 use Rattle.spec_caption.specs.declared.caption_fate.Config.{Config}

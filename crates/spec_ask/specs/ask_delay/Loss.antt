@@ -8,8 +8,8 @@ use lib.ListN.{length}
 use lib.IntN.{ℤ}
 use Rattle.spec_base.specs.base.Limits.{mostUnits}
 use Rattle.spec_base.specs.base.Refusal.{_orElse_, faultUnless}
-use Rattle.spec_caption.specs.caption_time.Kind.{kindBad, unitsOf}
-use Rattle.spec_caption.specs.caption_time.Convert.{ticksOf, timescaleBad}
+use Rattle.spec_time.specs.caption_time.Kind.{kindBad, unitsOf}
+use Rattle.spec_time.specs.caption_time.Convert.{ticksOf, timescaleBad}
 use Rattle.spec_map.specs.declared.segment.Segment.{Segment}
 use Rattle.spec_map.specs.segment.Segment.{mapBad}
 use Rattle.spec_caption.specs.declared.caption_fate.Config.{Config}

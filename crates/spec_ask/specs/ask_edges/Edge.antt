@@ -2,9 +2,9 @@
 -- in it whole exactly where low ≤ S and E < high: ticks are rounded down, so that tick k is reached by the least time that is k rounded up.
 use mathlib.Core.Bool.{Bool, true, false, _&&_, cond}
 use mathlib.Core.List.{List, [], _∷_}
-use Prim.Native.Nat.{ℕ, suc, _+_, _≤_}
+use Prim.Native.Nat.{ℕ, suc, _+_}
 use lib.Dec.{ltb, leb, eqb}
-use Rattle.spec_caption.specs.caption_time.Convert.{endUnits, endWithin}
+use Rattle.spec_time.specs.caption_time.Convert.{endUnits, endWithin}
 use Rattle.spec_map.specs.declared.segment.Segment.{Segment}
 use Rattle.spec_map.specs.segment.Segment.{sourceOf, endBad}
 use Rattle.spec_ask.specs.declared.ask_edges.Edge.{Edge}

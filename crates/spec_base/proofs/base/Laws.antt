@@ -1,12 +1,12 @@
 -- Laws that every crate cites: `cond` at a known test, tests of what calls answered, shortened slices.
 use mathlib.Core.Path.{_≡_, refl, sym, ap, subst, _∙_}
-use mathlib.Core.Bool.{Bool, true, false, cond, _&&_, _||_, true≢false}
-use mathlib.Core.List.{List, [], _∷_}
-use Prim.Native.Nat.{ℕ, zero, suc, _+_, _*_, _-_, _≤_, _<_}
+use mathlib.Core.Bool.{Bool, true, false, cond, _&&_, _||_, true≢false, not}
+use mathlib.Core.List.{List}
+use Prim.Native.Nat.{ℕ, _-_, _≤_, _<_, zero, suc}
 use native.Mathlib.Omega.{arith}
-use borrow.Author.Tests.{lt-ltb, le-ltb, le-leb, lt-leb, eq-eqb, ne-eqb}
+use borrow.Author.Tests.{lt-ltb, le-ltb, le-leb, lt-leb, eq-eqb, ne-eqb, ltb-true, ltb-false}
 use lib.Dec.{eqb, ltb, leb}
-use lib.ListN.{length, drop, length-drop}
+use lib.ListN.{length, drop, length-drop, getD, replicate}
 
 -- ---- a `cond` whose test holds, and one whose test fails
 pub yes! : {A : Type 0} {t : Bool} {a r : A} (b : A) → t ≡ true → r ≡ a → r ≡ cond t a b
@@ -76,3 +76,34 @@ and-false false = refl
 pub and-true : (a : Bool) → (a && true) ≡ a
 and-true true = refl
 and-true false = refl
+
+pub and-assoc : (a b c : Bool) → ((a && b) && c) ≡ (a && (b && c))
+and-assoc true b c = refl
+and-assoc false b c = refl
+
+-- ---- `cond s true t` taken apart
+pub cond-left : (s t : Bool) → cond s true t ≡ false → s ≡ false
+cond-left true t e = absurd (true≢false e)
+cond-left false t e = refl
+
+pub cond-right : (s t : Bool) → cond s true t ≡ false → t ≡ false
+cond-right true t e = absurd (true≢false e)
+cond-right false t e = e
+
+-- ---- tests of numbers
+pub pos-of : (n : ℕ) → eqb n 0 ≡ false → 0 < n
+pos-of zero q = absurd (true≢false q)
+pos-of (suc n) q = omega arith
+
+pub leb-not : (a b : ℕ) → leb a b ≡ not (ltb b a)
+leb-not a b = go (ltb b a) refl
+  where
+    go : (t : Bool) → ltb b a ≡ t → leb a b ≡ not t
+    go true e = lt-leb a b (ltb-true b a e)
+    go false e = le-leb a b (ltb-false b a e)
+
+-- ---- an element of zeros
+pub zero-at : (n k : ℕ) → _≡_ {A = ℕ} (getD (replicate n 0) k 0) 0
+zero-at zero k = refl
+zero-at (suc n) zero = refl
+zero-at (suc n) (suc k) = zero-at n k

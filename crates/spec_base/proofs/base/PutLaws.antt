@@ -6,11 +6,12 @@ use mathlib.Core.Path.{_≡_, refl, sym, ap, _∙_}
 use mathlib.Core.List.{List, [], _∷_, _++_, append-assoc, append-nil}
 use Prim.Native.Nat.{ℕ, zero, suc, _+_, _-_, _≤_, _<_}
 use native.Mathlib.Omega.{arith}
-use native.Mathlib.Nat.{le-refl, le-of-eq, not-suc-le-zero, zero-add}
+use native.Mathlib.Nat.{le-of-eq, not-suc-le-zero, zero-add}
 use native.Mathlib.Numerals.{add-one}
 use lib.ListN.{length, take, drop, getD, set, length-append, length-drop, length-take, drop-of-length-le, take-append-drop}
-use lib.Seq.{sets, sets-eq, take-all, take-at, drop-at, take-suc, drop-drop, drop-cons, set-at, length-take-le, take-append-seam, drop-append-seam}
+use lib.Seq.{sets, sets-eq, take-all, take-suc, drop-drop, length-take-le, take-append-seam, drop-append-seam}
 use Rattle.spec_base.specs.base.Put.{put, putAt, placed, placedLength, placedAt, placeAfter}
+use Rattle.spec_base.proofs.base.PartLaws.{rest-length}
 
 pub put-nil : (l : List ℕ) → put [] l ≡ l
 unfolding put
@@ -40,9 +41,6 @@ put-two l a b h = rw (put-one l a (omega arith)) (put-snoc (a ∷ []) l b h)
 pub put-append : (w v l : List ℕ) → w ++ put v (drop (length w) l) ≡ put (w ++ v) l
 unfolding put
 put-append w v l = simp (append-assoc, length-append, drop-drop)
-
-pub length-tail : (a : ℕ) (xs : List ℕ) → length (take (length xs - a) (drop a xs)) ≡ length xs - a
-length-tail a xs = simp (length-take, length-drop) (omega arith)
 
 pub take-put : (w l : List ℕ) → take (length w) (put w l) ≡ w
 unfolding put
@@ -140,11 +138,11 @@ at-back a n v xs ys h en ey = go (leb (a + length v) (length xs)) refl
     go : (t : Bool) → leb (a + length v) (length xs) ≡ t → (a + n ≡ placeAfter a v xs) × (take a xs ++ (ys ++ drop (length xs - a) (drop a xs)) ≡ placedAt a v xs)
     go true e =
         let f : a + length v ≤ length xs = leb-true (a + length v) (length xs) e in
-        let r : length v ≤ length (take (length xs - a) (drop a xs)) = rw length-tail (omega arith) in
+        let r : length v ≤ length (take (length xs - a) (drop a xs)) = rw rest-length (omega arith) in
         (ap (λ (m : ℕ). a + m) (en ∙ length-yes v _ r) ∙ sym (after-yes a v xs f), tail-back a v xs ys (ey ∙ placed-yes v _ r) ∙ sym (at-yes a v xs f))
     go false e =
         let f : length xs < a + length v = leb-false (a + length v) (length xs) e in
-        let r : length (take (length xs - a) (drop a xs)) < length v = rw length-tail (omega arith) in
+        let r : length (take (length xs - a) (drop a xs)) < length v = rw rest-length (omega arith) in
         let b : ys ≡ put [] (take (length xs - a) (drop a xs)) = ey ∙ placed-no v _ r ∙ sym (put-nil _) in
         let z : n ≡ 0 = en ∙ length-no v _ r in
         (omega (arith, after-no a v xs f), tail-back a [] xs ys b ∙ putAt-nil a xs ∙ sym (at-no a v xs f))
@@ -221,3 +219,11 @@ numbers-stored l l₁ l₂ l₃ at a b q k o d h e₁ e₂ e₃ =
     let r₃ = then-placed (at + 4) _ (take at l ++ (a ∷ b ∷ []) ++ (q ∷ k ∷ [])) (o ∷ d ∷ []) l l₂ l₃ (r₂ .0) (sym n₂) (omega arith) refl e₃ in
     let g : take at l ++ (a ∷ b ∷ []) ++ (q ∷ k ∷ []) ++ (o ∷ d ∷ []) ≡ take at l ++ (a ∷ b ∷ q ∷ k ∷ o ∷ d ∷ []) = simp append-assoc in
     r₃ .0 ∙ ap (λ (v : List ℕ). put v l) g ∙ sym (put-at-front (a ∷ b ∷ q ∷ k ∷ o ∷ d ∷ []) l at (omega arith))
+
+pub placed-length : (p : ℕ) (v l : List ℕ) → length (placedAt p v l) ≡ length l
+unfolding placedAt putAt put
+placed-length p v l = go (leb (p + length v) (length l)) refl
+  where
+    go : (t : Bool) → leb (p + length v) (length l) ≡ t → length (cond t (take p l ++ (v ++ drop (length v) (drop p l))) l) ≡ length l
+    go true e = let h : p + length v ≤ length l = leb-true (p + length v) (length l) e in simp (length-append, length-take, length-drop) (omega arith)
+    go false e = refl

@@ -1,7 +1,7 @@
 -- The byte order mark by rows: EF BB BF is one and is taken off, EF BB BE is none.
 use mathlib.Core.Path.{_≡_, refl}
 use mathlib.Core.Bool.{true, false}
-use mathlib.Core.List.{List, [], _∷_}
+use mathlib.Core.List.{[], _∷_}
 use Rattle.spec_text.specs.pattern.Find.{starts}
 use Rattle.spec_caption.specs.caption_fate.Bom.{startsBom, behindBom}
 

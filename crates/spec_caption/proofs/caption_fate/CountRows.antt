@@ -2,7 +2,7 @@
 use mathlib.Core.Bool.{Bool, true, false}
 use mathlib.Core.List.{List, [], _∷_, map}
 use mathlib.Core.Path.{_≡_, refl}
-use Rattle.spec_caption.specs.caption_fate.Cases.{Adds, countedAdds}
+use Rattle.spec_caption.specs.caption_fate.Cases.{countedAdds}
 use Rattle.spec_caption.specs.caption_fate.Emit.{Caption, none, decided}
 use Rattle.spec_caption.specs.caption_fate.Fates.{passed, dropped, shifted, clipped}
 use Rattle.spec_caption.specs.caption_fate.Told.{countedOf}

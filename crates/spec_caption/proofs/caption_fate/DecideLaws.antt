@@ -1,15 +1,14 @@
 -- Laws of the cut, the shift and the decision.
 use mathlib.Core.Path.{_≡_, refl, sym, ap, subst, _∙_}
-use mathlib.Core.Bool.{Bool, true, false, cond, _&&_, true≢false}
+use mathlib.Core.Bool.{Bool, true, false, cond, _&&_}
 use mathlib.Core.List.{List, [], _∷_}
-use Prim.Native.Nat.{ℕ, suc, _+_, _*_, _-_, _≤_, _<_, min, max}
+use Prim.Native.Nat.{ℕ, suc, _+_, _-_, _≤_, _<_, min, max}
 use native.Mathlib.Omega.{arith}
 use lib.Dec.{ltb}
-use lib.ListN.{drop}
 use Rattle.spec_base.specs.base.Limits.{mostTicks}
-use Rattle.spec_caption.specs.caption_time.Convert.{ticksWithin, startWithin, endWithin}
+use Rattle.spec_time.specs.caption_time.Convert.{ticksWithin, startWithin, endWithin}
 use Rattle.spec_map.specs.declared.segment.Segment.{Segment}
-use Rattle.spec_map.specs.segment.Segment.{sourceOf, outputStartOf, endBad, segmentsOf}
+use Rattle.spec_map.specs.segment.Segment.{endBad}
 use Rattle.spec_map.proofs.segment.SegmentLaws.{end-good}
 use Rattle.spec_caption.specs.declared.caption_fate.Config.{Config}
 use Rattle.spec_caption.specs.declared.caption_fate.Met.{Met}
@@ -20,14 +19,8 @@ use Rattle.spec_caption.specs.declared.caption_fate.Decision.{Decision}
 use Rattle.spec_caption.specs.declared.caption_fate.Decision.the-variants.{Strange, Dropped, Kept}
 use Rattle.spec_caption.specs.caption_fate.Hit.{meetsParts, meets, Found, miss, hit, findFrom, findHit, metOf, hitOf}
 use Rattle.spec_caption.specs.caption_fate.Lost.{lostRule}
-use Rattle.spec_caption.specs.caption_fate.Decide.{moved, retimedBy, limitedHit, decideIn}
+use Rattle.spec_caption.specs.caption_fate.Decide.{retimedBy, limitedHit, decideIn}
 use Rattle.spec_caption.proofs.caption_fate.HitLaws.{meets-long, meets-later, meets-sooner, behindOf}
-
-pub part-yes : (t r : Bool) (m u : List ℕ) (k a b : ℕ) → t ≡ true → u ≡ drop (6 * k + 6) m → r ≡ lostRule (segmentsOf u) a b → r ≡ (t && lostRule (segmentsOf (drop (6 * k + 6) m)) a b)
-part-yes t r m u k a b p eu e = rw p (e ∙ ap (λ (x : List ℕ). lostRule (segmentsOf x) a b) eu)
-
-pub part-no : (t : Bool) (m : List ℕ) (k a b : ℕ) → t ≡ false → false ≡ (t && lostRule (segmentsOf (drop (6 * k + 6) m)) a b)
-part-no t m k a b p = rw p
 
 -- ---- what a met segment within the limits gives
 pub record Fits (q o d a b : ℕ) : Type 0 where

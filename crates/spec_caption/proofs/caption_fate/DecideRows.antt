@@ -5,8 +5,8 @@ use mathlib.Core.List.{List, [], _∷_}
 use Prim.Native.Nat.{ℕ}
 use Rattle.spec_map.specs.declared.segment.Segment.{Segment}
 use Rattle.spec_map.specs.segment.Segment.{segment}
-use Rattle.spec_caption.specs.caption_time.Kind.{unitsOf}
-use Rattle.spec_caption.specs.caption_time.Convert.{scaledUp, ticksOf, startUnits, endUnits}
+use Rattle.spec_time.specs.caption_time.Kind.{unitsOf}
+use Rattle.spec_time.specs.caption_time.Convert.{scaledUp, ticksOf, startUnits, endUnits}
 use Rattle.spec_caption.specs.declared.caption_fate.Decision.{Decision}
 use Rattle.spec_caption.specs.declared.caption_fate.Decision.the-variants.{Dropped, Kept}
 use Rattle.spec_caption.specs.caption_fate.Hit.{meetsParts, findFrom}

@@ -2,7 +2,6 @@
 use mathlib.Core.Path.{_≡_, refl}
 use mathlib.Core.Bool.{Bool, true, false}
 use mathlib.Core.List.{List, [], _∷_}
-use Prim.Native.Nat.{ℕ}
 use Rattle.spec_caption.specs.caption_fate.Says.{cueOf}
 use Rattle.spec_caption.specs.caption_fate.Emit.{Warning, warning, keptEmit, placesOf}
 

@@ -2,22 +2,20 @@
 use mathlib.Core.Path.{_≡_, refl, sym, ap, ap₂, subst, _∙_}
 use mathlib.Core.Logic.{_⊎_, inl, inr}
 use mathlib.Core.Bool.{Bool, true, false, _||_, cond, true≢false}
-use mathlib.Core.List.{List, [], _∷_, _++_, List·Memᴰ, List·Memᴰ·not-nil, List·Memᴰ·cases-cons}
-use Prim.Native.Nat.{ℕ, zero, suc, _+_, _-_, _≤_, _<_, min, max}
+use mathlib.Core.List.{List, [], _∷_, List·Memᴰ, List·Memᴰ·not-nil, List·Memᴰ·cases-cons}
+use Prim.Native.Nat.{ℕ, suc, _+_, _≤_, _<_, min, max}
 use native.Mathlib.Omega.{arith}
 use lib.Dec.{ltb}
-use borrow.Author.Tests.{ltb-true, ltb-false, lt-ltb}
-use Rattle.spec_caption.specs.caption_time.Kind.{unitsOf}
-use Rattle.spec_caption.specs.caption_time.Convert.{ticksOf, startUnits, endUnits}
-use Rattle.spec_caption.specs.caption_time.Near.{NearStart, NearEnd}
-use Rattle.spec_caption.proofs.caption_time.Drift.{near-start, near-end}
+use borrow.Author.Tests.{lt-ltb}
+use Rattle.spec_time.specs.caption_time.Kind.{unitsOf}
+use Rattle.spec_time.specs.caption_time.Convert.{ticksOf, startUnits, endUnits}
+use Rattle.spec_time.proofs.caption_time.Drift.{near-start, near-end}
 use Rattle.spec_map.specs.declared.segment.Segment.{Segment}
 use Rattle.spec_map.specs.segment.Segment.{sourceOf, outputStartOf, sourceEnd}
 use Rattle.spec_caption.specs.declared.caption_fate.Config.{Config}
-use Rattle.spec_caption.specs.declared.caption_fate.Retimed.{Retimed}
-use Rattle.spec_caption.specs.caption_fate.Hit.{meetsParts, meets, Found, miss, hit, findFrom, findHit, metOf}
-use Rattle.spec_caption.specs.caption_fate.Decide.{moved, retimedAt, decideHit, decideTicks, decideOf}
-use Rattle.spec_caption.specs.caption_fate.Fates.{Fate, passed, dropped, shifted, clipped, fateFor, fateBy, fateOf, Meets, NoneMeets, FirstMet, movedBy, IsKept, Right}
+use Rattle.spec_caption.specs.caption_fate.Hit.{meetsParts, meets, Found, miss, hit, findFrom, findHit}
+use Rattle.spec_caption.specs.caption_fate.Decide.{moved, decideHit, decideTicks, decideOf}
+use Rattle.spec_caption.specs.caption_fate.Fates.{shifted, clipped, fateBy, fateOf, Meets, NoneMeets, FirstMet, movedBy, IsKept, Right}
 use Rattle.spec_caption.proofs.caption_fate.HitLaws.{meets-long, meets-later, meets-sooner}
 
 -- ---- the test and the plain words
@@ -29,14 +27,14 @@ met x a b e =
       sooner = meets-sooner (sourceOf x) (x .duration) a b e;
     }
 
-meets-true : (x : Segment) (a b : ℕ) → Meets x a b → meets x a b ≡ true
+pub meets-true : (x : Segment) (a b : ℕ) → Meets x a b → meets x a b ≡ true
 unfolding meetsParts
 meets-true x a b k = rw (lt-ltb 0 (x .duration) (k .long), lt-ltb a (sourceEnd x) (k .later), lt-ltb (sourceOf x) b (k .sooner))
 
 not-met : (x : Segment) (a b : ℕ) → meets x a b ≡ false → Meets x a b → ⊥
 not-met x a b e k = true≢false (sym (meets-true x a b k) ∙ e)
 
-none-more : (x : Segment) (xs : List Segment) (a b : ℕ) → meets x a b ≡ false → NoneMeets xs a b → NoneMeets (x ∷ xs) a b
+pub none-more : (x : Segment) (xs : List Segment) (a b : ℕ) → meets x a b ≡ false → NoneMeets xs a b → NoneMeets (x ∷ xs) a b
 none-more x xs a b e none y i k = go (List·Memᴰ·cases-cons i)
   where
     go : (y ≡ x) ⊎ List·Memᴰ y xs → ⊥

@@ -1,23 +1,20 @@
 -- Within the limits the code's decision is document 01's: no conversion is past its limits, and no segment is strange.
-use mathlib.Core.Path.{_≡_, refl, sym, ap, ap₂, subst, _∙_}
+use mathlib.Core.Path.{_≡_, refl, ap, _∙_}
 use mathlib.Core.Bool.{Bool, true, false, cond, true≢false}
 use mathlib.Core.List.{List, [], _∷_}
-use Prim.Native.Nat.{ℕ, suc, _+_, _-_, _*_, _%_, _≤_, _<_, min, max}
+use Prim.Native.Nat.{ℕ, suc, _+_, _≤_, min, max}
 use native.Mathlib.Omega.{arith}
-use borrow.Author.Tests.{ltb-false}
 use lib.Dec.{ltb}
-use Rattle.spec_base.specs.base.Limits.{mostTimescale, mostTicks, mostSegments, mostFrame}
-use Rattle.spec_caption.specs.caption_time.Kind.{kindBad, unitsOf}
-use Rattle.spec_caption.specs.caption_time.Convert.{ticksOf, startUnits, endUnits, timescaleBad, ticksWithin, startWithin, endWithin, coreTimescale, coreUnits, coreTicks}
-use Rattle.spec_caption.proofs.caption_time.Limits.{Within, ticks-within, start-within, end-within, timescale-low, timescale-high}
+use Rattle.spec_base.specs.base.Limits.{mostFrame}
+use Rattle.spec_time.specs.caption_time.Kind.{kindBad, unitsOf}
+use Rattle.spec_time.specs.caption_time.Convert.{ticksOf, timescaleBad, ticksWithin, startWithin, endWithin, coreTimescale, coreUnits, coreTicks}
+use Rattle.spec_time.proofs.caption_time.Limits.{Within, ticks-within, start-within, end-within, timescale-low, timescale-high}
 use Rattle.spec_map.specs.declared.segment.Segment.{Segment}
-use Rattle.spec_map.specs.segment.Segment.{sourceOf, outputStartOf, sourceEnd, segmentsOf, endBad, segmentBad, anyBad, mapBad}
+use Rattle.spec_map.specs.segment.Segment.{sourceOf, outputStartOf, segmentsOf, endBad, segmentBad, anyBad, mapBad}
 use Rattle.spec_caption.specs.declared.caption_fate.Config.{Config}
 use Rattle.spec_caption.specs.declared.caption_fate.Met.{Met}
-use Rattle.spec_caption.specs.declared.caption_fate.Retimed.{Retimed}
-use Rattle.spec_caption.specs.declared.caption_fate.Decision.{Decision}
-use Rattle.spec_caption.specs.declared.caption_fate.Decision.the-variants.{Strange, Dropped, Kept}
-use Rattle.spec_caption.specs.caption_fate.Hit.{meetsParts, meets, Found, miss, hit, findFrom, findHit, metOf}
+use Rattle.spec_caption.specs.declared.caption_fate.Decision.the-variants.{Kept}
+use Rattle.spec_caption.specs.caption_fate.Hit.{meets, Found, miss, hit, findFrom, findHit, metOf}
 use Rattle.spec_caption.specs.caption_fate.Lost.{lostRule}
 use Rattle.spec_caption.specs.caption_fate.Decide.{moved, retimedBy, retimedAt, decideHit, decideTicks, decideOf, limitedHit, decideIn}
 use Rattle.spec_caption.specs.caption_fate.Says.{Cue, cue}

@@ -1,12 +1,9 @@
 -- Segments with the bounds of their groups, by computation: each bound from both sides, the group of a place, and groups that a search passes over.
 use mathlib.Core.Path.{_≡_, refl}
-use mathlib.Core.Bool.{Bool, true, false, _&&_, cond}
-use mathlib.Core.List.{List, [], _∷_, map}
-use Prim.Native.Nat.{ℕ}
-use lib.ListN.{replicate}
-use Rattle.spec_map.specs.declared.segment.Segment.{Segment}
+use mathlib.Core.Bool.{true, false}
+use mathlib.Core.List.{[], _∷_}
 use Rattle.spec_map.specs.segment.Segment.{segment}
-use Rattle.spec_caption.specs.caption_fate.Grouped.{lowAt, highAt, withinParts, bounded, boundedFrom, boundedBy, passable, passedAt}
+use Rattle.spec_caption.specs.caption_fate.Grouped.{lowAt, highAt, withinParts, boundedFrom, boundedBy, passable, passedAt}
 
 -- from 10 to 20: all of it, one tick before, one tick behind, nothing at its end
 pub within-rows : withinParts 10 10 10 20 ∷ withinParts 9 10 10 20 ∷ withinParts 10 11 10 20 ∷ withinParts 20 0 10 20 ∷ withinParts 21 0 10 20 ∷ [] ≡ true ∷ false ∷ false ∷ true ∷ false ∷ []

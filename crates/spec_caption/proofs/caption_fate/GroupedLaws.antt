@@ -1,18 +1,18 @@
 -- Laws of segments with the bounds of their groups.
-use mathlib.Core.Path.{_≡_, refl, sym, ap, subst, _∙_}
-use mathlib.Core.Bool.{Bool, true, false, not, cond, _&&_, true≢false}
+use mathlib.Core.Path.{_≡_, refl, sym, ap, _∙_}
+use mathlib.Core.Bool.{Bool, true, false, cond, _&&_, true≢false}
 use mathlib.Core.List.{List, [], _∷_, _++_}
 use Prim.Native.Nat.{ℕ, zero, suc, _+_, _*_, _-_, _/_, _%_, _^_, _≤_, _<_, min, max}
 use native.Mathlib.Omega.{arith}
 use native.Mathlib.Numerals.{add-one}
-use borrow.Author.Tests.{lt-ltb, le-ltb, ltb-true, ltb-false, leb-true, leb-false, le-leb, lt-leb, ne-eqb, eq-eqb, eqb-true}
+use borrow.Author.Tests.{le-ltb, ltb-false, leb-true, leb-false, le-leb, lt-leb, ne-eqb, eq-eqb, eqb-true}
 use lib.Dec.{ltb, leb, eqb}
 use lib.ListN.{length, take, drop, getD, length-drop}
 use lib.Seq.{drop-drop, getD-drop, length-take-le}
 use Rattle.spec_base.proofs.base.Laws.{and-left, and-right, and-false, and-true}
 use Rattle.spec_base.specs.base.Limits.{mostFrame, mostTicks, mostSegments}
 use Rattle.spec_map.specs.declared.segment.Segment.{Segment}
-use Rattle.spec_map.specs.segment.Segment.{sourceOf, segment, segmentsOf, endBad, segmentBad, anyBad, mapBad}
+use Rattle.spec_map.specs.segment.Segment.{sourceOf, segmentsOf, endBad, segmentBad, anyBad, mapBad}
 use Rattle.spec_map.specs.segment.Groups.{lowOf, highOf, groupsBy, groupCount, groupsOf}
 use Rattle.spec_map.proofs.segment.SegmentLaws.{segments-cut, segments-short, any-good}
 use Rattle.spec_map.proofs.segment.GroupLaws.{segments-split, front-few}
@@ -21,11 +21,11 @@ use Rattle.spec_caption.specs.declared.caption_fate.Hit.{Hit}
 use Rattle.spec_caption.specs.declared.caption_fate.Hit.the-variants.{Miss, At}
 use Rattle.spec_caption.specs.caption_fate.Hit.{meetsParts, meets, Found, miss, hit, findFrom, findHit, metOf, hitOf, metAt}
 use Rattle.spec_caption.specs.caption_fate.Grouped.{lowAt, highAt, withinParts, emptied, bounded, boundedFrom, boundedBy, segmentsBy, passable, passedAt}
-use Rattle.spec_caption.specs.caption_fate.Lost.{lostLater, lostRule}
+use Rattle.spec_caption.specs.caption_fate.Lost.{lostRule}
 use Rattle.spec_caption.specs.declared.caption_fate.Config.{Config}
 use Rattle.spec_caption.specs.declared.caption_fate.Retimed.{Retimed}
 use Rattle.spec_caption.specs.declared.caption_fate.Decision.the-variants.{Kept}
-use Rattle.spec_caption.specs.caption_time.Convert.{ticksWithin, startWithin, endWithin}
+use Rattle.spec_time.specs.caption_time.Convert.{ticksWithin, startWithin, endWithin}
 use Rattle.spec_caption.specs.caption_fate.Decide.{retimedBy, decideIn}
 use Rattle.spec_caption.proofs.caption_fate.DecideLaws.{decide-kept}
 use Rattle.spec_caption.proofs.caption_fate.HitLaws.{headOf, met-is, isHit, lost-found, no-hit, behindOf}
@@ -152,9 +152,6 @@ pub seeking-start : (m g t : List ℕ) (from a b : ℕ) → 6 * from ≤ length 
 seeking-start m g t from a b h e =
     let l : length t ≡ length m - 6 * from = ap length e ∙ length-drop (6 * from) m in
     record { same = ap (λ (x : List ℕ). findFrom from (boundedFrom g from (segmentsOf x)) a b) e; place = omega (arith, l); inside = λ z. omega (arith, l) }
-
-pub seeking-add : (m g t : List ℕ) (from a b i : ℕ) → Seeking m g from a b i t → 6 ≤ length t → 6 * i + 6 ≤ length m
-seeking-add m g t from a b i s h = omega (arith, s .inside (omega arith))
 
 pub seeking-group : (m g t u : List ℕ) (from a b i : ℕ) (x : Bool) → Seeking m g from a b i t → 6 ≤ length t → x ≡ passedAt g i a b → x ≡ true → u ≡ drop 96 t → Seeking m g from a b (i + 16) u
 unfolding passedAt

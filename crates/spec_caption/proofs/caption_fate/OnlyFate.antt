@@ -4,7 +4,7 @@ use mathlib.Core.Bool.{Bool, true, false, _||_, true≢false}
 use mathlib.Core.List.{List, [], _∷_, _++_, List·Memᴰ, List·Memᴰ·head, List·Memᴰ·tail}
 use Prim.Native.Nat.{ℕ, min, max}
 use lib.Dec.{ltb}
-use Rattle.spec_caption.specs.caption_time.Convert.{ticksOf, startUnits, endUnits}
+use Rattle.spec_time.specs.caption_time.Convert.{ticksOf, startUnits, endUnits}
 use Rattle.spec_map.specs.declared.segment.Segment.{Segment}
 use Rattle.spec_map.specs.segment.Segment.{sourceOf, sourceEnd}
 use Rattle.spec_caption.specs.caption_fate.Fates.{Fate, passed, dropped, shifted, clipped, Meets, NoneMeets, FirstMet, movedBy, IsKept, Right}

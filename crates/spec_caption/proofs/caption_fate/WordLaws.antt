@@ -1,14 +1,11 @@
 -- The times that a decision writes are words, at every input.
-use mathlib.Core.Path.{_≡_, refl}
 use mathlib.Core.Bool.{Bool, true, false, cond}
 use mathlib.Core.List.{List}
 use Prim.Native.Nat.{ℕ, _*_, _≤_, _<_, _^_}
 use native.Mathlib.Omega.{arith}
 use native.Mathlib.Nat.{le-refl, mul-le-mul}
-use Rattle.spec_caption.specs.caption_time.Kind.{unitsOf}
-use Rattle.spec_caption.specs.caption_time.Convert.{startUnits, endUnits, coreTicks, coreHolds, startWithin, endWithin}
-use Rattle.spec_caption.proofs.caption_time.Conversions.{start-low, end-start}
-use Rattle.spec_caption.proofs.caption_time.Limits.{core-within, units-high}
+use Rattle.spec_time.specs.caption_time.Convert.{coreTicks, startWithin, endWithin}
+use Rattle.spec_time.proofs.caption_time.Limits.{start-word, end-word}
 use Rattle.spec_map.specs.declared.segment.Segment.{Segment}
 use Rattle.spec_map.specs.segment.Segment.{sourceOf, outputStartOf, endBad}
 use Rattle.spec_caption.specs.declared.caption_fate.Config.{Config}
@@ -28,29 +25,6 @@ scaled-below x T ticks U h t k u =
     let a : x * 1 ≤ x * T = mul-le-mul (le-refl x) t in
     let b : ticks * U ≤ coreTicks * 1000 = mul-le-mul k u in
     omega arith
-
-module _ (kind T ticks : ℕ) where
-  start-of : (b : Bool) → coreHolds kind T ticks coreTicks ≡ b → cond b (startUnits T (unitsOf kind) ticks) 0 < 2 ^ 63
-  start-of true e =
-      let w = core-within kind T ticks coreTicks e in
-      scaled-below _ T ticks (unitsOf kind) (start-low T (unitsOf kind) ticks) (w .T-low) (w .value-most) (units-high kind (w .kind-known))
-  start-of false e = omega arith
-
-  start-word : startWithin kind T ticks < 2 ^ 64
-  unfolding startWithin
-  start-word = omega (arith, start-of (coreHolds kind T ticks coreTicks) refl)
-
-  end-of : (b : Bool) → coreHolds kind T ticks coreTicks ≡ b → cond b (endUnits T (unitsOf kind) ticks) 0 < 2 ^ 64
-  end-of true e =
-      let w = core-within kind T ticks coreTicks e in
-      let s : startUnits T (unitsOf kind) ticks < 2 ^ 63 =
-      scaled-below _ T ticks (unitsOf kind) (start-low T (unitsOf kind) ticks) (w .T-low) (w .value-most) (units-high kind (w .kind-known)) in
-      omega (arith, end-start T (unitsOf kind) ticks (w .T-low))
-  end-of false e = omega arith
-
-  end-word : endWithin kind T ticks < 2 ^ 64
-  unfolding endWithin
-  end-word = end-of (coreHolds kind T ticks coreTicks) refl
 
 tested-words : (s t : Bool) (d : Decision) → Words d → Words (cond s Strange (cond t Strange d))
 tested-words true t d w = tt

@@ -1,13 +1,13 @@
 -- What becomes of a caption whose times are read (the Rust's map_event): cut to the segment that it meets first, and moved.
 -- S and E are the times read, in units of 1/U second; T is ticks a second.
-use mathlib.Core.Bool.{Bool, true, false, _&&_, cond}
-use mathlib.Core.List.{List, [], _∷_}
+use mathlib.Core.Bool.{Bool, _&&_, cond}
+use mathlib.Core.List.{List}
 use Prim.Native.Nat.{ℕ, _+_, _-_, min, max}
 use lib.Dec.{ltb}
-use Rattle.spec_caption.specs.caption_time.Kind.{unitsOf}
-use Rattle.spec_caption.specs.caption_time.Convert.{ticksOf, startUnits, endUnits, ticksWithin, startWithin, endWithin}
+use Rattle.spec_time.specs.caption_time.Kind.{unitsOf}
+use Rattle.spec_time.specs.caption_time.Convert.{ticksOf, startUnits, endUnits, ticksWithin, startWithin, endWithin}
 use Rattle.spec_map.specs.declared.segment.Segment.{Segment}
-use Rattle.spec_map.specs.segment.Segment.{sourceOf, outputStartOf, sourceEnd, endBad}
+use Rattle.spec_map.specs.segment.Segment.{sourceOf, outputStartOf, endBad}
 use Rattle.spec_caption.specs.declared.caption_fate.Config.{Config}
 use Rattle.spec_caption.specs.declared.caption_fate.Met.{Met}
 use Rattle.spec_caption.specs.declared.caption_fate.Retimed.{Retimed}

@@ -2,7 +2,7 @@
 use mathlib.Core.Bool.{Bool, true, false, _&&_}
 use mathlib.Core.List.{List, [], _∷_, _++_}
 use Prim.Native.Nat.{ℕ}
-use Rattle.spec_caption.specs.caption_stamp.Write.{timeText}
+use Rattle.spec_time.specs.caption_stamp.Write.{timeText}
 use Rattle.spec_map.specs.declared.segment.Segment.{Segment}
 use Rattle.spec_caption.specs.declared.caption_fate.Config.{Config}
 use Rattle.spec_caption.specs.declared.caption_fate.Retimed.{Retimed}

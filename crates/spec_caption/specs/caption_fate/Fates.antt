@@ -1,11 +1,11 @@
 -- The fate of a caption whose times are read, and what is right for it in plain words: the first segment that it meets, the cut, the shift.
 use mathlib.Core.Path.{_≡_}
 use mathlib.Core.Bool.{Bool, true, false, _||_, cond}
-use mathlib.Core.List.{List, [], _∷_, _++_, List·Memᴰ}
+use mathlib.Core.List.{List, _∷_, _++_, List·Memᴰ}
 use Prim.Native.Nat.{ℕ, _+_, _-_, _≤_, _<_, min, max}
 use lib.Dec.{ltb}
-use Rattle.spec_caption.specs.caption_time.Convert.{ticksOf, startUnits, endUnits}
-use Rattle.spec_caption.specs.caption_time.Near.{NearStart, NearEnd}
+use Rattle.spec_time.specs.caption_time.Convert.{ticksOf, startUnits, endUnits}
+use Rattle.spec_time.specs.caption_time.Near.{NearStart, NearEnd}
 use Rattle.spec_map.specs.declared.segment.Segment.{Segment}
 use Rattle.spec_map.specs.segment.Segment.{sourceOf, outputStartOf, sourceEnd}
 use Rattle.spec_caption.specs.declared.caption_fate.Config.{Config}

@@ -2,8 +2,8 @@
 use mathlib.Core.Bool.{Bool}
 use mathlib.Core.List.{List, [], _∷_}
 use Prim.Native.Nat.{ℕ, suc}
-use Rattle.spec_caption.specs.declared.caption_stamp.Time.the-variants.{Bad}
-use Rattle.spec_caption.specs.caption_stamp.Read.{timeNumber}
+use Rattle.spec_time.specs.declared.caption_stamp.Time.the-variants.{Bad}
+use Rattle.spec_time.specs.caption_stamp.Read.{timeNumber}
 
 -- the bytes around a caption's two times: pieces that stay, and the places of the start and of the end
 pub data Piece : Type 0 where

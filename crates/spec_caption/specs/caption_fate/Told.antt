@@ -1,7 +1,6 @@
 -- What a line (in SRT and WebVTT a block) tells: its number, how it is counted, and what it writes. The answer's equations are these at every input.
 use mathlib.Core.Path.{_≡_}
-use mathlib.Core.Bool.{Bool, true, false, cond}
-use mathlib.Core.List.{List, [], _∷_}
+use mathlib.Core.List.{List, []}
 use Prim.Native.Nat.{ℕ}
 use lib.ListN.{length}
 use Rattle.spec_base.specs.base.Put.{put}
@@ -14,8 +13,8 @@ use Rattle.spec_caption.specs.declared.caption_fate.Decision.{Decision}
 use Rattle.spec_caption.specs.declared.caption_fate.Decision.the-variants.{Strange, Dropped as Gone, Kept}
 use Rattle.spec_caption.specs.caption_fate.Cases.{decisionCase}
 use Rattle.spec_caption.specs.caption_fate.Decide.{decideIn}
-use Rattle.spec_caption.specs.caption_fate.Fates.{Fate, passed, dropped, shifted, clipped}
-use Rattle.spec_caption.specs.caption_fate.Says.{Fault, faultNumber, Cue, Part, stays, passes, cue}
+use Rattle.spec_caption.specs.caption_fate.Fates.{passed, dropped, shifted, clipped}
+use Rattle.spec_caption.specs.caption_fate.Says.{Cue, Part, stays, passes, cue}
 use Rattle.spec_caption.specs.caption_fate.Emit.{Caption, none, decided, Emit, emit, cueEmit, emitBy, placesOf}
 
 -- how a caption is counted

@@ -1,6 +1,6 @@
 -- A caption line that was written, read again by the same columns, says the same cue with the new times. A start and an end have at most 9,999 hours.
 use mathlib.Core.Path.{_≡_, refl, sym, ap, subst, _∙_}
-use mathlib.Core.Bool.{Bool, true, false, cond, true≢false}
+use mathlib.Core.Bool.{Bool, true, false, cond}
 use mathlib.Core.List.{List, [], _∷_, _++_, append-assoc, append-nil}
 use Prim.Native.Nat.{ℕ, zero, suc, _+_, _*_, _-_, _/_, _%_, _≤_, _<_}
 use native.Mathlib.Omega.{arith}
@@ -12,29 +12,30 @@ use Rattle.spec_text.specs.pattern.Find.{starts, equals}
 use Rattle.spec_text.specs.text.Line.{textOf, terminatorOf}
 use Rattle.spec_text.proofs.whitespace.Laws.{white-ascii, head-none}
 use Rattle.spec_text.proofs.text.LineEnds.{lastOf, last-append, last-some, Ended, ended-swap, text-again, terminator-again, line-ended}
-use Rattle.spec_caption.specs.declared.caption_stamp.Time.{Time}
-use Rattle.spec_caption.specs.declared.caption_stamp.Time.the-variants.{At, Bad}
-use Rattle.spec_caption.specs.caption_time.Kind.{kindBad, unitsOf, markOf, fractionDigits, hourDigits}
-use Rattle.spec_caption.specs.caption_stamp.Read.{markIn, timeIn}
-use Rattle.spec_caption.specs.caption_stamp.Write.{pad, widest, textWith, timeText}
+use Rattle.spec_time.specs.declared.caption_stamp.Time.{Time}
+use Rattle.spec_time.specs.declared.caption_stamp.Time.the-variants.{At, Bad}
+use Rattle.spec_time.specs.caption_time.Kind.{kindBad, unitsOf, markOf, fractionDigits, hourDigits}
+use Rattle.spec_time.specs.caption_stamp.Read.{markIn, timeIn}
+use Rattle.spec_time.specs.caption_stamp.Write.{pad, widest, textWith, timeText}
 use Rattle.spec_text.proofs.pattern.Free.{Free, none-free}
-use Rattle.spec_caption.proofs.caption_stamp.Reading.{time-long, time-mark}
-use Rattle.spec_caption.proofs.caption_stamp.ReadFree.{read-free}
-use Rattle.spec_caption.proofs.caption_stamp.Written.{text-some}
-use Rattle.spec_caption.proofs.caption_stamp.RoundTrip.{ass-back, text-free}
+use Rattle.spec_time.proofs.caption_stamp.Reading.{time-long, time-mark}
+use Rattle.spec_time.proofs.caption_stamp.ReadFree.{read-free}
+use Rattle.spec_time.proofs.caption_stamp.Written.{text-some}
+use Rattle.spec_time.proofs.caption_stamp.RoundTrip.{ass-back, text-free}
 use Rattle.spec_caption.specs.caption_fate.Says.{Piece, bytes, start, stop, unplaced, short, Cue, withTimes, stays, passes, cue}
 use Rattle.spec_caption.specs.caption_fate.Emit.{render}
-use Rattle.spec_format.specs.declared.ass_columns.Columns.{Columns}
-use Rattle.spec_format.specs.ass_columns.Columns.{columnsIn, fields, fieldAt}
-use Rattle.spec_format.specs.ass_columns.Section.{eventsName, bracketed, inside, inSection}
-use Rattle.spec_format.specs.ass_write.Tags.{tags, holdsAny, tagged}
-use Rattle.spec_format.specs.ass_write.Frame.{fieldPieces, lineFrame}
-use Rattle.spec_format.proofs.ass_columns.ColumnLaws.{Apart, format-apart}
-use Rattle.spec_format.proofs.ass_columns.FieldLaws.{at-none, fields-most}
-use Rattle.spec_format.proofs.ass_write.FieldBack.{newField, newFields, new-length, new-start, new-end, new-at, new-pieces, written, fields-back, last-back}
-use Rattle.spec_format.specs.ass_line.Line.{formatWord, dialogueWord, commentWord, LineSays, faulty, says, lineCue, timesSay, captionSays, wordSays, textSays, lineSays}
-use Rattle.spec_format.specs.ass_line.AssThrough.{columnsAfter}
-use Rattle.spec_format.proofs.ass_line.SayLaws.{caption-times, caption-columns}
+use Rattle.spec_ass.specs.declared.ass_columns.Columns.{Columns}
+use Rattle.spec_ass.specs.ass_columns.Columns.{columnsIn, fields, fieldAt}
+use Rattle.spec_ass.specs.ass_columns.Section.{eventsName, bracketed, inside, inSection}
+use Rattle.spec_ass.specs.ass_write.Tags.{holdsAny, tagged}
+use Rattle.spec_ass.specs.ass_write.Frame.{fieldPieces, lineFrame}
+use Rattle.spec_ass.proofs.ass_columns.ColumnLaws.{Apart, format-apart}
+use Rattle.spec_ass.proofs.ass_columns.FieldLaws.{at-none, fields-most}
+use Rattle.spec_ass.proofs.ass_write.FieldBack.{newField, newFields, new-length, new-start, new-end, new-at, new-pieces, written, fields-back, last-back}
+use Rattle.spec_ass.specs.ass_line.Line.{formatWord, dialogueWord, commentWord, LineSays, faulty, says, lineCue, timesSay, captionSays, wordSays, textSays, lineSays}
+use Rattle.spec_ass.specs.ass_line.AssThrough.{columnsAfter}
+use Rattle.spec_ass.proofs.ass_line.SayLaws.{caption-times, caption-columns}
+use Rattle.spec_text.proofs.pattern.PieceLaws.{starts-cut}
 
 -- ---- a written time: no comma, no `\`, and a digit at its end
 ass-known : kindBad 0 ≡ false
@@ -59,10 +60,6 @@ with-last U least mark units =
 text-last : (units : ℕ) → 44 ≤ lastOf (timeText 0 46 units)
 unfolding fractionDigits
 text-last units = rw (text-some 0 46 units ass-known) (with-last (unitsOf 0) (hourDigits 0) 46 units)
-
-text-back : (units : ℕ) → units < 36000000 * unitsOf 0 → timeIn 0 (timeText 0 46 units) ≡ At units 46
-unfolding markOf
-text-back units h = ass-back units h
 
 -- ---- tags: each begins with `\`
 untagged : (s : List ℕ) → Free 92 s → tagged s ≡ false
@@ -121,17 +118,6 @@ dialogue = record { says-caption = dialogue-says; no-name = λ r. no-section 68 
 
 comment : Word commentWord
 comment = record { says-caption = comment-says; no-name = λ r. no-section 67 _ (omega arith) letter-c (λ e. omega arith); last-colon = refl }
-
--- a text that begins with a word
-pub word-parts : (p s : List ℕ) → starts p s ≡ true → s ≡ p ++ drop (length p) s
-unfolding starts
-word-parts [] s e = refl
-word-parts (a ∷ p) [] e = absurd (true≢false (sym e))
-word-parts (a ∷ p) (b ∷ s) e = go (eqb a b) refl e (word-parts p s)
-  where
-    go : (t : Bool) → eqb a b ≡ t → cond t (starts p s) false ≡ true → (starts p s ≡ true → s ≡ p ++ drop (length p) s) → b ∷ s ≡ a ∷ (p ++ drop (length p) s)
-    go true q e ih = ap (λ (x : ℕ). x ∷ s) (sym (eqb-true a b q)) ∙ ap (λ (x : List ℕ). a ∷ x) (ih e)
-    go false q e ih = absurd (true≢false (sym e))
 
 behind-word : (w r : List ℕ) (b : ℕ) → lastOf w ≡ 58 → 0 < b → b < 44 → lastOf (w ++ r) ≡ b → lastOf r ≡ b
 behind-word w [] b h some low e = absurd (omega (arith, ap lastOf (append-nil w)))
@@ -206,12 +192,12 @@ module _ (c : Columns) (n : ℕ) (l w r : List ℕ) (word : Word w) (ev : c .eve
     start-back : timeIn 0 (fieldAt (c .start) (fields (c .columns) Rest)) ≡ At s 46
     start-back =
         ap (λ (fs : List (List ℕ)). timeIn 0 (fieldAt (c .start) fs)) fields-are
-        ∙ ap (timeIn 0) (at-place (c .start) (omega arith) start-in ∙ new-start (c .start) (c .«end») (timeText 0 46 s) (timeText 0 46 e) (fieldAt (c .start) Old) apart) ∙ text-back s ls
+        ∙ ap (timeIn 0) (at-place (c .start) (omega arith) start-in ∙ new-start (c .start) (c .«end») (timeText 0 46 s) (timeText 0 46 e) (fieldAt (c .start) Old) apart) ∙ ass-back s ls
 
     end-back : timeIn 0 (fieldAt (c .«end») (fields (c .columns) Rest)) ≡ At e 46
     end-back =
         ap (λ (fs : List (List ℕ)). timeIn 0 (fieldAt (c .«end») fs)) fields-are
-        ∙ ap (timeIn 0) (at-place (c .«end») (omega arith) end-in ∙ new-end (c .start) (c .«end») (timeText 0 46 s) (timeText 0 46 e) (fieldAt (c .«end») Old)) ∙ text-back e le
+        ∙ ap (timeIn 0) (at-place (c .«end») (omega arith) end-in ∙ new-end (c .start) (c .«end») (timeText 0 46 s) (timeText 0 46 e) (fieldAt (c .«end») Old)) ∙ ass-back e le
 
     -- tags in the last field: a time has none
     tag-back : tagged (fieldAt (c .columns) New) ≡ tagged (fieldAt (c .columns) Old)
@@ -303,8 +289,8 @@ word-back c n l t ev et = go (starts formatWord t) (starts dialogueWord t) refl 
         (cond z (captionSays c (suc n) l commentWord (drop 8 t))
         (says c (stays l)))))
     go true y p z q = tt
-    go false true p z q = caption-back c n l dialogueWord (drop 9 t) dialogue ev (et ∙ word-parts dialogueWord t p)
-    go false false p true q = caption-back c n l commentWord (drop 8 t) comment ev (et ∙ word-parts commentWord t q)
+    go false true p z q = caption-back c n l dialogueWord (drop 9 t) dialogue ev (et ∙ starts-cut dialogueWord t p)
+    go false false p true q = caption-back c n l commentWord (drop 8 t) comment ev (et ∙ starts-cut commentWord t q)
     go false false p false q = tt
 
 says-back : (c : Columns) (n : ℕ) (l : List ℕ) → Back c n (lineSays c n l)

@@ -12,15 +12,14 @@ use lib.Seq.{getD-drop, getD-append-add}
 use Rattle.spec_text.specs.utf8.Utf8.{tail}
 use Rattle.spec_text.specs.pattern.Find.{starts, first}
 use Rattle.spec_text.proofs.pattern.Free.{Free, first-free}
-use Rattle.spec_caption.specs.caption_time.Kind.{kindBad, unitsOf, markOf}
-use Rattle.spec_caption.specs.declared.caption_stamp.Time.the-variants.{At}
-use Rattle.spec_caption.specs.caption_stamp.Read.{markIn, timeIn}
-use Rattle.spec_caption.specs.caption_stamp.Write.{timeText}
-use Rattle.spec_caption.proofs.caption_stamp.Written.{srt-12}
-use Rattle.spec_caption.proofs.caption_stamp.Reading.{time-mark, time-marks}
-use Rattle.spec_caption.proofs.caption_stamp.RoundTrip.{comma-back, point-back, vtt-back}
-use Rattle.spec_text.specs.whitespace.White.{trim}
-use Rattle.spec_format.specs.block_timing.Style.{srtEnd, vttEnd, endIn}
+use Rattle.spec_time.specs.caption_time.Kind.{kindBad, unitsOf, markOf}
+use Rattle.spec_time.specs.declared.caption_stamp.Time.the-variants.{At}
+use Rattle.spec_time.specs.caption_stamp.Read.{markIn, timeIn}
+use Rattle.spec_time.specs.caption_stamp.Write.{timeText}
+use Rattle.spec_time.proofs.caption_stamp.Written.{srt-12}
+use Rattle.spec_time.proofs.caption_stamp.Reading.{time-mark, time-marks}
+use Rattle.spec_time.proofs.caption_stamp.RoundTrip.{comma-back, point-back, vtt-back}
+use Rattle.spec_cue.specs.block_timing.Style.{srtEnd, vttEnd, endIn}
 use Rattle.spec_format.proofs.back.TimingLine.{Plain, TimeMark, Blocked, plain-text}
 
 -- ---- SRT: an end below 100 hours has 12 bytes, and a character begins what is trailing

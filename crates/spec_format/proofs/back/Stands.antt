@@ -10,27 +10,27 @@ use lib.ListN.{length, take, drop, take-append-drop}
 use Rattle.spec_text.specs.whitespace.White.{trimHead, trim}
 use Rattle.spec_text.specs.pattern.Find.{starts, equals, first, contains, upTo, past}
 use Rattle.spec_text.specs.pattern.Piece.{comma}
-use Rattle.spec_text.proofs.pattern.PieceLaws.{joined}
+use Rattle.spec_text.proofs.pattern.PieceLaws.{joined, starts-cut}
 use Rattle.spec_text.specs.text.Line.{linesOf, concat, lineCount, textOf, terminatorOf}
 use Rattle.spec_text.proofs.text.LineLaws.{text-terminator, lines-joined}
-use Rattle.spec_caption.specs.declared.caption_stamp.Time.{Time}
-use Rattle.spec_caption.specs.declared.caption_stamp.Time.the-variants.{At, Bad}
-use Rattle.spec_caption.specs.caption_stamp.Read.{timeIn}
-use Rattle.spec_caption.proofs.caption_stamp.Reading.{time-long}
+use Rattle.spec_time.specs.declared.caption_stamp.Time.{Time}
+use Rattle.spec_time.specs.declared.caption_stamp.Time.the-variants.{At, Bad}
+use Rattle.spec_time.specs.caption_stamp.Read.{timeIn}
+use Rattle.spec_time.proofs.caption_stamp.Reading.{time-long}
 use Rattle.spec_caption.specs.caption_fate.Says.{Piece, bytes, start, stop, unplaced, short, Cue, stays, passes, cue}
 use Rattle.spec_caption.specs.caption_fate.Emit.{render}
-use Rattle.spec_format.specs.declared.ass_columns.Columns.{Columns}
-use Rattle.spec_format.specs.ass_columns.Columns.{columnsIn, fields, fieldAt}
-use Rattle.spec_format.specs.ass_columns.Section.{eventsName, bracketed, inside, inSection}
-use Rattle.spec_format.specs.ass_write.Frame.{pieceAt, fieldPieces, lineFrame}
-use Rattle.spec_format.specs.ass_line.Line.{formatWord, dialogueWord, commentWord, LineSays, faulty, says, timesSay, captionSays, wordSays, textSays, lineSays}
-use Rattle.spec_format.specs.block_timing.Style.{stampsIn, styleOf}
-use Rattle.spec_format.specs.block_timing.Arrow
-use Rattle.spec_format.specs.block_timing.Arrow.{arrow, afterArrow, later, timingOf, Timing}
-use Rattle.spec_format.specs.block_cue.Block.{BlockSays, blockFrame, bothSay, endText, trailing, timingLineSays, timingSays, blockSays}
-use Rattle.spec_format.specs.block_cue.Block as block
+use Rattle.spec_ass.specs.declared.ass_columns.Columns.{Columns}
+use Rattle.spec_ass.specs.ass_columns.Columns.{columnsIn, fields, fieldAt}
+use Rattle.spec_ass.specs.ass_columns.Section.{eventsName, bracketed, inside, inSection}
+use Rattle.spec_ass.specs.ass_write.Frame.{pieceAt, fieldPieces, lineFrame}
+use Rattle.spec_ass.specs.ass_line.Line.{formatWord, dialogueWord, commentWord, LineSays, faulty, says, timesSay, captionSays, wordSays, textSays, lineSays}
+use Rattle.spec_cue.specs.block_timing.Style.{stampsIn, styleOf}
+use Rattle.spec_cue.specs.block_timing.Arrow
+use Rattle.spec_cue.specs.block_timing.Arrow.{arrow, afterArrow, later, timingOf, Timing}
+use Rattle.spec_cue.specs.block_cue.Block.{BlockSays, blockFrame, bothSay, endText, trailing, timingLineSays, timingSays, blockSays}
+use Rattle.spec_cue.specs.block_cue.Block as block
 use Rattle.spec_format.specs.back.Stands.{LineStands, oldFrame, BlockStands}
-use Rattle.spec_format.proofs.back.AssLine.{word-parts, frame-is}
+use Rattle.spec_format.proofs.back.AssLine.{frame-is}
 use Rattle.spec_format.proofs.back.TimingBlock.{Drops, head-drops, Swaps, timing-swaps, concat-at}
 
 -- ---- a text is what stands before a pattern, the pattern, and what stands after it
@@ -42,7 +42,7 @@ cut-at p (b ∷ s) h = go (starts p (b ∷ s)) refl h (cut-at p s)
     go : (t : Bool) → starts p (b ∷ s) ≡ t → cond t zero (suc (first p s)) < length (b ∷ s)
         → (first p s < length s → take (first p s) s ++ (p ++ drop (first p s + length p) s) ≡ s)
         → take (cond t zero (suc (first p s))) (b ∷ s) ++ (p ++ drop (cond t zero (suc (first p s)) + length p) (b ∷ s)) ≡ b ∷ s
-    go true e h ih = let z : 0 + length p ≡ length p = omega arith in ap (λ (k : ℕ). p ++ drop k (b ∷ s)) z ∙ sym (word-parts p (b ∷ s) e)
+    go true e h ih = let z : 0 + length p ≡ length p = omega arith in ap (λ (k : ℕ). p ++ drop k (b ∷ s)) z ∙ sym (starts-cut p (b ∷ s) e)
     go false e h ih =
         let z : suc (first p s) + length p ≡ suc (first p s + length p) = omega arith in
         ap (λ (k : ℕ). b ∷ (take (first p s) s ++ (p ++ drop k (b ∷ s)))) z ∙ ap (λ (l : List ℕ). b ∷ l) (ih (omega arith))
@@ -174,8 +174,8 @@ word-stood c n l t e = go (starts formatWord t) (starts dialogueWord t) refl (st
         (cond z (captionSays c (suc n) l commentWord (drop 8 t))
         (says c (stays l)))))
     go true y p z q = tt
-    go false true p z q = caption-stood c (suc n) l dialogueWord (drop 9 t) (e ∙ word-parts dialogueWord t p)
-    go false false p true q = caption-stood c (suc n) l commentWord (drop 8 t) (e ∙ word-parts commentWord t q)
+    go false true p z q = caption-stood c (suc n) l dialogueWord (drop 9 t) (e ∙ starts-cut dialogueWord t p)
+    go false false p true q = caption-stood c (suc n) l commentWord (drop 8 t) (e ∙ starts-cut commentWord t q)
     go false false p false q = tt
 
 line-stood : (c : Columns) (n : ℕ) (l : List ℕ) → Stood l (lineSays c n l)

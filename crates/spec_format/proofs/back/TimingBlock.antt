@@ -5,7 +5,7 @@ use mathlib.Core.Bool.{Bool, true, false, cond}
 use mathlib.Core.List.{List, [], _∷_, _++_, append-assoc, append-nil}
 use Prim.Native.Nat.{ℕ, zero, suc, _+_, _*_, _-_, _≤_, _<_}
 use native.Mathlib.Omega.{arith}
-use lib.Dec.{ltb, eqb}
+use lib.Dec.{eqb}
 use lib.Seq.{drop-drop}
 use lib.ListN.{length, drop, getD, length-append}
 use Rattle.spec_base.specs.base.Width.{byWidth}
@@ -15,19 +15,19 @@ use Rattle.spec_text.specs.pattern.Piece.{ontoFirst}
 use Rattle.spec_text.specs.text.Line.{linesOf, concat, lineCount, textOf, terminatorOf, endsLine, hasLf}
 use Rattle.spec_text.proofs.text.LineLaws.{text-terminator, line-then, line-last}
 use Rattle.spec_text.proofs.text.LineEnds.{lastOf, last-append, last-drop, Ended, ended-swap, text-again, terminator-again, line-ended}
-use Rattle.spec_caption.specs.declared.caption_stamp.Time.{Time}
-use Rattle.spec_caption.specs.declared.caption_stamp.Time.the-variants.{At, Bad}
-use Rattle.spec_caption.specs.caption_time.Kind.{unitsOf}
-use Rattle.spec_caption.specs.caption_stamp.Read.{timeIn}
-use Rattle.spec_caption.specs.caption_stamp.Write.{timeText}
-use Rattle.spec_caption.proofs.caption_stamp.Written.{text-10}
+use Rattle.spec_time.specs.declared.caption_stamp.Time.{Time}
+use Rattle.spec_time.specs.declared.caption_stamp.Time.the-variants.{At, Bad}
+use Rattle.spec_time.specs.caption_time.Kind.{unitsOf}
+use Rattle.spec_time.specs.caption_stamp.Read.{timeIn}
+use Rattle.spec_time.specs.caption_stamp.Write.{timeText}
+use Rattle.spec_time.proofs.caption_stamp.Written.{text-10}
 use Rattle.spec_caption.specs.caption_fate.Says.{Cue, stays, passes, cue}
 use Rattle.spec_caption.specs.caption_fate.Emit.{render}
-use Rattle.spec_format.specs.block_timing.Style.{endIn, stampsIn, styleOf}
-use Rattle.spec_format.specs.block_timing.Arrow
-use Rattle.spec_format.specs.block_timing.Arrow.{arrow, afterArrow, later, timingOf, Timing}
-use Rattle.spec_format.specs.block_cue.Block.{writtenArrow, blockFrame, blockCue, bothSay, endText, trailing, timingLineSays, timingSays, blockSays, BlockSays, faulty, says}
-use Rattle.spec_format.proofs.block_cue.WriteLaws.{frame-pieces}
+use Rattle.spec_cue.specs.block_timing.Style.{endIn, stampsIn, styleOf}
+use Rattle.spec_cue.specs.block_timing.Arrow
+use Rattle.spec_cue.specs.block_timing.Arrow.{arrow, afterArrow, later, timingOf, Timing}
+use Rattle.spec_cue.specs.block_cue.Block.{writtenArrow, blockFrame, blockCue, bothSay, endText, trailing, timingLineSays, timingSays, blockSays, BlockSays, faulty, says}
+use Rattle.spec_cue.proofs.block_cue.WriteLaws.{frame-pieces}
 use Rattle.spec_format.proofs.back.TimingLine.{Plain, Blocked, plain-text, lf-plain, lineText, arrow-back, line-back}
 use Rattle.spec_text.proofs.text.LfLaws.{lf-append, ends-append, lf-drop, lf-get, text-lf}
 

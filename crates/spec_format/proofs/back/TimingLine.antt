@@ -3,7 +3,7 @@ use mathlib.Core.Path.{_≡_, refl, sym, ap, subst, _∙_}
 use mathlib.Core.Bool.{true, false}
 use mathlib.Core.Logic.{_⊎_, inl, inr}
 use mathlib.Core.List.{List, [], _∷_, _++_, append-assoc, append-nil}
-use Prim.Native.Nat.{ℕ, zero, suc, _+_, _*_, _-_, _/_, _%_, _≤_, _<_}
+use Prim.Native.Nat.{ℕ, zero, suc, _+_, _*_, _/_, _%_, _≤_, _<_}
 use native.Mathlib.Omega.{arith}
 use borrow.Author.Tests.{lt-ltb, le-ltb, lt-leb, ne-eqb}
 use lib.Seq.{take-at, drop-at}
@@ -14,16 +14,16 @@ use Rattle.spec_text.specs.text.Line.{textOf, terminatorOf, hasLf}
 use Rattle.spec_text.specs.unicode.Encode.{Scalar}
 use Rattle.spec_text.proofs.unicode.Encoding.{head-white, head-other}
 use Rattle.spec_text.proofs.unicode.Trailing.{enc-1, tail-white}
-use Rattle.spec_caption.specs.declared.caption_stamp.Time.{Time}
-use Rattle.spec_caption.specs.declared.caption_stamp.Time.the-variants.{At}
-use Rattle.spec_caption.specs.caption_time.Kind.{kindBad, unitsOf, fractionDigits, hourDigits}
-use Rattle.spec_caption.specs.caption_stamp.Read.{timeIn}
-use Rattle.spec_caption.specs.caption_stamp.Write.{pad, widest, textWith, timeText}
-use Rattle.spec_caption.proofs.caption_stamp.Written.{text-some, text-10}
+use Rattle.spec_time.specs.declared.caption_stamp.Time.{Time}
+use Rattle.spec_time.specs.declared.caption_stamp.Time.the-variants.{At}
+use Rattle.spec_time.specs.caption_time.Kind.{kindBad, unitsOf, fractionDigits, hourDigits}
+use Rattle.spec_time.specs.caption_stamp.Read.{timeIn}
+use Rattle.spec_time.specs.caption_stamp.Write.{pad, widest, textWith, timeText}
+use Rattle.spec_time.proofs.caption_stamp.Written.{text-some, text-10}
 use Rattle.spec_caption.specs.caption_fate.Says.{cue}
-use Rattle.spec_format.specs.block_timing.Style.{endIn, stampsIn, styleOf}
-use Rattle.spec_format.specs.block_timing.Arrow.{arrow, afterArrow}
-use Rattle.spec_format.specs.block_cue.Block.{writtenArrow, blockFrame, blockCue, bothSay, endText, trailing, timingLineSays, says}
+use Rattle.spec_cue.specs.block_timing.Style.{endIn, stampsIn, styleOf}
+use Rattle.spec_cue.specs.block_timing.Arrow.{arrow, afterArrow}
+use Rattle.spec_cue.specs.block_cue.Block.{writtenArrow, blockFrame, blockCue, bothSay, endText, trailing, timingLineSays, says}
 
 -- ---- the bytes of a written time: digits, `:`, and `,` or `.`
 abbrev pub Plain : List ℕ → Type 0

@@ -12,15 +12,15 @@ use Rattle.spec_text.specs.pattern.Find.{starts, equals, first, contains, upTo,
 use Rattle.spec_text.specs.pattern.Piece.{piecesFrom, pieces}
 use Rattle.spec_text.specs.text.Number.{digit, digits, valueFrom, natural, unsigned, number}
 use Rattle.spec_text.specs.text.Line.{linesOf, textOf, terminatorLength, terminatorOf}
-use Rattle.spec_caption.specs.caption_time.Kind.{kindBad, unitsOf, markOf}
-use Rattle.spec_caption.specs.caption_stamp.Read.{markIn, timeWith, timeIn}
+use Rattle.spec_time.specs.caption_time.Kind.{kindBad, unitsOf, markOf}
+use Rattle.spec_time.specs.caption_stamp.Read.{markIn, timeWith, timeIn}
 use Rattle.spec_caption.specs.caption_fate.Says.{bytes, start, stop, short, stays, passes, cue}
 use Rattle.spec_caption.specs.caption_fate.Bom.{bom}
-use Rattle.spec_format.specs.ass_columns.Columns.{namesIn, placeIn, columnsIn, fields, fieldAt}
-use Rattle.spec_format.specs.ass_columns.Section.{bracketed, inside}
-use Rattle.spec_format.specs.ass_write.Tags.{holdsAny}
-use Rattle.spec_format.specs.ass_write.Frame.{pieceAt, fieldPieces}
-use Rattle.spec_format.specs.ass_line.Line.{captionSays, wordSays, textSays, lineSays}
+use Rattle.spec_ass.specs.ass_columns.Columns.{namesIn, placeIn, columnsIn, fields, fieldAt}
+use Rattle.spec_ass.specs.ass_columns.Section.{bracketed, inside}
+use Rattle.spec_ass.specs.ass_write.Tags.{holdsAny}
+use Rattle.spec_ass.specs.ass_write.Frame.{pieceAt, fieldPieces}
+use Rattle.spec_ass.specs.ass_line.Line.{captionSays, wordSays, textSays, lineSays}
 use Rattle.spec_format.specs.whole.Ass.{linesSaid, assSaid}
 
 abbrev line : String → List ℕ

@@ -11,13 +11,13 @@ use Rattle.spec_text.specs.whitespace.White.{whiteHigh, white, whiteHead, endsW
 use Rattle.spec_text.specs.pattern.Find.{starts, first, contains, upTo, past}
 use Rattle.spec_text.specs.text.Number.{digit, digits, valueFrom, natural, unsigned, number}
 use Rattle.spec_text.specs.text.Line.{linesOf, textOf, terminatorLength, terminatorOf, blank}
-use Rattle.spec_caption.specs.caption_time.Kind.{kindBad, unitsOf, markOf}
-use Rattle.spec_caption.specs.caption_stamp.Read.{markIn, timeWith, timeIn}
+use Rattle.spec_time.specs.caption_time.Kind.{kindBad, unitsOf, markOf}
+use Rattle.spec_time.specs.caption_stamp.Read.{markIn, timeWith, timeIn}
 use Rattle.spec_caption.specs.caption_fate.Says.{stays, cue}
 use Rattle.spec_caption.specs.caption_fate.Bom.{bom}
-use Rattle.spec_format.specs.block_timing.Style.{srtEnd, endIn, stampsIn, blankIn}
-use Rattle.spec_format.specs.block_timing.Arrow.{timingOf, afterArrow}
-use Rattle.spec_format.specs.block_cue.Block.{blockFrame, blockCue, timingLineSays, blockSays}
+use Rattle.spec_cue.specs.block_timing.Style.{srtEnd, endIn, stampsIn, blankIn}
+use Rattle.spec_cue.specs.block_timing.Arrow.{timingOf, afterArrow}
+use Rattle.spec_cue.specs.block_cue.Block.{blockFrame, blockCue, timingLineSays, blockSays}
 use Rattle.spec_format.specs.whole.Srt.{blockOf, blocksOf, blocksSaid, textBlocks, srtSaid}
 
 abbrev line : String → List ℕ

@@ -2,7 +2,7 @@
 use Prim.Native.Nat.{ℕ}
 use Prim.Native.String.{String}
 use mathlib.Core.Path.{_≡_, refl}
-use mathlib.Core.Bool.{true, false}
+use mathlib.Core.Bool.{true}
 use mathlib.Core.List.{List, [], _∷_, _++_}
 use Rattle.spec_base.specs.base.Ascii.{ascii}
 use Rattle.spec_base.specs.base.Part.{last}
@@ -11,13 +11,13 @@ use Rattle.spec_text.specs.whitespace.White.{whiteHigh, white, whiteHead, endsW
 use Rattle.spec_text.specs.pattern.Find.{starts, first, contains, upTo, past}
 use Rattle.spec_text.specs.text.Number.{digit, digits, valueFrom, natural, unsigned, number}
 use Rattle.spec_text.specs.text.Line.{linesOf, textOf, terminatorLength, terminatorOf}
-use Rattle.spec_caption.specs.caption_time.Kind.{kindBad}
-use Rattle.spec_caption.specs.caption_stamp.Read.{wideBy, wideFrom, vttTime, timeIn}
+use Rattle.spec_time.specs.caption_time.Kind.{kindBad}
+use Rattle.spec_time.specs.caption_stamp.Read.{wideBy, wideFrom, vttTime, timeIn}
 use Rattle.spec_caption.specs.caption_fate.Says.{stays, cue}
 use Rattle.spec_caption.specs.caption_fate.Bom.{bom}
-use Rattle.spec_format.specs.block_timing.Style.{vttEnd, endIn, stampHead, stampIn, stampsIn, blankIn}
-use Rattle.spec_format.specs.block_timing.Arrow.{timingOf, afterArrow}
-use Rattle.spec_format.specs.block_cue.Block.{blockFrame, blockCue, timingLineSays, blockSays}
+use Rattle.spec_cue.specs.block_timing.Style.{vttEnd, endIn, stampHead, stampIn, stampsIn, blankIn}
+use Rattle.spec_cue.specs.block_timing.Arrow.{timingOf, afterArrow}
+use Rattle.spec_cue.specs.block_cue.Block.{blockFrame, blockCue, timingLineSays, blockSays}
 use Rattle.spec_format.specs.whole.Srt.{blocksOf, blocksSaid}
 use Rattle.spec_format.specs.whole.Vtt.{vttSaid}
 

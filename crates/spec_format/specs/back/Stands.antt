@@ -4,12 +4,12 @@ use mathlib.Core.Path.{_≡_}
 use mathlib.Core.List.{List, [], _∷_, _++_}
 use Prim.Native.Nat.{ℕ}
 use Rattle.spec_text.specs.whitespace.White.{trimHead}
-use Rattle.spec_caption.specs.declared.caption_stamp.Time.the-variants.{At}
-use Rattle.spec_caption.specs.caption_stamp.Read.{timeIn}
+use Rattle.spec_time.specs.declared.caption_stamp.Time.the-variants.{At}
+use Rattle.spec_time.specs.caption_stamp.Read.{timeIn}
 use Rattle.spec_caption.specs.caption_fate.Says.{Piece, bytes, start, stop, Cue}
 use Rattle.spec_caption.specs.caption_fate.Emit.{render}
-use Rattle.spec_format.specs.block_timing.Arrow.{arrow}
-use Rattle.spec_format.specs.block_cue.Block.{blockFrame}
+use Rattle.spec_cue.specs.block_timing.Arrow.{arrow}
+use Rattle.spec_cue.specs.block_cue.Block.{blockFrame}
 
 -- ASS: two texts that read as the times, in the frame, are the line
 pub record LineStands (line : List ℕ) (q : Cue) : Type 0 where

@@ -5,10 +5,10 @@ use Prim.Native.Nat.{ℕ, suc}
 use Rattle.spec_text.specs.text.Line.{linesOf}
 use Rattle.spec_caption.specs.caption_fate.Says.{Part}
 use Rattle.spec_caption.specs.caption_fate.Bom.{startsBom, behindBom, bomWritten}
-use Rattle.spec_format.specs.declared.ass_columns.Columns.{Columns}
-use Rattle.spec_format.specs.ass_columns.Columns.{noColumns}
-use Rattle.spec_format.specs.ass_line.Line.{LineSays, faulty, says, lineSays}
-use Rattle.spec_format.specs.ass_line.AssThrough.{columnsAfter}
+use Rattle.spec_ass.specs.declared.ass_columns.Columns.{Columns}
+use Rattle.spec_ass.specs.ass_columns.Columns.{noColumns}
+use Rattle.spec_ass.specs.ass_line.Line.{LineSays, faulty, says, lineSays}
+use Rattle.spec_ass.specs.ass_line.AssThrough.{columnsAfter}
 
 -- a line's part, then the lines behind it by the section and columns that it leaves; a bad time ends the text, as the Rust does
 abbrev pub saidThen : LineSays → (Columns → List Part) → List Part

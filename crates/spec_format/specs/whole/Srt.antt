@@ -6,8 +6,8 @@ use Prim.Native.Nat.{ℕ, suc, _+_}
 use Rattle.spec_text.specs.text.Line.{linesOf, lineCount}
 use Rattle.spec_caption.specs.caption_fate.Says.{Part, stays}
 use Rattle.spec_caption.specs.caption_fate.Bom.{startsBom, behindBom, bomWritten}
-use Rattle.spec_format.specs.block_timing.Style.{styleOf, blankIn}
-use Rattle.spec_format.specs.block_cue.Block.{BlockSays, faulty, says, blockSays}
+use Rattle.spec_cue.specs.block_timing.Style.{styleOf, blankIn}
+use Rattle.spec_cue.specs.block_cue.Block.{BlockSays, faulty, says, blockSays}
 
 -- ---- a block is the non-blank lines, then the blank ones; blank lines at the head of a text are a block without a body
 pub record Block : Type 0 where

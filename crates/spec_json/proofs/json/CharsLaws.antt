@@ -1,21 +1,18 @@
 -- Laws of the characters of a string, as the loops over them have them.
-use mathlib.Core.Path.{_≡_, refl, sym, ap, subst, _∙_}
+use mathlib.Core.Path.{_≡_, refl, sym, ap, _∙_}
 use mathlib.Core.Bool.{Bool, true, false, cond, true≢false}
 use mathlib.Core.List.{List, [], _∷_, _++_, append-assoc}
-use Prim.Native.Nat.{ℕ, zero, suc, _+_, _*_, _-_, _^_, _≤_, _<_}
+use Prim.Native.Nat.{ℕ, zero, suc, _+_, _-_, _^_, _≤_, _<_}
 use native.Mathlib.Omega.{arith}
-use native.Mathlib.Numerals.{add-one}
 use borrow.Author.Tests.{eq-eqb, ne-eqb, eqb-true, eqb-false}
-use lib.Dec.{eqb, ltb}
+use lib.Dec.{eqb}
 use lib.ListN.{length, take, drop, getD, length-drop, length-append, drop-of-length-le, take-append-drop}
-use lib.Seq.{getD-drop, drop-drop, drop-nil, take-at, drop-at, take-all, length-take-le}
+use lib.Seq.{getD-drop, drop-drop, take-at, drop-at, take-all, length-take-le}
 use Rattle.spec_base.specs.base.Width.{byWidth}
 use Rattle.spec_base.specs.base.Put.{put, placed, placedLength, placedAt, placeAfter}
 use Rattle.spec_base.proofs.base.Laws.{yes!, no! }
 use Rattle.spec_base.proofs.base.PutLaws.{then-placed, put-nil, length-put, length-yes, placed-yes, not-copied}
 use Rattle.spec_text.specs.pattern.Find.{starts, equals}
-use Rattle.spec_json.specs.declared.json.Piece.{Piece}
-use Rattle.spec_json.specs.json.Piece.{PieceOf}
 use Rattle.spec_json.specs.json.Space.{more, joined}
 use Rattle.spec_json.specs.json.Str.{charWide, charBytes, charsWidth, charsBytes, stringWidth, stringBytes}
 use Rattle.spec_json.proofs.json.NumberLaws.{more-some}
@@ -41,10 +38,6 @@ joined-twice a b (suc x) = go (b + suc x) refl
     go : (y : ℕ) → b + suc x ≡ y → joined a y ≡ a + b + suc x
     go zero e = absurd (omega arith)
     go (suc y) e = omega arith
-
-pub more-joined : (x : ℕ) → more x ≡ joined 1 x
-more-joined zero = refl
-more-joined (suc x) = omega arith
 
 -- ---- the width of characters
 skip-width : (s : List ℕ) (k : ℕ) → charsWidth s k ≡ joined k (charsWidth (drop k s) 0)
@@ -409,7 +402,7 @@ head-stop (y ∷ v) h = refl
 none-stop : (t v : List ℕ) → charWide t ≡ 0 → 0 < length v → equals v (charsBytes t 0) ≡ false
 none-stop t v e h = ap (equals v) (bytes-stop t e) ∙ head-stop v h
 
-plain-bytes : (x : ℕ) (t : List ℕ) → (x ≡ 0x5C → ⊥) → charBytes (x ∷ t) ≡ x ∷ []
+pub plain-bytes : (x : ℕ) (t : List ℕ) → (x ≡ 0x5C → ⊥) → charBytes (x ∷ t) ≡ x ∷ []
 unfolding charBytes
 plain-bytes x t h = sym (no! _ (ne-eqb x 0x5C h) refl)
 

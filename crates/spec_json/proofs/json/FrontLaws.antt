@@ -117,7 +117,7 @@ tail-keep s n h =
     let e : expWidth (drop (fracWidth s) (take n s)) ≡ expWidth (drop (fracWidth s) s) = keeps-at expWidth exp-keep s n (fracWidth s) (omega arith) in
     ap (λ (x : ℕ). x + expWidth (drop x (take n s))) f ∙ ap (λ (x : ℕ). fracWidth s + x) e
 
-number-with : (s : List ℕ) (m k : ℕ) → minusWidth s ≡ m → intWidth (drop m s) ≡ suc k → numberWidth s ≡ m + suc k + tailWidth (drop (m + suc k) s)
+pub number-with : (s : List ℕ) (m k : ℕ) → minusWidth s ≡ m → intWidth (drop m s) ≡ suc k → numberWidth s ≡ m + suc k + tailWidth (drop (m + suc k) s)
 unfolding numberWidth
 number-with s m k e f =
     subst (λ (x : ℕ). byWidth (intWidth (drop x s)) 0 (λ k. x + suc k + tailWidth (drop (x + suc k) s)) ≡ m + suc k + tailWidth (drop (m + suc k) s)) (sym e)

@@ -2,9 +2,8 @@
 use mathlib.Core.Path.{_≡_, refl, sym, ap, subst, _∙_}
 use mathlib.Core.Bool.{Bool, true, false, not, _||_, cond, true≢false}
 use mathlib.Core.List.{List, [], _∷_}
-use Prim.Native.Nat.{ℕ, zero, suc, _+_, _*_, _-_, _^_, _≤_, _<_}
+use Prim.Native.Nat.{ℕ, zero, suc, _+_, _-_, _^_, _≤_, _<_}
 use native.Mathlib.Omega.{arith}
-use native.Mathlib.Numerals.{add-one}
 use borrow.Author.Tests.{eq-eqb, ne-eqb, eqb-true, eqb-false, not-true, not-false}
 use lib.Dec.{eqb}
 use lib.ListN.{length, drop, getD, length-drop, drop-of-length-le}
@@ -19,8 +18,8 @@ use Rattle.spec_json.specs.json.Item.{ItemOf}
 use Rattle.spec_json.proofs.json.SpaceLaws.{spaces-le}
 use Rattle.spec_json.proofs.json.StringLaws.{in-text}
 use Rattle.spec_json.proofs.json.CharsLaws.{joined-twice}
-use Rattle.spec_json.proofs.json.NumberLaws.{more-some}
-use Rattle.spec_json.proofs.json.ValueLaws.{cut-le, scalar-le, key-le, padded-le, member-le, row-le, row-none, row-closed, row-other, row-more}
+use Rattle.spec_json.proofs.json.NumberLaws.{more-some, cut-le}
+use Rattle.spec_json.proofs.json.ValueLaws.{scalar-le, key-le, padded-le, member-le, row-le, row-none, row-closed, row-other, row-more}
 
 -- ---- what stands before the value
 pub lead-space : (b n : ℕ) (s : List ℕ) → (b ≡ 0x7B → ⊥) → n ≡ spaces s → n ≡ leadWidth b s
@@ -358,8 +357,3 @@ module _ (d b at k : ℕ) (s t : List ℕ) (inv : rowOf d b s ≡ joined at (row
 pub row-over : (d b at : ℕ) (s : List ℕ) → rowOf d b s ≡ joined at (rowOf d b (drop at s)) → length s ≤ at → 0 ≡ rowOf d b s
 row-over d b at s inv h =
     sym (inv ∙ ap (λ (x : List ℕ). joined at (rowOf d b x)) (drop-of-length-le s h) ∙ ap (joined at) (row-none (itemWidth b (valueWidth d)) (closeOf b) (item-none b d) [] (itemWidth b (valueWidth d) []) refl (item-none b d)))
-
--- ---- a value's depth falls by one
-pub falls-row : (d : ℕ) → (d ≡ 0 → ⊥) → 3 * (d - 1) + 2 < 3 * d
-falls-row zero z = absurd (z refl)
-falls-row (suc d) z = omega arith

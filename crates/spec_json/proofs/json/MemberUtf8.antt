@@ -19,6 +19,7 @@ use Rattle.spec_json.specs.json.Member.{bare, Member, memberAll, members
 use Rattle.spec_json.proofs.json.ItemLaws.{value-flat, value-scalar}
 use Rattle.spec_text.proofs.unicode.Utf8Parts.{low-drop, low-past, low-take}
 use Rattle.spec_json.proofs.json.StringUtf8.{chars-utf8}
+use Rattle.spec_base.proofs.base.PartLaws.{drop-take}
 
 -- ---- parts
 pub record PartOf (s v : List ℕ) : Type 0 where
@@ -40,16 +41,6 @@ part-take s v n p = go (leb n (p .size)) refl
     go false e =
         let l : length v ≤ n = omega (arith, ap length (p .is), length-take (p .size) (drop (p .at) s), leb-false n (p .size) e) in
         record { at = p .at; size = p .size; is = take-all n v l ∙ p .is }
-
-drop-take : (n m : ℕ) (l : List ℕ) → drop n (take m l) ≡ take (m - n) (drop n l)
-drop-take zero m l = let z : m ≡ m - 0 = omega arith in ap (λ (k : ℕ). take k l) z
-drop-take (suc n) zero l = let z : 0 ≡ 0 - suc n = omega arith in ap (λ (k : ℕ). take k (drop (suc n) l)) z
-drop-take (suc n) (suc m) [] = empty (suc m - suc n)
-  where
-    empty : (k : ℕ) → _≡_ {A = List ℕ} [] (take k [])
-    empty zero = refl
-    empty (suc k) = refl
-drop-take (suc n) (suc m) (b ∷ l) = let z : m - n ≡ suc m - suc n = omega arith in drop-take n m l ∙ ap (λ (k : ℕ). take k (drop n l)) z
 
 part-drop : (s v : List ℕ) (n : ℕ) → PartOf s v → PartOf s (drop n v)
 part-drop s v n p =

@@ -1,38 +1,24 @@
 -- A number that was written is read back, where what stands behind it goes on with no number.
-use Prim.Native.Nat.{ℕ, zero, suc, _+_, _-_, _*_, _/_, _%_, _^_, _≤_, _<_}
+use Prim.Native.Nat.{ℕ, zero, suc, _+_, _*_, _/_, _%_, _^_, _≤_, _<_}
 use mathlib.Core.Path.{_≡_, refl, ap, sym, subst, _∙_}
-use mathlib.Core.Bool.{Bool, true, false, _&&_, _||_, cond}
-use mathlib.Core.List.{List, [], _∷_, _++_, append-assoc, append-nil}
-use lib.Dec.{eqb, ltb, leb}
-use lib.ListN.{length, getD, take, drop, length-append}
-use lib.Seq.{append-snoc, drop-append-seam}
-use native.Mathlib.Nat.{pow-suc, mul-assoc}
+use mathlib.Core.Bool.{Bool, true, false, _&&_, cond}
+use mathlib.Core.List.{List, [], _∷_, _++_, append-nil}
+use lib.Dec.{eqb}
+use lib.ListN.{length, getD, drop}
+use lib.Seq.{drop-append-seam}
 use native.Mathlib.Omega.{arith}
-use borrow.Author.Tests.{lt-ltb, le-ltb, le-leb, lt-leb, eq-eqb, ne-eqb, eqb-true}
-use Rattle.spec_base.specs.base.Width.{byWidth}
+use borrow.Author.Tests.{le-leb, ne-eqb, eqb-true}
 use Rattle.spec_text.specs.text.Number.{digit, digits, valueFrom}
 use Rattle.spec_text.specs.text.Line.{isEmpty}
 use Rattle.spec_text.proofs.text.Laws.{digit-some}
-use Rattle.spec_caption.specs.caption_stamp.Write.{pad, width}
-use Rattle.spec_caption.proofs.caption_stamp.Pad.{width-small, width-big, width-pow, tenths, pad-length}
-use Rattle.spec_json.specs.json.Space.{more}
+use Rattle.spec_time.specs.caption_stamp.Write.{pad, width}
+use Rattle.spec_time.proofs.caption_stamp.Pad.{width-small, width-big, width-pow, tenths}
 use Rattle.spec_json.specs.json.Num.{digitRun, intWidth, minusWidth, fracWidth, isExp, expWidth, tailWidth, numberWidth, isPlain}
 use Rattle.spec_json.specs.json.Quote.{decimal}
+use Rattle.spec_time.proofs.caption_stamp.RoundTrip.{value-nil, value-pad, digits-snoc, digits-true, Digits}
+use Rattle.spec_json.proofs.json.FrontLaws.{number-with}
 
 -- ---- rows of digits
-abbrev pub Digits : List ℕ → Type 0
-Digits [] = Unit {0}
-Digits (b ∷ s) = ((0x30 ≤ b) × (b ≤ 0x39)) × Digits s
-
-digits-snoc : (xs : List ℕ) (b : ℕ) → Digits xs → 0x30 ≤ b → b ≤ 0x39 → Digits (xs ++ b ∷ [])
-digits-snoc [] b d l h = ((l, h), tt)
-digits-snoc (x ∷ xs) b d l h = (d .0, digits-snoc xs b (d .1) l h)
-
-digits-all : (s : List ℕ) → Digits s → digits s ≡ true
-unfolding digits
-digits-all [] d = refl
-digits-all (b ∷ s) d = rw (digit-some b (d .0 .0) (d .0 .1)) (digits-all s (d .1))
-
 -- what stands behind a number: no digit, point or letter e
 pub record Stops (r : List ℕ) : Type 0 where
   pub digit-not : digit (getD r 0 0) ≡ false
@@ -99,19 +85,6 @@ pub decimal-digits : (n : ℕ) → Digits (decimal n)
 decimal-digits n = let p = plain n in subst Digits (sym (p .is)) ((p .low, p .high), p .others)
 
 -- ---- its value
-value-pad : (k a n : ℕ) (s : List ℕ) → n < 10 ^ k → valueFrom a (pad k n ++ s) ≡ valueFrom (a * 10 ^ k + n) s
-unfolding pad valueFrom
-value-pad zero a n s h = ap (λ (m : ℕ). valueFrom m s) (omega arith)
-value-pad (suc k) a n s h =
-    let small : n < 10 ^ k * 10 = rw pow-suc at h in
-    let d = 48 + n % 10 in
-    ap (valueFrom a) (append-snoc (pad k (n / 10)) d s) ∙ value-pad k a (n / 10) (d ∷ s) (omega arith) ∙
-    ap (λ (m : ℕ). valueFrom m s) (omega (arith, pow-suc 10 k, mul-assoc a (10 ^ k) 10, ap (λ (m : ℕ). a * m) (pow-suc 10 k)))
-
-value-nil : (v : ℕ) → valueFrom v [] ≡ v
-unfolding valueFrom
-value-nil v = refl
-
 pub decimal-value : (n : ℕ) → valueFrom 0 (decimal n) ≡ n
 unfolding decimal
 decimal-value n =
@@ -133,7 +106,7 @@ by-zero (suc n) f g = g (omega arith)
 pub decimal-plain : (most n : ℕ) → n ≤ most → isPlain most (decimal n) ≡ true
 decimal-plain most n h =
     let p = plain n in
-    let d : digits (p .head ∷ p .rest) ≡ true = subst (λ (l : List ℕ). digits l ≡ true) (p .is) (digits-all (decimal n) (decimal-digits n)) in
+    let d : digits (p .head ∷ p .rest) ≡ true = subst (λ (l : List ℕ). digits l ≡ true) (p .is) (digits-true (decimal n) (decimal-digits n)) in
     let v : valueFrom 0 (p .head ∷ p .rest) ≡ n = ap (valueFrom 0) (sym (p .is)) ∙ decimal-value n in
     subst (λ (l : List ℕ). isPlain most l ≡ true) (sym (p .is))
     (plain-by most (p .head) (p .rest) d (λ e. by-zero n (λ z. p .alone z) (λ q. absurd (p .lead q e))) (omega arith))
@@ -149,12 +122,6 @@ int-by b s r d z h = go (eqb b 0x30) refl
     go : (t : Bool) → eqb b 0x30 ≡ t → cond t 1 (digitRun (b ∷ (s ++ r))) ≡ suc (length s)
     go true e = rw (z (eqb-true b 0x30 e))
     go false e = run-all (b ∷ s) r d h
-
-number-with : (t : List ℕ) (m w : ℕ) → minusWidth t ≡ m → intWidth (drop m t) ≡ suc w → numberWidth t ≡ m + suc w + tailWidth (drop (m + suc w) t)
-unfolding numberWidth
-number-with t m w e f =
-    subst (λ (x : ℕ). byWidth (intWidth (drop x t)) 0 (λ k. x + suc k + tailWidth (drop (x + suc k) t)) ≡ m + suc w + tailWidth (drop (m + suc w) t)) (sym e)
-    (ap (λ (y : ℕ). byWidth y 0 (λ k. m + suc k + tailWidth (drop (m + suc k) t))) f)
 
 no-minus : (b : ℕ) (t : List ℕ) → 0x30 ≤ b → minusWidth (b ∷ t) ≡ 0
 no-minus b t h = rw (ne-eqb b 0x2D (λ e. omega arith))

@@ -1,21 +1,19 @@
 -- Laws of numbers, as the code walks them.
 use mathlib.Core.Path.{_≡_, refl, sym, ap, subst, _∙_}
-use mathlib.Core.Bool.{Bool, true, false, _&&_, _||_, not, cond, true≢false}
+use mathlib.Core.Bool.{Bool, true, false, _&&_, not, cond, true≢false}
 use mathlib.Core.List.{List, [], _∷_}
 use Prim.Native.Nat.{ℕ, zero, suc, _+_, _*_, _-_, _/_, _^_, _≤_, _<_}
-use native.Mathlib.Nat.{le-trans, not-suc-le-zero}
+use native.Mathlib.Nat.{le-trans}
 use native.Mathlib.Omega.{arith}
 use native.Mathlib.Numerals.{add-one}
 use borrow.Author.Tests.{eq-eqb, ne-eqb, le-leb, lt-leb, eqb-true, eqb-false, not-true, not-false}
 use lib.Dec.{eqb, leb}
 use lib.ListN.{length, drop, getD, length-drop, drop-of-length-le}
 use lib.Seq.{drop-cons}
-use Rattle.spec_base.specs.base.Width.{byWidth}
 use Rattle.spec_base.proofs.base.Laws.{yes!, no!, and-left, and-right}
 use Rattle.spec_text.specs.text.Number.{digit, digits, valueFrom}
 use Rattle.spec_text.specs.text.Line.{isEmpty}
-use Rattle.spec_text.proofs.text.Laws.{digit-low, digit-high, digit-some, digits-other, digits-more, digits-end, value-step, value-end, value-more}
-use Rattle.spec_json.specs.declared.json.Plain.{Plain}
+use Rattle.spec_text.proofs.text.Laws.{digit-low, digit-high, digit-some, digits-other, digits-end, value-step, value-end, value-more}
 use Rattle.spec_json.specs.declared.json.Plain.the-variants.{Value, Bad}
 use Rattle.spec_json.specs.json.Space.{more}
 use Rattle.spec_json.specs.json.Num.{digitRun, intWidth, minusWidth, fracWidth, isExp, signWidth, signed, expWidth, tailWidth, numberWidth, isPlain}
@@ -56,9 +54,6 @@ run-le (b ∷ s) = go (digit b) (run-le s)
 pub frac-none : (s : List ℕ) (b : ℕ) → b ≡ getD s 0 0 → (b ≡ 0x2E → ⊥) → 0 ≡ fracWidth s
 unfolding fracWidth
 frac-none s b e h = no! _ (ne-eqb _ _ (λ q. h (e ∙ q))) refl
-
-more-zero : (n : ℕ) → n ≡ 0 → 0 ≡ more n
-more-zero n e = ap more (sym e)
 
 pub more-some : (n : ℕ) → (n ≡ 0 → ⊥) → n + 1 ≡ more n
 more-some zero h = absurd (h refl)
@@ -155,7 +150,7 @@ int-le (b ∷ s) = go (eqb b 0x30) (run-le (b ∷ s))
     go true h = omega arith
     go false h = h
 
-cut-le : (f : List ℕ → ℕ) → ((s : List ℕ) → f s ≤ length s) → (s t : List ℕ) (m : ℕ) → t ≡ drop m s → f t ≤ length s - m
+pub cut-le : (f : List ℕ → ℕ) → ((s : List ℕ) → f s ≤ length s) → (s t : List ℕ) (m : ℕ) → t ≡ drop m s → f t ≤ length s - m
 cut-le f le s t m e = subst (λ (k : ℕ). f t ≤ k) (ap length e ∙ length-drop m s) (le t)
 
 pub tail-le : (s : List ℕ) → tailWidth s ≤ length s
@@ -308,9 +303,6 @@ unfolding plainOf
 plain-value most s i v f l z w d e h k =
     let q : valueFrom 0 s ≡ v = e ∙ value-end s i v k in
     yes! _ (value-by most v s l (zero-alone s f z w) (d ∙ digits-end s i k) q h) (ap Value (sym q))
-
-pub plain-step : (most v b : ℕ) → b - 0x30 ≤ most → v ≤ (most - (b - 0x30)) / 10 → v * 10 + (b - 0x30) ≤ most
-plain-step most v b k h = omega arith
 
 -- the number and the values of what a field's text says
 pub plain-number : (most : ℕ) (s : List ℕ) → plainNumber (plainOf most s) ≡ cond (isPlain most s) 0 23

@@ -2,14 +2,13 @@
 use Prim.Native.Nat.{ℕ, zero, suc, _+_, _-_, _≤_, _<_}
 use mathlib.Core.Path.{_≡_, refl, ap, ap₂, sym, subst, _∙_}
 use mathlib.Core.Logic.{_⊎_, inl, inr}
-use mathlib.Core.Bool.{Bool, true, false, cond}
+use mathlib.Core.Bool.{Bool, true, false}
 use mathlib.Core.List.{List, [], _∷_, _++_, append-assoc, append-nil}
 use lib.Dec.{eqb}
 use lib.ListN.{length, getD, take, drop, length-append}
 use lib.Seq.{take-append-seam, drop-append-seam, getD-append-seam}
 use native.Mathlib.Omega.{arith}
-use borrow.Author.Tests.{eq-eqb, ne-eqb}
-use Rattle.spec_base.specs.base.Width.{byWidth}
+use borrow.Author.Tests.{ne-eqb}
 use Rattle.spec_json.specs.json.Space.{isSpace, spaces, more, padded}
 use Rattle.spec_json.specs.json.Str.{stringBytes}
 use Rattle.spec_json.specs.json.Value.{keyWidth, memberWidth, rowWidth, rowItems, insideWidth, insideItems, valueWidth}
@@ -19,7 +18,7 @@ use Rattle.spec_json.specs.json.Pretty.{itemLines, memberLine, memberLin
 use Rattle.spec_json.proofs.json.StringBack.{string-bytes}
 use Rattle.spec_json.proofs.json.NumberBack.{Stops}
 use Rattle.spec_json.proofs.json.RowBack.{Fits, AllFit, rowText, count, row-width, row-items}
-use Rattle.spec_json.proofs.json.ValueBack.{AllSpace, Bare, spaces-all, bare-first, IsValue, Ends, ends-none, ends-stop, memberText, member-size, member-back, padded-back, key-back, behind-colon, ends-space, stop-none, stop-comma, stop-brace, stop-bracket, space-one, quote-bare, quote-starts}
+use Rattle.spec_json.proofs.json.ValueBack.{AllSpace, Bare, spaces-all, bare-first, IsValue, Ends, ends-none, ends-stop, memberText, member-size, member-back, padded-back, key-back, behind-colon, ends-space, stop-none, stop-comma, stop-brace, stop-bracket, space-one, quote-starts}
 
 -- ---- a row inside its brackets
 -- the first byte that is no white space

@@ -1,8 +1,8 @@
 -- A row that was written: items with commas between them and the byte that closes it. It is read back item by item.
-use Prim.Native.Nat.{ℕ, zero, suc, _+_, _-_, _≤_, _<_}
-use mathlib.Core.Path.{_≡_, refl, ap, sym, subst, _∙_}
+use Prim.Native.Nat.{ℕ, zero, suc, _+_, _≤_, _<_}
+use mathlib.Core.Path.{_≡_, refl, ap, sym, _∙_}
 use mathlib.Core.Logic.{_⊎_, inl, inr}
-use mathlib.Core.Bool.{Bool, true, false, cond}
+use mathlib.Core.Bool.{Bool, true, false}
 use mathlib.Core.List.{List, [], _∷_, _++_, append-assoc}
 use lib.Dec.{eqb}
 use lib.ListN.{length, getD, take, drop, length-append}
@@ -10,7 +10,7 @@ use lib.Seq.{take-append-seam, drop-append-seam, getD-append-seam}
 use native.Mathlib.Omega.{arith}
 use borrow.Author.Tests.{eq-eqb, ne-eqb}
 use Rattle.spec_base.specs.base.Width.{byWidth}
-use Rattle.spec_json.specs.json.Space.{isSpace, spaces, joined, padded}
+use Rattle.spec_json.specs.json.Space.{joined}
 use Rattle.spec_json.specs.json.Value.{rowWidth, rowItems}
 
 -- ---- one step of a row, by what stands behind the item

@@ -1,19 +1,18 @@
 -- A string that was written is read back, whatever stands behind it.
-use Prim.Native.Nat.{ℕ, zero, suc, _+_, _-_, _*_, _/_, _%_, _≤_, _<_}
+use Prim.Native.Nat.{ℕ, suc, _+_, _/_, _%_, _≤_, _<_}
 use mathlib.Core.Path.{_≡_, refl, ap, sym, subst, _∙_}
-use mathlib.Core.Bool.{Bool, true, false, _&&_, cond}
+use mathlib.Core.Bool.{Bool, true, false}
 use mathlib.Core.List.{List, [], _∷_, _++_, append-assoc}
-use lib.Dec.{eqb, ltb, leb}
-use lib.ListN.{length, getD, take, drop, length-append}
-use native.Mathlib.Nat.{div-add-mod', mod-lt}
+use lib.Dec.{eqb, ltb}
+use lib.ListN.{length, length-append}
 use native.Mathlib.Omega.{arith}
-use borrow.Author.Tests.{lt-ltb, le-ltb, le-leb, lt-leb, eq-eqb, ne-eqb, eqb-true, eqb-false, ltb-true, ltb-false}
+use borrow.Author.Tests.{lt-ltb, le-ltb, le-leb, lt-leb, ne-eqb, eqb-true, eqb-false, ltb-true, ltb-false}
 use Rattle.spec_base.specs.base.Width.{byWidth}
-use Rattle.spec_base.proofs.base.Laws.{yes!, no!, chain}
 use Rattle.spec_text.specs.unicode.Encode.{encode}
 use Rattle.spec_json.specs.json.Space.{more}
-use Rattle.spec_json.specs.json.Str.{hexDigit, hexWord, isHigh, isLow, shortEscape, unicodeWidth, unicodePoint, charWide, charBytes, charsWidth, charsBytes, stringWidth, stringBytes}
+use Rattle.spec_json.specs.json.Str.{hexDigit, hexWord, shortEscape, unicodeWidth, unicodePoint, charWide, charBytes, charsWidth, charsBytes, stringWidth, stringBytes}
 use Rattle.spec_json.specs.json.Quote.{hexLetter, escaped, escapedAll, quoted}
+use Rattle.spec_json.proofs.json.CharsLaws.{plain-bytes}
 
 by-eq : {A : Type 0} (a b : ℕ) → (a ≡ b → A) → ((a ≡ b → ⊥) → A) → A
 by-eq {A} a b f g = go (eqb a b) refl
@@ -137,10 +136,6 @@ plain-is b h n1 n2 = rw (ne-eqb b 0x22 n1, ne-eqb b 0x5C n2, le-ltb b 0x20 h)
 plain-wide : (b : ℕ) (t : List ℕ) → 0x20 ≤ b → (b ≡ 0x22 → ⊥) → (b ≡ 0x5C → ⊥) → charWide (b ∷ t) ≡ 1
 unfolding charWide
 plain-wide b t h n1 n2 = rw (le-ltb b 0x20 h, ne-eqb b 0x22 n1, ne-eqb b 0x5C n2)
-
-plain-bytes : (b : ℕ) (t : List ℕ) → (b ≡ 0x5C → ⊥) → charBytes (b ∷ t) ≡ b ∷ []
-unfolding charBytes
-plain-bytes b t n = rw (ne-eqb b 0x5C n)
 
 plain-piece : (b : ℕ) → 0x20 ≤ b → (b ≡ 0x22 → ⊥) → (b ≡ 0x5C → ⊥) → Piece b (escaped b)
 plain-piece b h n1 n2 =

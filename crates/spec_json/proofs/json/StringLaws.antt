@@ -1,25 +1,20 @@
 -- Laws of strings, as the code walks them.
 use mathlib.Core.Path.{_≡_, refl, sym, ap, subst, _∙_}
 use mathlib.Core.Bool.{Bool, true, false, _&&_, cond, true≢false}
-use mathlib.Core.List.{List, [], _∷_, _++_}
+use mathlib.Core.List.{List, [], _∷_}
 use Prim.Native.Nat.{ℕ, zero, suc, _+_, _*_, _-_, _/_, _%_, _^_, _≤_, _<_}
-use native.Mathlib.Nat.{not-suc-le-zero}
 use native.Mathlib.Omega.{arith}
-use native.Mathlib.Numerals.{add-one}
-use borrow.Author.Tests.{eq-eqb, ne-eqb, eqb-true, eqb-false, ltb-true, lt-ltb, le-ltb}
+use borrow.Author.Tests.{eq-eqb, ne-eqb, ltb-true, lt-ltb, le-ltb}
 use lib.Dec.{eqb, ltb, leb}
-use lib.ListN.{length, take, drop, getD, length-drop, length-append, drop-of-length-le}
-use lib.Seq.{drop-cons, drop-drop}
-use Rattle.spec_base.specs.base.Width.{byWidth}
-use Rattle.spec_base.proofs.base.Laws.{yes!, no!, and-left, and-right}
+use lib.ListN.{length, take, drop, getD, length-drop}
+use Rattle.spec_base.proofs.base.Laws.{yes!, no!, and-right}
 use Rattle.spec_base.specs.base.Put.{placedAt, placeAfter}
 use Rattle.spec_text.specs.pattern.Find.{starts}
 use Rattle.spec_text.specs.unicode.Encode.{encode}
 use Rattle.spec_text.proofs.unicode.Trailing.{enc-1, enc-2, enc-3, enc-4}
 use Rattle.spec_json.specs.declared.json.Piece.{Piece}
 use Rattle.spec_json.specs.json.Piece.{PieceOf}
-use Rattle.spec_json.specs.json.Space.{more, joined}
-use Rattle.spec_json.specs.json.Str.{hexDigit, hexJoin, hexWord, isHigh, isLow, shortEscape, pairFollows, unicodeWidth, unicodePoint, escapeWidth, escapeBytes, charWide, charBytes, charsWidth, charsBytes, stringWidth, stringBytes}
+use Rattle.spec_json.specs.json.Str.{hexDigit, hexJoin, hexWord, isHigh, isLow, shortEscape, pairFollows, unicodeWidth, unicodePoint, escapeWidth, escapeBytes, charWide, charBytes}
 
 -- ---- hexadecimal digits
 join-most : (a b c d : ℕ) → hexJoin a b c d ≤ 65536

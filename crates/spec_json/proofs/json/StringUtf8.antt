@@ -16,7 +16,7 @@ use Rattle.spec_text.proofs.unicode.Trailing.{enc-1}
 use Rattle.spec_text.proofs.unicode.Decoding.{all-taken, only-those}
 use Rattle.spec_json.specs.json.Str.{hexDigit, hexWord, isHigh, isLow, shortEscape, pairFollows, unicodeWidth, unicodePoint, escapeWidth, escapeBytes, charWide, charBytes, charsBytes}
 use Rattle.spec_json.proofs.json.StringLaws.{char-in}
-use Rattle.spec_json.proofs.json.CharsLaws.{bytes-stop, bytes-step}
+use Rattle.spec_json.proofs.json.CharsLaws.{bytes-stop, bytes-step, plain-bytes}
 use Rattle.spec_text.proofs.unicode.Utf8Parts.{High, encode-high, low-head, none-utf8, low-past}
 
 -- ---- hexadecimal digits are below 80
@@ -179,13 +179,9 @@ wide-other b r n h = go (ltb b 0x20) (eqb b 0x22) (eqb b 0x5C) (ne-eqb b 0x5C h)
     go false false true e k = absurd (true≢false e)
     go false false false e k = refl
 
-bytes-other : (b : ℕ) (r : List ℕ) → (b ≡ 0x5C → ⊥) → charBytes (b ∷ r) ≡ b ∷ []
-unfolding charBytes
-bytes-other b r h = rw (ne-eqb b 0x5C h)
-
 other-step : (b : ℕ) (r : List ℕ) → (charWide (b ∷ r) ≡ 0 → ⊥) → (b ≡ 0x5C → ⊥) → charsBytes (b ∷ r) 0 ≡ b ∷ charsBytes r 0
 other-step b r n h =
-    bytes-step (b ∷ r) 1 (sym (wide-other b r n h)) (λ z. omega arith) ∙ ap (λ (l : List ℕ). l ++ charsBytes r 0) (bytes-other b r h)
+    bytes-step (b ∷ r) 1 (sym (wide-other b r n h)) (λ z. omega arith) ∙ ap (λ (l : List ℕ). l ++ charsBytes r 0) (plain-bytes b r h)
 
 high-wide : (b : ℕ) (r : List ℕ) → 0x80 ≤ b → charWide (b ∷ r) ≡ 1
 unfolding charWide

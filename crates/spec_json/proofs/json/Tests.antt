@@ -1,5 +1,5 @@
 -- Tests joined by `||` and `&&`, as code with early returns has them.
-use mathlib.Core.Path.{_≡_, refl, sym, ap, _∙_}
+use mathlib.Core.Path.{_≡_, sym, ap, _∙_}
 use mathlib.Core.Bool.{Bool, true, false, _&&_, _||_}
 use Rattle.spec_base.proofs.base.Laws.{calls}
 

@@ -1,25 +1,23 @@
 -- White space around a value, a member, and a value by itself, as they are written, are read back.
 use Prim.Native.Nat.{ℕ, zero, suc, _+_, _-_, _≤_, _<_}
 use mathlib.Core.Path.{_≡_, refl, ap, sym, subst, _∙_}
-use mathlib.Core.Bool.{Bool, true, false, _||_, cond}
-use mathlib.Core.List.{List, [], _∷_, _++_, append-assoc, append-nil}
+use mathlib.Core.Bool.{Bool, true, false, cond}
+use mathlib.Core.List.{List, [], _∷_, _++_, append-assoc}
 use lib.Dec.{eqb}
-use lib.ListN.{length, getD, take, drop, length-append}
-use lib.Seq.{take-append-seam, drop-append-seam, getD-append-seam, drop-drop}
+use lib.ListN.{length, getD, drop, length-append}
+use lib.Seq.{drop-append-seam, getD-append-seam, drop-drop}
 use native.Mathlib.Omega.{arith}
 use borrow.Author.Tests.{eq-eqb, ne-eqb}
-use Rattle.spec_base.specs.base.Ascii.{ascii}
 use Rattle.spec_base.specs.base.Width.{byWidth}
 use Rattle.spec_text.specs.pattern.Find.{starts}
 use Rattle.spec_text.specs.text.Number.{digit}
 use Rattle.spec_json.specs.json.Space.{isSpace, spaces, more, joined, padded}
-use Rattle.spec_json.specs.json.Str.{stringWidth, stringBytes}
+use Rattle.spec_json.specs.json.Str.{stringWidth}
 use Rattle.spec_json.specs.json.Num.{numberWidth}
-use Rattle.spec_json.specs.json.Value.{literalWidth, scalarWidth, colonAt, keyWidth, memberWidth, insideWidth, insideItems, valueWidth}
-use Rattle.spec_json.specs.json.Member.{bare}
+use Rattle.spec_json.specs.json.Value.{literalWidth, scalarWidth, colonAt, keyWidth, memberWidth, insideWidth, valueWidth}
 use Rattle.spec_json.specs.json.Quote.{quoted, decimal}
-use Rattle.spec_json.proofs.json.StringBack.{string-width, string-bytes}
-use Rattle.spec_json.proofs.json.NumberBack.{Stops, Plain, plain, number-width}
+use Rattle.spec_json.proofs.json.StringBack.{string-width}
+use Rattle.spec_json.proofs.json.NumberBack.{Stops, plain, number-width}
 
 -- ---- white space
 abbrev pub AllSpace : List ℕ → Type 0

@@ -1,43 +1,31 @@
 -- Laws of values, as the code walks them: sizes, one item of a row, and fuel.
 use mathlib.Core.Path.{_≡_, refl, sym, ap, subst, _∙_}
-use mathlib.Core.Bool.{Bool, true, false, not, _||_, cond, true≢false}
-use mathlib.Core.List.{List, [], _∷_, _++_}
-use Prim.Native.Nat.{ℕ, zero, suc, _+_, _*_, _-_, _^_, _≤_, _<_}
+use mathlib.Core.Bool.{Bool, true, false, cond, true≢false}
+use mathlib.Core.List.{List, [], _∷_}
+use Prim.Native.Nat.{ℕ, zero, suc, _+_, _-_, _^_, _≤_, _<_}
 use native.Mathlib.Omega.{arith}
-use native.Mathlib.Nat.{zero-add}
 use native.Mathlib.Numerals.{add-one}
-use borrow.Author.Tests.{eq-eqb, ne-eqb, eqb-true, eqb-false, not-true, not-false}
-use lib.Dec.{eqb, ltb, leb}
-use lib.ListN.{length, take, drop, getD, length-drop, drop-of-length-le}
-use lib.Seq.{drop-drop, drop-length}
+use borrow.Author.Tests.{eq-eqb, ne-eqb, eqb-true}
+use lib.Dec.{eqb}
+use lib.ListN.{length, drop, getD, length-drop}
 use Rattle.spec_base.specs.base.Ascii.{ascii}
 use Rattle.spec_base.specs.base.Width.{byWidth}
 use Rattle.spec_base.proofs.base.Laws.{yes!, no! }
 use Rattle.spec_text.specs.pattern.Find.{starts}
-use Rattle.spec_json.specs.json.Space.{spaces, more, joined, padded}
+use Rattle.spec_json.specs.json.Space.{spaces, joined, padded}
 use Rattle.spec_json.specs.json.Str.{stringWidth}
 use Rattle.spec_json.specs.json.Num.{numberWidth}
-use Rattle.spec_json.specs.json.Value.{literalWidth, scalarWidth, colonAt, keyWidth, memberWidth, rowWidth, insideWidth, valueWidth}
-use Rattle.spec_json.specs.json.Walk.{isOpen, closeOf, leadWidth, itemWidth}
+use Rattle.spec_json.specs.json.Value.{literalWidth, scalarWidth, colonAt, keyWidth, memberWidth, rowWidth}
 use Rattle.spec_json.proofs.json.SpaceLaws.{spaces-le}
-use Rattle.spec_json.proofs.json.NumberLaws.{number-le, more-some}
+use Rattle.spec_json.proofs.json.NumberLaws.{number-le, cut-le}
 use Rattle.spec_json.proofs.json.StringLaws.{in-text}
-use Rattle.spec_json.proofs.json.CharsLaws.{string-le, joined-more, joined-twice, more-joined}
+use Rattle.spec_json.proofs.json.CharsLaws.{string-le}
+use Rattle.spec_text.proofs.pattern.PieceLaws.{starts-long}
 
 -- ---- scalars
-starts-le : (p s : List ℕ) → starts p s ≡ true → length p ≤ length s
-unfolding starts
-starts-le [] s e = omega arith
-starts-le (a ∷ p) [] e = absurd (true≢false (sym e))
-starts-le (a ∷ p) (b ∷ s) e = go (eqb a b) e (starts-le p s)
-  where
-    go : (t : Bool) → cond t (starts p s) false ≡ true → (starts p s ≡ true → length p ≤ length s) → suc (length p) ≤ suc (length s)
-    go true e ih = let z = ih e in omega arith
-    go false e ih = absurd (true≢false (sym e))
-
 literal-le : (s : List ℕ) → literalWidth s ≤ length s
 unfolding literalWidth
-literal-le s = go (starts (ascii "true") s) (starts (ascii "null") s) (starts (ascii "false") s) (starts-le (ascii "true") s) (starts-le (ascii "null") s) (starts-le (ascii "false") s)
+literal-le s = go (starts (ascii "true") s) (starts (ascii "null") s) (starts (ascii "false") s) (starts-long (ascii "true") s) (starts-long (ascii "null") s) (starts-long (ascii "false") s)
   where
     go : (p q r : Bool) → (p ≡ true → 4 ≤ length s) → (q ≡ true → 4 ≤ length s) → (r ≡ true → 5 ≤ length s) → cond p 4 (cond q 4 (cond r 5 0)) ≤ length s
     go true q r f g h = f refl
@@ -78,9 +66,6 @@ unfolding scalarWidth
 scalar-literal s b n e h p z = no! _ (ne-eqb _ _ (λ k. h (e ∙ k))) (by-self n (numberWidth s) z ∙ ap (λ (k : ℕ). byWidth k (numberWidth s) (λ k. suc k)) p)
 
 -- ---- keys
-pub cut-le : (f : List ℕ → ℕ) → ((s : List ℕ) → f s ≤ length s) → (s t : List ℕ) (m : ℕ) → t ≡ drop m s → f t ≤ length s - m
-cut-le f le s t m e = subst (λ (k : ℕ). f t ≤ k) (ap length e ∙ length-drop m s) (le t)
-
 module _ (s t : List ℕ) (a k : ℕ) (ea : a ≡ spaces s) (dt : t ≡ drop a s) (ek : k ≡ stringWidth t) where
   key-by : stringWidth (drop (spaces s) s) ≡ k
   key-by = ap (λ (n : ℕ). stringWidth (drop n s)) (sym ea) ∙ ap stringWidth (sym dt) ∙ sym ek

@@ -1,9 +1,8 @@
 -- What an array holds and what an object says, where they are values of depth `suc d`.
-use Prim.Native.Nat.{ℕ, zero, suc, _+_}
-use mathlib.Core.Bool.{Bool, true, false, _&&_, _||_, not, cond}
+use Prim.Native.Nat.{ℕ}
+use mathlib.Core.Bool.{cond}
 use mathlib.Core.List.{List, [], _∷_}
-use lib.Dec.{eqb}
-use lib.ListN.{length, getD, take, drop}
+use lib.ListN.{take, drop}
 use Rattle.spec_text.specs.pattern.Find.{equals}
 use Rattle.spec_json.specs.json.Space.{spaces, padded}
 use Rattle.spec_json.specs.json.Str.{stringBytes}

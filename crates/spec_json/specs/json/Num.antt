@@ -6,7 +6,7 @@ use Prim.Native.Nat.{ℕ, zero, suc, _+_}
 use mathlib.Core.Bool.{Bool, true, false, _&&_, _||_, cond}
 use mathlib.Core.List.{List, [], _∷_}
 use lib.Dec.{eqb, leb}
-use lib.ListN.{length, getD, drop}
+use lib.ListN.{getD, drop}
 use Rattle.spec_base.specs.base.Width.{byWidth}
 use Rattle.spec_text.specs.text.Number.{digit, digits, valueFrom}
 use Rattle.spec_text.specs.text.Line.{isEmpty}

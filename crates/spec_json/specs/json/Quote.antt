@@ -3,7 +3,7 @@ use Prim.Native.Nat.{ℕ, _+_, _/_, _%_}
 use mathlib.Core.Bool.{cond}
 use mathlib.Core.List.{List, [], _∷_, _++_}
 use lib.Dec.{eqb, ltb}
-use Rattle.spec_caption.specs.caption_stamp.Write.{pad, width}
+use Rattle.spec_time.specs.caption_stamp.Write.{pad, width}
 
 -- ---- strings: `\" \\ \b \t \n \f \r`, other bytes below 20 as `\u00xx` in lower case, all others as they are
 unfoldable pub hexLetter : ℕ → ℕ

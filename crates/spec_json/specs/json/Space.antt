@@ -1,7 +1,7 @@
 -- RFC 8259, section 2: white space. A width of 0 says that nothing of the wanted form stands at the head of the text.
 --     ws = *( %x20 / %x09 / %x0A / %x0D )
 use Prim.Native.Nat.{ℕ, zero, suc, _+_}
-use mathlib.Core.Bool.{Bool, true, false, _||_, cond}
+use mathlib.Core.Bool.{Bool, _||_, cond}
 use mathlib.Core.List.{List, [], _∷_}
 use lib.Dec.{eqb}
 use lib.ListN.{drop}

@@ -4,7 +4,7 @@
 --     unescaped = %x20-21 / %x23-5B / %x5D-10FFFF
 -- A surrogate stands only as a high one directly followed by a low one, both escaped; one alone is refused (document 02, 2.1).
 use Prim.Native.Nat.{ℕ, zero, suc, _+_, _*_, _-_}
-use mathlib.Core.Bool.{Bool, true, false, _&&_, _||_, cond}
+use mathlib.Core.Bool.{Bool, true, false, _&&_, cond}
 use mathlib.Core.List.{List, [], _∷_, _++_}
 use lib.Dec.{eqb, ltb, leb}
 use lib.ListN.{getD, take, drop}

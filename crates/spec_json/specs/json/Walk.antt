@@ -1,7 +1,7 @@
 -- The parts of a row as the code walks them: what stands before the value of an item, and the item, in an array (opened by 5B) or an object (7B).
-use Prim.Native.Nat.{ℕ, zero, suc, _+_}
+use Prim.Native.Nat.{ℕ, suc, _+_}
 use mathlib.Core.Bool.{Bool, _||_, cond}
-use mathlib.Core.List.{List, [], _∷_}
+use mathlib.Core.List.{List, []}
 use lib.Dec.{eqb}
 use lib.ListN.{length, getD, drop}
 use Rattle.spec_base.specs.base.Width.{byWidth}

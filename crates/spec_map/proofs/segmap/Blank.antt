@@ -1,18 +1,16 @@
 -- What a blank list comes to (document 02, 2.4): the range of all n frames, snapped.
-use mathlib.Core.Path.{_≡_, refl, sym, ap, subst, _∙_}
+use mathlib.Core.Path.{_≡_, refl, sym, subst, _∙_}
 use mathlib.Core.Bool.{Bool, true, false, cond}
-use mathlib.Core.Logic.{_⊎_, inl, inr}
+use mathlib.Core.Logic.{inr}
 use mathlib.Core.List.{List, [], _∷_}
 use Prim.Native.Nat.{ℕ, zero, suc, _+_, _-_, _≤_, _<_, min}
 use native.Mathlib.Omega.{arith}
 use borrow.Author.Tests.{le-leb, lt-leb}
-use lib.Dec.{leb}
 use Rattle.spec_base.specs.base.Refusal.{_orElse_, faultUnless}
 use Rattle.spec_sheet.specs.sheet_frames.Frames.{framesOf, decodeOf, syncOf, ticksFrom}
 use Rattle.spec_text.specs.text.Line.{blank}
-use Rattle.spec_map.specs.plan.Snap.{lastBelow, firstFrom, floorSync, ceilSync, snapStart, snapEnd, snapAll, overlapsFault}
-use Rattle.spec_map.proofs.plan.SnapMeaning.{NoSync, LastSync, FirstSync, floor-only, ceil-only}
-use Rattle.spec_map.specs.declared.segment.Segment.{Segment}
+use Rattle.spec_trim.specs.plan.Snap.{lastBelow, firstFrom, floorSync, ceilSync, snapStart, snapEnd, snapAll, overlapsFault}
+use Rattle.spec_trim.proofs.plan.SnapMeaning.{NoSync, LastSync, FirstSync, floor-only, ceil-only}
 use Rattle.spec_map.specs.segment.Segment.{segment}
 use Rattle.spec_map.specs.segmap.Build.{sourceStart, rangeTicks, rangeFault, rangesFault, segmentIn, segmentsIn}
 use Rattle.spec_map.specs.segmap.Map.{rangesFor, snappedOf}

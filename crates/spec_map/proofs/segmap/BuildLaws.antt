@@ -12,7 +12,7 @@ use Rattle.spec_base.specs.base.Refusal.{_orElse_, faultUnless}
 use Rattle.spec_base.proofs.base.PutLaws.{sets-put}
 use Rattle.spec_base.proofs.base.RefusalLaws.{held, else-zero, else-none, else-found}
 use Rattle.spec_sheet.specs.sheet_frames.Frames.{decodeOf, ticksFrom}
-use Rattle.spec_map.proofs.plan.PairLaws.{leftOf, pairs-start, left-cut, left-short, pairs-done}
+use Rattle.spec_trim.proofs.plan.PairLaws.{leftOf, pairs-start, left-cut, left-short, pairs-done}
 use Rattle.spec_map.specs.declared.segment.Segment.{Segment}
 use Rattle.spec_map.specs.segment.Segment.{segment, numbersOf, flatOf}
 use Rattle.spec_map.specs.segmap.Build.{sourceStart, rangeTicks, keptTicks, rangeFault, rangesFault, segmentIn, segmentsIn}

@@ -13,7 +13,7 @@ use Rattle.spec_base.specs.base.Limits.{mostFrames, mostFrame, mostTicks, mostS
 use Rattle.spec_base.specs.base.Put.{put}
 use Rattle.spec_base.specs.base.Refusal.{_orElse_, faultUnless}
 use Rattle.spec_base.proofs.base.Laws.{yes!, no! }
-use Rattle.spec_base.proofs.base.PutLaws.{put-nil, take-put}
+use Rattle.spec_base.proofs.base.PutLaws.{take-put}
 use Rattle.spec_base.proofs.base.RefusalLaws.{else-zero, else-either, held, unless-held}
 use Rattle.spec_sheet.specs.sheet_frames.Frames.{framesOf, timescaleOf, longOf, decodeOf, durationOf, ticksFrom}
 use Rattle.spec_sheet.specs.sheet_permutation.Once.{EachOnce}
@@ -21,17 +21,17 @@ use Rattle.spec_sheet.proofs.sheet_permutation.NamedLaws.{sum, display-sum}
 use Rattle.spec_sheet.specs.sheet.Sheet.{sheetFault, sheetNumber}
 use Rattle.spec_base.proofs.base.RefusalNumbers.{else-numbers, unless-numbers}
 use Rattle.spec_sheet.proofs.sheet.SheetLaws.{SheetNumber, sheet-numbers, sheet-short, checked, sound-head}
-use Rattle.spec_map.specs.trim.TrimList.{listNumber}
-use Rattle.spec_map.proofs.trim.RangeLaws.{OfList, list-number-table}
-use Rattle.spec_map.specs.plan.Snap.{overlapsFault}
-use Rattle.spec_map.proofs.plan.SnapMeaning.{Bounded, snap-bounded, overlap-numbers, overlap-apart}
+use Rattle.spec_trim.specs.trim.TrimList.{listNumber}
+use Rattle.spec_trim.proofs.trim.RangeLaws.{OfList, list-number-table}
+use Rattle.spec_trim.specs.plan.Snap.{overlapsFault}
+use Rattle.spec_trim.proofs.plan.SnapMeaning.{Bounded, snap-bounded, overlap-numbers, overlap-apart}
 use Rattle.spec_map.specs.declared.segment.Segment.{Segment}
 use Rattle.spec_map.specs.declared.segmap.Made.{Made}
 use Rattle.spec_map.specs.segment.Segment.{segment, flatOf, endBad, segmentBad, anyBad, mapBad}
 use Rattle.spec_map.specs.segmap.Build.{sourceStart, rangeTicks, keptTicks, rangeFault, rangesFault, keptNumber, segmentIn, segmentsIn}
 use Rattle.spec_map.specs.segmap.Map.{rangesFor, keptCount, snappedOf, cutNumber, mapNumber, Map, mapAnswer, mapOf, madeOf}
 use Rattle.spec_map.proofs.segment.SegmentLaws.{flat-back, flat-length}
-use Rattle.spec_sheet.proofs.sheet_frames.TicksLaws.{ticks-none, ticks-split, ticks-more, ticks-most, ticks-within}
+use Rattle.spec_sheet.proofs.sheet_frames.TicksLaws.{ticks-none, ticks-split, ticks-more, ticks-most}
 use Rattle.spec_map.proofs.segmap.KeptLaws.{segments-count}
 use Rattle.spec_map.proofs.segmap.BuildLaws.{fault-free, faults-cut}
 use Rattle.spec_map.proofs.segmap.MapLaws.{kept-few, kept-length, snapped-length}
@@ -155,9 +155,6 @@ module _ (s : List ℕ) (bytes : (j : ℕ) → getD s j 0 < 256) (short : longOf
       let u = overlap-apart p a e r v in
       omega (arith, g .0, u .0, b .1 .0, range-most a e, kept-most e r (b .1 .0) (b .1 .1) (u .1) (w .1))
 
-  pub samples-within : n ≤ mostFrames → ticksFrom s 0 n ≤ mostTicks
-  samples-within h = ticks-within s bytes short 0 n h
-
   pub kept-within : (l : List ℕ) → n ≤ mostFrames → Bounded n l → overlapsFault 0 l ≡ 0 → rangesFault s n l ≡ 0 → keptTicks s l ≤ mostTicks
   kept-within l h b v z = omega (arith, kept-most 0 l (omega arith) b v z)
 
@@ -261,22 +258,14 @@ module _ (sheet list : List ℕ) (d lent work : ℕ) where
     unfolding madeOf
     told-number = ap (λ (x : Made). x .number) e ∙ map-number
 
-    pub told-timescale : r .timescale ≡ mapOf sheet list d lent work .timescale
-    unfolding madeOf
-    told-timescale = ap (λ (x : Made). x .timescale) e
-
     pub told-count : r .count ≡ mapOf sheet list d lent work .count
     unfolding madeOf
     told-count = ap (λ (x : Made). x .count) e
 
-  -- a refusal has no segments, and writes nothing
+  -- a refusal has no segments, so that nothing is written
   pub map-refused : (mapNumber sheet list d lent work ≡ 0 → ⊥) → mapOf sheet list d lent work .segments ≡ []
   unfolding mapOf
   map-refused h = answer-refused (mapNumber sheet list d lent work) (timescaleOf sheet) (segmentsIn sheet 0 (snappedOf sheet list d)) h
-
-  pub map-kept : (m : List ℕ) → (mapNumber sheet list d lent work ≡ 0 → ⊥) → put (flatOf (mapOf sheet list d lent work .segments)) m ≡ m
-  unfolding flatOf
-  map-kept m h = ap (λ (xs : List Segment). put (flatOf xs) m) (map-refused h) ∙ put-nil m
 
 -- ---- a map that is made: the number is 0
 pub record MadeParts (sheet list : List ℕ) (d lent work : ℕ) : Type 0 where

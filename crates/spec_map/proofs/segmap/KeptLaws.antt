@@ -1,5 +1,5 @@
 -- Laws of the numbers of snapped ranges, and of their segments built apart and copied.
-use mathlib.Core.Path.{_≡_, refl, sym, ap, _∙_}
+use mathlib.Core.Path.{_≡_, sym, ap, _∙_}
 use mathlib.Core.List.{List, [], _∷_}
 use Prim.Native.Nat.{ℕ, _+_, _-_, _*_, _≤_, _<_}
 use native.Mathlib.Omega.{arith}
@@ -9,10 +9,10 @@ use lib.ListN.{length, take}
 use lib.Seq.{length-take-le}
 use Rattle.spec_base.specs.base.Limits.{mostTicks}
 use Rattle.spec_base.specs.base.Put.{put}
-use Rattle.spec_base.specs.base.Refusal.{_orElse_, faultUnless}
+use Rattle.spec_base.specs.base.Refusal.{faultUnless}
 use Rattle.spec_base.proofs.base.PutLaws.{take-put}
 use Rattle.spec_base.proofs.base.RefusalLaws.{else-here, else-next, unless-held, unless-failed}
-use Rattle.spec_map.specs.plan.Snap.{overlapsFault}
+use Rattle.spec_trim.specs.plan.Snap.{overlapsFault}
 use Rattle.spec_map.specs.declared.segment.Segment.{Segment}
 use Rattle.spec_map.proofs.segment.SegmentLaws.{flat-length}
 use Rattle.spec_map.specs.segment.Segment.{flatOf}

@@ -2,7 +2,7 @@
 use mathlib.Core.Path.{_≡_, refl, sym, ap, _∙_}
 use mathlib.Core.Bool.{Bool, true, false, cond}
 use mathlib.Core.List.{List, [], _∷_}
-use Prim.Native.Nat.{ℕ, zero, suc, _+_, _-_, _*_, _≤_, _<_}
+use Prim.Native.Nat.{ℕ, zero, suc, _*_, _≤_, _<_}
 use native.Mathlib.Omega.{arith}
 use borrow.Author.Tests.{le-leb, lt-leb, eq-eqb, ne-eqb}
 use lib.Dec.{eqb}
@@ -20,11 +20,11 @@ use Rattle.spec_sheet.specs.declared.sheet.Head.{Head}
 use Rattle.spec_sheet.specs.declared.sheet.Sheet.{Sheet}
 use Rattle.spec_sheet.specs.declared.sheet.Sheet.the-variants.{Sound, Refused}
 use Rattle.spec_sheet.proofs.sheet.SheetLaws.{sound-head, checked, sound-answer, refused-answer}
-use Rattle.spec_map.specs.trim.TrimList.{rangesIn, listNumber, rangesOf, rangeCount, parsed, listAnswer, parseOf, rangePlaces}
-use Rattle.spec_map.specs.declared.trim.Parsed.{Parsed}
-use Rattle.spec_map.proofs.trim.RangeLaws.{parse-number, parse-lent, range-count-most, ranges-length, answered-count, places-front, places-written, none-blank, list-none}
-use Rattle.spec_map.specs.plan.Snap.{snapAll}
-use Rattle.spec_map.proofs.plan.SnapLaws.{snap-length}
+use Rattle.spec_trim.specs.trim.TrimList.{rangesIn, listNumber, rangesOf, rangeCount, parsed, listAnswer, parseOf, rangePlaces}
+use Rattle.spec_trim.specs.declared.trim.Parsed.{Parsed}
+use Rattle.spec_trim.proofs.trim.RangeLaws.{parse-number, parse-lent, range-count-most, ranges-length, answered-count, places-front, places-written, none-blank, list-none}
+use Rattle.spec_trim.specs.plan.Snap.{snapAll}
+use Rattle.spec_trim.proofs.plan.SnapLaws.{snap-length}
 use Rattle.spec_map.specs.declared.segment.Segment.{Segment}
 use Rattle.spec_map.specs.declared.segmap.Made.{Made}
 use Rattle.spec_map.specs.segment.Segment.{flatOf}
@@ -182,9 +182,6 @@ module _ (list l m : List ℕ) (n : ℕ) (p : Parsed) (e : p ≡ parseOf list (l
   kept-by : (k : ℕ) → k ≡ cond (eqb (listNumber list) 0) (keptCount list) 0 → parsed (p .number) k ≡ keptOf list
   unfolding keptOf
   kept-by k q = rw (parsed-number, q)
-
-  answer-is : p ≡ parsed (p .number) (p .count)
-  answer-is = refl
 
   pub kept-refused : (p .number ≡ 0 → ⊥) → p ≡ keptOf list
   unfolding parseOf listAnswer

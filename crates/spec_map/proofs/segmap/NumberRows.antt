@@ -1,6 +1,6 @@
 -- 16 comes first of a map's numbers: fewer than 6,144 places, and a direction above 1. By computation, with an empty sheet (11).
 use mathlib.Core.Path.{_≡_, refl}
-use mathlib.Core.List.{List, [], _∷_}
+use mathlib.Core.List.{[], _∷_}
 use Rattle.spec_base.specs.base.Refusal.{_orElse_, faultUnless}
 use Rattle.spec_sheet.specs.sheet.Sheet.{sheetFault, sheetNumber}
 use Rattle.spec_map.specs.segmap.Map.{mapNumber}

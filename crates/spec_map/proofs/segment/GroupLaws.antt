@@ -1,5 +1,5 @@
 -- Laws of a map in groups, and of small numbers.
-use mathlib.Core.Path.{_≡_, refl, sym, ap, subst, _∙_}
+use mathlib.Core.Path.{_≡_, refl, sym, ap, _∙_}
 use mathlib.Core.Bool.{Bool, true, false, cond, _&&_, not, true≢false}
 use mathlib.Core.List.{List, [], _∷_, _++_, append-assoc}
 use Prim.Native.Nat.{ℕ, zero, suc, _+_, _-_, _*_, _/_, _%_, _^_, _≤_, _<_, min, max}
@@ -10,7 +10,7 @@ use lib.ListN.{length, take, drop, getD, length-drop, length-append, length-take
 use lib.Seq.{length-take-le}
 use Rattle.spec_base.specs.base.Limits.{mostFrame, mostTicks, mostSegments}
 use Rattle.spec_base.specs.base.Put.{put, putAt, placedAt, placeAfter}
-use Rattle.spec_base.proofs.base.Laws.{and-left, and-right, and-false, and-true, yes!, no! }
+use Rattle.spec_base.proofs.base.Laws.{and-left, and-right, and-false}
 use Rattle.spec_base.proofs.base.PutLaws.{put-nil, putAt-zero, putAt-nil, at-yes, after-yes, then-put, put-at-front, length-put}
 use Rattle.spec_map.specs.declared.segment.Segment.{Segment}
 use Rattle.spec_map.specs.declared.segment.Surveyed.{Surveyed}
@@ -77,10 +77,6 @@ large-tells a b q k o d =
     all false false true u v w = refl
     all false false false true v w = refl
     all false false false false v w = refl
-
-pub large-few : (a b q k o d : ℕ) → a < 2 ^ 64 → b < 2 ^ 64 → q < 2 ^ 64 → k < 2 ^ 64 → o < 2 ^ 64 → d < 2 ^ 64
-    → a / 4294967296 + b / 4294967296 + k / 4294967296 + q / 4503599627370496 + o / 4503599627370496 + d / 4503599627370496 ≤ 2 ^ 34
-large-few a b q k o d ha hb hq hk ho hd = omega arith
 
 large-cut : (t : List ℕ) → 6 ≤ length t
     → anyLarge (segmentsOf t)
@@ -163,11 +159,6 @@ pub record Survey (m t : List ℕ) (n excess : ℕ) (g₀ g : List ℕ) : Type 0
   pub count : n + length (groupsOf t) ≡ length (groupsOf m)
   pub written : putAt n (groupsOf t) g ≡ put (groupsOf m) g₀
   pub large : cond (ltb 0 excess) true (anyLarge (segmentsOf t)) ≡ anyLarge (segmentsOf m)
-
-length-groups : (n : ℕ) (t : List ℕ) → length (groupsBy n t) ≡ 2 * n
-unfolding groupsBy
-length-groups zero t = refl
-length-groups (suc n) t = rw (length-groups n (drop 96 t)) (omega arith)
 
 pub survey-start : (m g : List ℕ) (r : ℕ) → r ≡ length m % 6 → r ≡ 0 → length m ≤ 6 * mostSegments → 128 ≤ length g → Survey m m 0 0 g g
 survey-start m g r e z h l =

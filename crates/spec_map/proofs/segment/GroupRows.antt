@@ -1,8 +1,7 @@
 -- Groups of a map and small numbers, by computation: bounds of a group, where a group ends, and each limit from both sides.
 use mathlib.Core.Path.{_≡_, refl}
-use mathlib.Core.Bool.{Bool, true, false, _&&_, cond}
-use mathlib.Core.List.{List, [], _∷_, map}
-use Prim.Native.Nat.{ℕ}
+use mathlib.Core.Bool.{true, false}
+use mathlib.Core.List.{[], _∷_}
 use lib.ListN.{length, replicate}
 use Rattle.spec_map.specs.segment.Segment.{segment, segmentsOf}
 use Rattle.spec_map.specs.segment.Groups.{lowOf, highOf, groupsBy, groupsOf, segmentLarge, surveyable}

@@ -6,7 +6,7 @@ use lib.Dec.{leb}
 use Rattle.spec_base.specs.base.Limits.{mostTicks}
 use Rattle.spec_base.specs.base.Refusal.{_orElse_, faultUnless}
 use Rattle.spec_sheet.specs.sheet_frames.Frames.{decodeOf, ticksFrom}
-use Rattle.spec_map.specs.plan.Snap.{overlapsFault}
+use Rattle.spec_trim.specs.plan.Snap.{overlapsFault}
 use Rattle.spec_map.specs.declared.segment.Segment.{Segment}
 use Rattle.spec_map.specs.segment.Segment.{segment}
 

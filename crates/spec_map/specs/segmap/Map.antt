@@ -9,9 +9,9 @@ use Rattle.spec_base.specs.base.Refusal.{_orElse_, faultUnless}
 use Rattle.spec_sheet.specs.sheet_frames.Frames.{framesOf, timescaleOf}
 use Rattle.spec_sheet.specs.sheet.Sheet.{sheetNumber, workAfter}
 use Rattle.spec_text.specs.text.Line.{blank}
-use Rattle.spec_map.specs.trim.TrimList.{listNumber, rangeCount, rangesOf, parsed}
-use Rattle.spec_map.specs.declared.trim.Parsed.{Parsed}
-use Rattle.spec_map.specs.plan.Snap.{snapAll}
+use Rattle.spec_trim.specs.trim.TrimList.{listNumber, rangeCount, rangesOf, parsed}
+use Rattle.spec_trim.specs.declared.trim.Parsed.{Parsed}
+use Rattle.spec_trim.specs.plan.Snap.{snapAll}
 use Rattle.spec_map.specs.declared.segment.Segment.{Segment}
 use Rattle.spec_map.specs.declared.segmap.Made.{Made}
 use Rattle.spec_map.specs.segmap.Build.{keptNumber, segmentsIn}

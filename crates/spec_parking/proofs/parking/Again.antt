@@ -13,26 +13,19 @@ use Rattle.spec_base.specs.base.Limits.{mostHeld}
 use Rattle.spec_sheet.specs.checked_blocks.Block.{wordAt, sumWords, blockHolds}
 use Rattle.spec_session.specs.declared.session_state.Session.{Session}
 use Rattle.spec_session.specs.session_state.View.{heldOf}
-use Rattle.spec_session.specs.session_counts.Session.{isOutcome}
+use Rattle.spec_machine.specs.session_counts.Session.{isOutcome}
 use Rattle.spec_session.proofs.session_state.ViewLaws.{held-length}
 use Rattle.spec_parking.specs.parking.Parked.{flag, headWords, keptBytes, parkedOf, isMark, isFlag, unusedZero, isParked, sessionIn, remembered}
 use Rattle.spec_parking.specs.parking.Parkings.{Mark}
-use Rattle.spec_parking.specs.parked_blocks.Sealed.{sealedLength, bodyLength, roomLength, wordBytes, wordsBytes, sealed, sealedAll, filled, rowOf, allHold, roomOf, allZero, isRow}
-use Rattle.spec_parking.proofs.parked_blocks.Bytes.{Words, sealed-length, block-holds, all-hold, bodies-back, head-word, words-append, all-length, block-parts}
+use Rattle.spec_parked_blocks.specs.parked_blocks.Sealed.{sealedLength, bodyLength, roomLength, wordBytes, wordsBytes, sealed, sealedAll, filled, rowOf, allHold, roomOf, allZero, isRow}
+use Rattle.spec_parked_blocks.proofs.parked_blocks.Bytes.{Words, sealed-length, block-holds, all-hold, bodies-back, head-word, words-append, all-length, block-parts}
+use Rattle.spec_parked_blocks.proofs.parked_blocks.WriteLaws.{filled-size, take-zeros}
 
 -- ---- zeros
 zeros : (n : ℕ) → allZero (replicate n 0) ≡ true
 unfolding allZero
 zeros zero = refl
 zeros (suc n) = zeros n
-
-take-zeros : (n m : ℕ) → n ≤ m → take n (replicate {A = ℕ} m 0) ≡ replicate n 0
-take-zeros zero m h = refl
-take-zeros (suc n) zero h = absurd (omega arith)
-take-zeros (suc n) (suc m) h = ap (λ (l : List ℕ). 0 ∷ l) (take-zeros n m (omega arith))
-
-filled-length : (n : ℕ) (l : List ℕ) → length l ≤ n → length (filled n l) ≡ n
-filled-length n l h = omega (arith, length-append l (replicate (n - length l) 0), length-replicate {A = ℕ} (n - length l) 0)
 
 filled-drop : (n : ℕ) (l : List ℕ) → drop (length l) (filled n l) ≡ replicate (n - length l) 0
 filled-drop n l = drop-append-seam l (replicate (n - length l) 0)
@@ -81,11 +74,11 @@ module _ (k : ℕ) (s : Session) (mark : Mark k) (words : Words (headWords k s))
 
   body-count : length B ≡ bodyLength
   unfolding B
-  body-count = filled-length bodyLength (wordsBytes H) (omega (arith, words-count))
+  body-count = filled-size bodyLength (wordsBytes H) (omega (arith, words-count))
 
   room-count : length L ≡ roomLength
   unfolding L
-  room-count = filled-length roomLength (keptBytes s) (omega (arith, kept-small))
+  room-count = filled-size roomLength (keptBytes s) (omega (arith, kept-small))
 
   parked-is : P ≡ sealed 0 B ++ (sealedAll 1 17 L ++ [])
   unfolding P B L H parkedOf rowOf

@@ -6,13 +6,13 @@ use Prim.Native.Nat.{ℕ}
 use lib.ListN.{replicate}
 use Rattle.spec_base.specs.base.Refusal.{_orElse_, faultUnless}
 use Rattle.spec_sheet.specs.checked_blocks.Block.{wordAt}
-use Rattle.spec_caption.specs.caption_time.Kind.{kindBad}
-use Rattle.spec_caption.specs.caption_time.Convert.{timescaleBad}
-use Rattle.spec_session.specs.session_counts.Session.{isOutcome, outcomeBad}
-use Rattle.spec_session.specs.kinds.Kit.{heldBad, columnsBad}
+use Rattle.spec_time.specs.caption_time.Kind.{kindBad}
+use Rattle.spec_time.specs.caption_time.Convert.{timescaleBad}
+use Rattle.spec_machine.specs.session_counts.Session.{isOutcome, outcomeBad}
+use Rattle.spec_machine.specs.kinds.Kit.{heldBad, columnsBad}
 use Rattle.spec_session.specs.declared.session_state.Session.{Session}
 use Rattle.spec_session.specs.session_state.View.{heldOf, foreignOf}
-use Rattle.spec_parking.specs.parked_blocks.Sealed.{wordBytes, wordsBytes, isRow, bodies, allZero}
+use Rattle.spec_parked_blocks.specs.parked_blocks.Sealed.{wordBytes, wordsBytes, isRow, bodies, allZero}
 use Rattle.spec_parking.specs.parking.Parked.{unusedZero, isParked, sessionIn}
 use Rattle.spec_parking.specs.parking.Parkings.{parkNumber, takeNumber, whenDone}
 

@@ -14,21 +14,21 @@ use Rattle.spec_base.specs.base.Put.{put}
 use Rattle.spec_base.proofs.base.Laws.{and-left, and-right}
 use Rattle.spec_base.proofs.base.PutLaws.{put-nil, take-put}
 use Rattle.spec_sheet.specs.checked_blocks.Block.{wordAt}
-use Rattle.spec_format.specs.declared.ass_columns.Columns.{Columns}
+use Rattle.spec_ass.specs.declared.ass_columns.Columns.{Columns}
 use Rattle.spec_caption.specs.declared.caption_fate.Config.{Config}
-use Rattle.spec_session.specs.declared.session_counts.Counts.{Counts}
-use Rattle.spec_session.specs.session_counts.Session.{isOutcome}
-use Rattle.spec_session.specs.session_counts.Session as model
+use Rattle.spec_machine.specs.declared.session_counts.Counts.{Counts}
+use Rattle.spec_machine.specs.session_counts.Session.{isOutcome}
+use Rattle.spec_machine.specs.session_counts.Session as model
 use Rattle.spec_session.specs.declared.session_state.Session.{Session}
 use Rattle.spec_session.specs.declared.session_state.Head.{Head}
 use Rattle.spec_session.specs.session_state.Head.{headOf}
 use Rattle.spec_session.specs.session_state.View.{heldOf, stored}
 use Rattle.spec_session.proofs.session_state.ViewLaws.{held-padded}
-use Rattle.spec_parking.specs.parked_blocks.Sealed.{sealedLength, bodyLength, roomLength, rowOf, roomOf, allZero, isRow}
-use Rattle.spec_parking.specs.parked_blocks.First.{blocksFor, firstBlocks, firstIn, firstRoom, shortRow, unsealedFirst}
-use Rattle.spec_parking.proofs.parked_blocks.ReadLaws.{row-length, room-length}
-use Rattle.spec_parking.proofs.parked_blocks.WriteLaws.{blocks-few}
-use Rattle.spec_parking.proofs.parked_blocks.FirstLaws.{zero-drop, first-over}
+use Rattle.spec_parked_blocks.specs.parked_blocks.Sealed.{sealedLength, bodyLength, roomLength, rowOf, roomOf, allZero, isRow}
+use Rattle.spec_parked_blocks.specs.parked_blocks.First.{blocksFor, firstBlocks, firstIn, firstRoom, shortRow, unsealedFirst}
+use Rattle.spec_parked_blocks.proofs.parked_blocks.ReadLaws.{row-length, room-length}
+use Rattle.spec_parked_blocks.proofs.parked_blocks.WriteLaws.{blocks-few}
+use Rattle.spec_parked_blocks.proofs.parked_blocks.FirstLaws.{zero-drop, first-over}
 use Rattle.spec_parking.specs.parking.Parked.{keptBytes, parkedOf, isMark, isFlag, unusedZero, isParked, sessionIn}
 use Rattle.spec_parking.specs.parking.Head.{headNumbers, headIn, inNumber, copiedIn, TakesIn, headBytes, restored}
 use Rattle.spec_parking.proofs.parking.StoreLaws.{head-length, same-words}
@@ -167,10 +167,6 @@ module _ (b room : List ℕ) where
       in-unsound p h z = by-parked false (sym h ∙ z)
 
 -- ---- the numbers
-pub head-is : (b : List ℕ) → headIn b ≡ headNumbers (sessionIn b)
-unfolding headIn
-head-is b = refl
-
 pub head-made : (s : List ℕ) (g : Config) (n : Counts) (m : Columns) (e o t l h : ℕ)
     → g ≡ sessionIn s .config → n ≡ sessionIn s .counts → m ≡ sessionIn s .columns
     → e ≡ wordAt s 4 → o ≡ wordAt s 5 → t ≡ wordAt s 6 → l ≡ wordAt s 7 → h ≡ wordAt s 16

@@ -2,35 +2,34 @@
 use Prim.Native.Nat.{ℕ, _^_, _≤_, _<_}
 use mathlib.Core.Path.{_≡_, refl, ap, sym, _∙_}
 use mathlib.Core.Logic.{_⊎_, inl, inr}
-use mathlib.Core.Bool.{Bool, true, false, _&&_, _||_, not, cond, true≢false}
+use mathlib.Core.Bool.{Bool, true, false, _&&_, _||_, not, cond}
 use mathlib.Core.List.{List, []}
 use lib.Dec.{eqb, leb, ltb}
 use lib.ListN.{length}
 use native.Mathlib.Omega.{arith}
 use borrow.Author.Tests.{eqb-true, leb-true, ltb-false, not-false, le-ltb}
-use Rattle.spec_base.specs.base.Limits.{mostHeld, mostTaken, mostTimescale}
+use Rattle.spec_base.specs.base.Limits.{mostHeld, mostTaken}
 use Rattle.spec_base.specs.base.Refusal.{_orElse_, faultUnless}
 use Rattle.spec_base.proofs.base.Laws.{or-left, or-right, and-right}
-use Rattle.spec_caption.specs.caption_time.Kind.{kindBad}
-use Rattle.spec_caption.specs.caption_time.Convert.{timescaleBad}
-use Rattle.spec_caption.proofs.caption_time.Limits.{by-kind}
-use Rattle.spec_format.specs.declared.ass_columns.Columns.{Columns}
-use Rattle.spec_session.specs.declared.session_counts.Counts.{Counts}
-use Rattle.spec_session.specs.session_counts.Session.{isOutcome, outcomeBad, countsAbove}
-use Rattle.spec_session.specs.session_counts.Session as model
-use Rattle.spec_session.specs.kinds.Kit.{kit}
-use Rattle.spec_session.proofs.kinds.Native.{Native}
-use Rattle.spec_session.proofs.kinds.KindLaws.{lawful}
-use Rattle.spec_session.specs.kinds.Takes.{blankState, noColumns}
-use Rattle.spec_session.specs.kinds.Kit.{strange}
-use Rattle.spec_session.proofs.session_counts.CutLaws.{has-none}
+use Rattle.spec_time.specs.caption_time.Kind.{kindBad}
+use Rattle.spec_time.proofs.caption_time.Limits.{by-kind, timescale-high}
+use Rattle.spec_ass.specs.declared.ass_columns.Columns.{Columns}
+use Rattle.spec_machine.specs.declared.session_counts.Counts.{Counts}
+use Rattle.spec_machine.specs.session_counts.Session.{isOutcome, outcomeBad, countsAbove}
+use Rattle.spec_machine.specs.session_counts.Session as model
+use Rattle.spec_machine.specs.kinds.Kit.{kit}
+use Rattle.spec_machine.proofs.kinds.Native.{Native}
+use Rattle.spec_machine.proofs.kinds.KindLaws.{lawful}
+use Rattle.spec_machine.specs.kinds.Takes.{blankState, noColumns}
+use Rattle.spec_machine.specs.kinds.Kit.{strange}
+use Rattle.spec_machine.proofs.session_counts.CutLaws.{has-none}
 use Rattle.spec_session.specs.declared.session_state.Session.{Session}
 use Rattle.spec_session.specs.session_state.View.{heldOf, view, foreignOf, padded}
 use Rattle.spec_session.proofs.session_state.ViewLaws.{held-length, held-plain, held-padded, foreign-view, native-view, native-room}
-use Rattle.spec_parking.specs.parked_blocks.Sealed.{sealedLength, filled}
+use Rattle.spec_parked_blocks.specs.parked_blocks.Sealed.{sealedLength, filled}
 use Rattle.spec_parking.specs.parking.Parked.{flag, headWords, keptBytes, parkedOf, isParked, sessionIn, remembered}
 use Rattle.spec_parking.specs.parking.Parkings.{Mark, takeNumber, ParkedAgain}
-use Rattle.spec_parking.proofs.parked_blocks.Bytes.{Words}
+use Rattle.spec_parked_blocks.proofs.parked_blocks.Bytes.{Words}
 use Rattle.spec_parking.proofs.parking.Again.{session-is, parked-sound, whole-length}
 
 -- ---- the words are below 2^32
@@ -46,7 +45,7 @@ cond-small : (t : Bool) (x : ℕ) → x < 2 ^ 32 → cond t 0 x < 2 ^ 32
 cond-small true x h = omega arith
 cond-small false x h = h
 
-or-cases : (a b : Bool) → (a || b) ≡ true → (a ≡ true) ⊎ (b ≡ true)
+pub or-cases : (a b : Bool) → (a || b) ≡ true → (a ≡ true) ⊎ (b ≡ true)
 or-cases true b e = inl refl
 or-cases false b e = inr e
 
@@ -65,14 +64,6 @@ outcome-small k e = outcome-by k (or-cases (eqb k 0) ((leb 19 k && leb k 22) || 
 outcome-good : (e : Bool) (k : ℕ) → outcomeBad e k ≡ false → isOutcome k ≡ true
 unfolding outcomeBad
 outcome-good e k h = not-false (isOutcome k) (or-left (not (isOutcome k)) (not e && not (eqb k 0)) h)
-
-timescale-small : (T : ℕ) → timescaleBad T ≡ false → T ≤ mostTimescale
-unfolding timescaleBad
-timescale-small T e = go (ltb T 1) e
-  where
-    go : (t : Bool) → cond t true (ltb mostTimescale T) ≡ false → T ≤ mostTimescale
-    go true e = absurd (true≢false e)
-    go false e = ltb-false mostTimescale T e
 
 pub record Small (t : ℕ) (c : Counts) : Type 0 where
   pub shifted : c .shifted ≤ t
@@ -103,7 +94,7 @@ module _ (s : Session) (e : foreignOf s ≡ false) where
   words k m =
       let c = counts-small (s .taken) (s .counts) (N .counts-few) in
       let b = N .holds .fit .bounded in
-      let T = timescale-small (s .config .timescale) (N .timescale-good) in
+      let T = timescale-high (s .config .timescale) (N .timescale-good) in
       let o = outcome-small (s .outcome) (outcome-good (s .ended) (s .outcome) (N .outcome-good)) in
       let t : s .taken ≤ mostTaken = N .taken-few in
       let l : s .lines ≤ s .taken = N .lines-few in

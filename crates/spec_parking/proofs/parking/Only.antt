@@ -14,11 +14,11 @@ use Rattle.spec_base.proofs.base.Laws.{and-left, and-right}
 use Rattle.spec_sheet.specs.checked_blocks.Block.{wordAt}
 use Rattle.spec_session.specs.session_state.View.{heldOf, foreignOf}
 use Rattle.spec_session.proofs.session_state.ViewLaws.{held-plain, native-room}
-use Rattle.spec_session.specs.session_counts.Session.{isOutcome}
-use Rattle.spec_parking.specs.parked_blocks.Sealed.{sealedLength, bodyLength, roomLength, wordsBytes, sealed, sealedAll, filled, rowOf, roomOf, allZero, isRow}
-use Rattle.spec_parking.proofs.parked_blocks.Bytes.{word-past, word-within}
-use Rattle.spec_parking.proofs.parked_blocks.ReadLaws.{room-length, row-length}
-use Rattle.spec_parking.proofs.parked_blocks.Again.{side-by-side, zero-list, wordsFrom, words-part, row-again}
+use Rattle.spec_machine.specs.session_counts.Session.{isOutcome}
+use Rattle.spec_parked_blocks.specs.parked_blocks.Sealed.{sealedLength, bodyLength, roomLength, wordsBytes, sealed, sealedAll, filled, rowOf, roomOf, allZero, isRow}
+use Rattle.spec_parked_blocks.proofs.parked_blocks.Bytes.{word-past, word-within}
+use Rattle.spec_parked_blocks.proofs.parked_blocks.ReadLaws.{room-length, row-length}
+use Rattle.spec_parked_blocks.proofs.parked_blocks.Again.{side-by-side, zero-list, wordsFrom, words-part, row-again}
 use Rattle.spec_parking.specs.parking.Parked.{flag, headWords, keptBytes, parkedOf, isMark, isFlag, unusedZero, isParked, sessionIn}
 use Rattle.spec_parking.specs.parking.Parkings.{takeNumber, OnlyParked}
 

@@ -14,13 +14,13 @@ use Rattle.spec_base.proofs.base.Laws.{and-left}
 use Rattle.spec_base.proofs.base.PutLaws.{placed-yes}
 use Rattle.spec_sheet.specs.checked_blocks.Block.{wordAt}
 use Rattle.spec_caption.specs.declared.caption_fate.Config.{Config}
-use Rattle.spec_format.specs.declared.ass_columns.Columns.{Columns}
-use Rattle.spec_session.specs.declared.session_counts.Counts.{Counts}
-use Rattle.spec_session.specs.session_counts.Session.{isOutcome}
+use Rattle.spec_ass.specs.declared.ass_columns.Columns.{Columns}
+use Rattle.spec_machine.specs.declared.session_counts.Counts.{Counts}
+use Rattle.spec_machine.specs.session_counts.Session.{isOutcome}
 use Rattle.spec_session.specs.declared.session_state.Session.{Session}
-use Rattle.spec_parking.specs.parked_blocks.Sealed.{roomLength, roomOf, allZero, isRow, unsealed}
-use Rattle.spec_parking.proofs.parked_blocks.ReadLaws.{room-length, row-length}
-use Rattle.spec_parking.proofs.parked_blocks.FirstLaws.{zero-behind}
+use Rattle.spec_parked_blocks.specs.parked_blocks.Sealed.{roomLength, roomOf, allZero, isRow, unsealed}
+use Rattle.spec_parked_blocks.proofs.parked_blocks.ReadLaws.{room-length, row-length}
+use Rattle.spec_parked_blocks.proofs.parked_blocks.FirstLaws.{zero-behind}
 use Rattle.spec_parking.specs.parking.Parked.{isMark, isFlag, unusedZero, isParked, sessionIn}
 
 -- ---- the room of a row

@@ -4,10 +4,10 @@ use mathlib.Core.Bool.{Bool, true, false}
 use mathlib.Core.List.{[], _∷_, _++_}
 use lib.ListN.{replicate}
 use Rattle.spec_sheet.specs.checked_blocks.Block.{wordAt, blockHolds}
-use Rattle.spec_session.specs.session_counts.Session.{isOutcome}
+use Rattle.spec_machine.specs.session_counts.Session.{isOutcome}
 use Rattle.spec_session.specs.declared.session_state.Session.{Session}
-use Rattle.spec_parking.specs.parked_blocks.Sealed.{wordBytes, wordsBytes, bodies, allZero, allHold, isRow}
-use Rattle.spec_parking.specs.parked_blocks.First.{firstIn}
+use Rattle.spec_parked_blocks.specs.parked_blocks.Sealed.{wordBytes, wordsBytes, bodies, allZero, allHold, isRow}
+use Rattle.spec_parked_blocks.specs.parked_blocks.First.{firstIn}
 use Rattle.spec_base.specs.base.Put.{put}
 use Rattle.spec_base.specs.base.Refusal.{_orElse_, faultUnless}
 use Rattle.spec_parking.specs.parking.Parked.{headWords, isMark, isFlag, unusedZero, isParked, sessionIn}

@@ -18,8 +18,8 @@ use Rattle.spec_session.specs.session_state.View.{heldOf, foreignOf}
 use Rattle.spec_parking.specs.parking.Parked.{flag, headWords, keptBytes, parkedOf}
 use Rattle.spec_parking.specs.parking.Head.{headNumbers, bareOf, headBytes}
 use Rattle.spec_parking.specs.parking.Parkings.{parkNumber, Parks, Stores}
-use Rattle.spec_parking.specs.parked_blocks.Sealed.{sealedLength, bodyLength, roomLength, wordBytes, wordsBytes, sealed, sealedAll, filled, rowOf, rowIn}
-use Rattle.spec_parking.proofs.parked_blocks.Bytes.{words-append}
+use Rattle.spec_parked_blocks.specs.parked_blocks.Sealed.{sealedLength, bodyLength, roomLength, wordBytes, wordsBytes, sealed, sealedAll, filled, rowOf, rowIn}
+use Rattle.spec_parked_blocks.proofs.parked_blocks.Bytes.{words-append}
 
 -- ---- any number's bytes are those of its low 32 bits
 low-bytes : (n : ℕ) → wordBytes (n % 2 ^ 32) ≡ wordBytes n

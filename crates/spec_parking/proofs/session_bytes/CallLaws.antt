@@ -13,17 +13,16 @@ use Rattle.spec_base.proofs.base.RefusalLaws.{else-none, else-found, else-here}
 use Rattle.spec_base.proofs.base.Laws.{and-left}
 use Rattle.spec_base.proofs.base.PutLaws.{put-nil}
 use Rattle.spec_caption.specs.caption_fate.Emit.{Emit, outputOf, warningsOf, placesOf}
-use Rattle.spec_format.specs.declared.ass_columns.Columns.{Columns}
-use Rattle.spec_session.specs.session_counts.Session.{Call}
-use Rattle.spec_session.specs.session_counts.Session as model
-use Rattle.spec_session.proofs.session_counts.Numbers.{OfCall, call-number, refused-same}
-use Rattle.spec_session.specs.kinds.Kit.{kit}
+use Rattle.spec_machine.specs.session_counts.Session.{Call}
+use Rattle.spec_machine.specs.session_counts.Session as model
+use Rattle.spec_machine.proofs.session_counts.Numbers.{OfCall, call-number, refused-same}
+use Rattle.spec_machine.specs.kinds.Kit.{kit}
 use Rattle.spec_session.specs.declared.session_state.Session.{Session}
 use Rattle.spec_session.specs.session_state.View.{view, stored}
 use Rattle.spec_session.specs.declared.session.Fed.{Fed}
 use Rattle.spec_session.specs.declared.session.Opened.{Opened}
 use Rattle.spec_session.specs.session.SessionCalls.{feedCall, openOf, answerOf, nextOf, Answered, OpenAnswered}
-use Rattle.spec_parking.specs.parked_blocks.Sealed.{sealedLength, isRow, allHold}
+use Rattle.spec_parked_blocks.specs.parked_blocks.Sealed.{sealedLength, isRow, allHold}
 use Rattle.spec_parking.specs.declared.parking.TakenUp.{TakenUp}
 use Rattle.spec_parking.specs.parking.Parked.{parkedOf, isParked, sessionIn}
 use Rattle.spec_parking.specs.parking.Parkings.{takeNumber, whenDone, keepNumber, Stores, TakesUp}

@@ -18,12 +18,12 @@ use Rattle.spec_base.proofs.base.PutLaws.{put-nil, length-put, at-yes, after-ye
 use Rattle.spec_sheet.specs.checked_blocks.Block.{wordAt}
 use Rattle.spec_map.specs.segment.Segment.{mapBad}
 use Rattle.spec_caption.specs.caption_fate.Emit.{Emit, outputOf, warningsOf, placesOf}
-use Rattle.spec_format.specs.declared.ass_columns.Columns.{Columns}
-use Rattle.spec_session.specs.session_counts.Machine.{Run, going, stopped, run}
-use Rattle.spec_session.specs.session_counts.Session.{Gate, refuse, admit, gate, foreign, respond, settle, resume}
-use Rattle.spec_session.specs.session_counts.Session as model
-use Rattle.spec_session.specs.kinds.Takes.{State, machineOf}
-use Rattle.spec_session.specs.kinds.Kit.{kit}
+use Rattle.spec_ass.specs.declared.ass_columns.Columns.{Columns}
+use Rattle.spec_machine.specs.session_counts.Machine.{Run, going, stopped, run}
+use Rattle.spec_machine.specs.session_counts.Session.{Gate, refuse, admit, gate, foreign, respond, settle, resume}
+use Rattle.spec_machine.specs.session_counts.Session as model
+use Rattle.spec_machine.specs.kinds.Takes.{State, machineOf}
+use Rattle.spec_machine.specs.kinds.Kit.{kit}
 use Rattle.spec_session.specs.declared.session_state.Session.{Session}
 use Rattle.spec_session.specs.declared.session_state.Head.{Head}
 use Rattle.spec_session.specs.session_state.Head.{headOf}
@@ -35,9 +35,9 @@ use Rattle.spec_session.specs.session.SessionCalls.{feedCall, answerOf, session
 use Rattle.spec_session.proofs.session.CallLaws.{gate-passed, answer-by, settled-small}
 use Rattle.spec_session.specs.declared.session_text.TextFed.{TextFed}
 use Rattle.spec_session.specs.session_text.Answer.{textSession, textBad, textGate, textAnswer, headBy, keptBy, textHead, textKept, TextTells, TextAnswered}
-use Rattle.spec_parking.specs.parked_blocks.Sealed.{sealedLength, roomLength, bodyLength, roomOf, isRow}
-use Rattle.spec_parking.specs.parked_blocks.First.{blocksFor, firstRoom, unsealedFirst}
-use Rattle.spec_parking.proofs.parked_blocks.ReadLaws.{row-length, room-length}
+use Rattle.spec_parked_blocks.specs.parked_blocks.Sealed.{sealedLength, roomLength, bodyLength, roomOf, isRow}
+use Rattle.spec_parked_blocks.specs.parked_blocks.First.{blocksFor, firstRoom, unsealedFirst}
+use Rattle.spec_parked_blocks.proofs.parked_blocks.ReadLaws.{row-length, room-length}
 use Rattle.spec_parking.specs.declared.parking.TakenUp.{TakenUp}
 use Rattle.spec_parking.specs.declared.parking.TakenIn.{TakenIn}
 use Rattle.spec_parking.specs.parking.Parked.{parkedOf, isParked, sessionIn}

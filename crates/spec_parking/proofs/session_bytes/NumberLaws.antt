@@ -12,8 +12,9 @@ use Rattle.spec_base.proofs.base.Laws.{and-left, and-right}
 use Rattle.spec_session.specs.session_state.View.{foreignOf}
 use Rattle.spec_parking.specs.parking.Parked.{isParked, sessionIn}
 use Rattle.spec_parking.specs.parking.Parkings.{takeNumber}
-use Rattle.spec_session.proofs.session_counts.Numbers.{OfCall}
+use Rattle.spec_machine.proofs.session_counts.Numbers.{OfCall}
 use Rattle.spec_parking.specs.session_bytes.ByteCalls.{refuses, toldIn}
+use Rattle.spec_parking.proofs.parking.Kept.{or-cases}
 
 pub refuses-27 : (k : ℕ) → k ≡ 27 → true ≡ refuses k
 unfolding refuses
@@ -61,10 +62,6 @@ unfolding takeNumber
 taken-parked b e = by-zero (isParked b) (foreignOf (sessionIn b)) e
 
 -- ---- a call's own number that refuses is 15 to 18
-or-cases : (a b : Bool) → (a || b) ≡ true → (a ≡ true) ⊎ (b ≡ true)
-or-cases true b e = inl refl
-or-cases false b e = inr e
-
 not-27 : (k : ℕ) → OfCall k → k ≡ 27 → ⊥
 not-27 k (inl e) z = omega arith
 not-27 k (inr (inl h)) z = omega (arith, h .0, h .1)

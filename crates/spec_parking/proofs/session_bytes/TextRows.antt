@@ -5,8 +5,8 @@ use mathlib.Core.List.{[], _∷_}
 use lib.ListN.{length, replicate}
 use Rattle.spec_base.specs.base.Refusal.{_orElse_, faultUnless}
 use Rattle.spec_sheet.specs.checked_blocks.Block.{wordAt, blockHolds}
-use Rattle.spec_session.specs.session_counts.Session.{isOutcome}
-use Rattle.spec_parking.specs.parked_blocks.Sealed.{bodies, allHold, allZero, isRow}
+use Rattle.spec_machine.specs.session_counts.Session.{isOutcome}
+use Rattle.spec_parked_blocks.specs.parked_blocks.Sealed.{bodies, allHold, allZero, isRow}
 use Rattle.spec_parking.specs.parking.Parked.{unusedZero, isParked}
 use Rattle.spec_parking.specs.parking.Head.{headIn}
 use Rattle.spec_parking.specs.session_bytes.ByteCalls.{refuses}

@@ -10,8 +10,8 @@ use Rattle.spec_base.specs.base.Put.{put}
 use Rattle.spec_sheet.specs.checked_blocks.Block.{wordAt}
 use Rattle.spec_session.specs.declared.session_state.Session.{Session}
 use Rattle.spec_session.specs.declared.session_state.Head.{Head}
-use Rattle.spec_parking.specs.parked_blocks.Sealed.{roomLength, wordsBytes}
-use Rattle.spec_parking.specs.parked_blocks.First.{firstIn, firstRoom, unsealedFirst}
+use Rattle.spec_parked_blocks.specs.parked_blocks.Sealed.{roomLength, wordsBytes}
+use Rattle.spec_parked_blocks.specs.parked_blocks.First.{firstIn, firstRoom, unsealedFirst}
 use Rattle.spec_parking.specs.declared.parking.TakenIn.{TakenIn}
 use Rattle.spec_parking.specs.parking.Parked.{headWords, isParked, sessionIn}
 

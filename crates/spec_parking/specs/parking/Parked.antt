@@ -3,13 +3,13 @@ use mathlib.Core.Bool.{Bool, true, false, _&&_, _||_, cond}
 use mathlib.Core.List.{List, [], _∷_}
 use Prim.Native.Nat.{ℕ}
 use lib.Dec.{eqb}
-use lib.ListN.{length, take, drop}
+use lib.ListN.{take, drop}
 use Rattle.spec_base.specs.base.Limits.{mostHeld}
 use Rattle.spec_sheet.specs.checked_blocks.Block.{wordAt}
-use Rattle.spec_session.specs.session_counts.Session.{isOutcome}
+use Rattle.spec_machine.specs.session_counts.Session.{isOutcome}
 use Rattle.spec_session.specs.declared.session_state.Session.{Session}
 use Rattle.spec_session.specs.session_state.View.{heldOf}
-use Rattle.spec_parking.specs.parked_blocks.Sealed.{wordsBytes, filled, rowOf, isRow, roomOf, allZero}
+use Rattle.spec_parked_blocks.specs.parked_blocks.Sealed.{wordsBytes, filled, rowOf, isRow, roomOf, allZero}
 
 abbrev pub flag : Bool → ℕ
 flag true = 1

@@ -10,11 +10,11 @@ use lib.ListN.{length}
 use Rattle.spec_base.specs.base.Refusal.{_orElse_, faultUnless}
 use Rattle.spec_base.specs.base.Put.{put}
 use Rattle.spec_caption.specs.caption_fate.Emit.{outputOf, warningsOf, placesOf}
-use Rattle.spec_session.specs.session_counts.Session.{Call, feed, finish}
+use Rattle.spec_machine.specs.session_counts.Session.{Call, feed, finish}
 use Rattle.spec_session.specs.declared.session_state.Session.{Session}
 use Rattle.spec_session.specs.session_state.View.{stored}
 use Rattle.spec_session.specs.session.SessionCalls.{feedCall, openOf, answerOf, nextOf}
-use Rattle.spec_parking.specs.parked_blocks.Sealed.{sealedLength}
+use Rattle.spec_parked_blocks.specs.parked_blocks.Sealed.{sealedLength}
 use Rattle.spec_parking.specs.parking.Parked.{parkedOf, sessionIn}
 use Rattle.spec_parking.specs.parking.Parkings.{takeNumber, keepNumber, whenDone}
 use Rattle.spec_parking.specs.declared.session_bytes.Told.{Told}

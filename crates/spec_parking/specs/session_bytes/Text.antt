@@ -9,7 +9,7 @@ use Rattle.spec_base.specs.base.Limits.{mostPiece, mostHeld}
 use Rattle.spec_base.specs.base.Refusal.{_orElse_, faultUnless}
 use Rattle.spec_sheet.specs.checked_blocks.Block.{wordAt}
 use Rattle.spec_session.specs.declared.session_state.Head.{Head}
-use Rattle.spec_parking.specs.parked_blocks.Sealed.{roomOf}
+use Rattle.spec_parked_blocks.specs.parked_blocks.Sealed.{roomOf}
 use Rattle.spec_parking.specs.parking.Parked.{isParked}
 use Rattle.spec_parking.specs.parking.Head.{headIn, restored}
 use Rattle.spec_parking.specs.session_bytes.ByteCalls.{refuses}

@@ -9,7 +9,7 @@ use Rattle.spec_base.specs.base.Limits.{mostFrames, mostSegments}
 use Rattle.spec_base.specs.base.Put.{put}
 use Rattle.spec_sheet.specs.sheet_frames.Frames.{framesOf}
 use Rattle.spec_sheet.proofs.sheet.SheetLaws.{sound-head}
-use Rattle.spec_map.proofs.plan.SnapMeaning.{Bounded}
+use Rattle.spec_trim.proofs.plan.SnapMeaning.{Bounded}
 use Rattle.spec_map.specs.declared.segment.Segment.{Segment}
 use Rattle.spec_map.specs.declared.segmap.Made.{Made}
 use Rattle.spec_map.specs.segment.Segment.{flatOf, segmentsOf}

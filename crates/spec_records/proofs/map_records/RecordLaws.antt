@@ -2,15 +2,15 @@
 use mathlib.Core.Path.{_≡_, refl, sym, ap, _∙_}
 use mathlib.Core.Bool.{true, false}
 use mathlib.Core.List.{List, [], _∷_, _++_, append-assoc}
-use Prim.Native.Nat.{ℕ, zero, suc, _+_, _-_, _*_, _≤_, _<_}
+use Prim.Native.Nat.{ℕ, zero, suc, _+_, _*_, _≤_, _<_}
 use native.Mathlib.Omega.{arith}
 use native.Mathlib.Numerals.{add-one}
 use borrow.Author.Tests.{le-leb, lt-leb}
-use lib.ListN.{length, take, drop, getD, set, length-append, length-take, take-append-drop}
+use lib.ListN.{length, take, drop, getD, set}
 use lib.Seq.{drop-cons, drop-length, take-suc, take-all, set-at, length-take-le}
-use Rattle.spec_base.specs.base.Put.{put, putAt, placed, placedAt}
+use Rattle.spec_base.specs.base.Put.{put, putAt, placed}
 use Rattle.spec_base.specs.base.Refusal.{faultUnless}
-use Rattle.spec_base.proofs.base.PutLaws.{put-append, then-put, placed-yes, placed-no}
+use Rattle.spec_base.proofs.base.PutLaws.{then-put, placed-yes, placed-no}
 use Rattle.spec_map.specs.declared.segment.Segment.{Segment}
 use Rattle.spec_map.specs.segment.Segment.{numbersOf, flatOf, segmentsOf}
 use Rattle.spec_map.proofs.segment.SegmentLaws.{flat-length}

@@ -13,7 +13,7 @@ use Rattle.spec_map.specs.declared.segment.Segment.{Segment}
 use Rattle.spec_map.specs.segment.Segment.{flatOf}
 use Rattle.spec_map.specs.declared.segmap.Made.{Made}
 use Rattle.spec_map.specs.segmap.Map.{mapNumber, Map, mapOf, mapWork, made, madeOf}
-use Rattle.spec_map.proofs.segmap.MapLaws.{short-made, short-work}
+use Rattle.spec_map.proofs.segmap.MapLaws.{short-made}
 use Rattle.spec_map.proofs.segmap.Built.{map-count, told-number, told-count, map-refused}
 use Rattle.spec_map.proofs.segment.SegmentLaws.{flat-length}
 use Rattle.spec_caption.specs.declared.caption_fate.Hit.{Hit}

@@ -1,8 +1,8 @@
 -- The limits, by computation.
 use mathlib.Core.Path.{refl}
 use Rattle.spec_base.specs.base.Refusal.{_orElse_, faultUnless}
-use Rattle.spec_caption.specs.caption_time.Kind.{kindBad}
-use Rattle.spec_caption.specs.caption_time.Convert.{timescaleBad}
+use Rattle.spec_time.specs.caption_time.Kind.{kindBad}
+use Rattle.spec_time.specs.caption_time.Convert.{timescaleBad}
 use Rattle.spec_map.specs.segment.Segment.{segmentsOf, anyBad, mapBad}
 use Rattle.spec_runs.specs.one_call.Text.{lengthsFault, refusedWith}
 use Rattle.spec_runs.specs.atonceruns.Limits.{Limits}

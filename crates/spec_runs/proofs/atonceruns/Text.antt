@@ -1,27 +1,27 @@
 -- DEMAND 3 of a whole text at once, proved: `text-promise` through every map that open accepts, `text-fed` beside every list of calls.
 use mathlib.Core.Path.{_≡_, refl, sym, ap, ap₂, _∙_}
-use mathlib.Core.Bool.{Bool, true, false, not}
-use mathlib.Core.List.{List, [], _∷_}
+use mathlib.Core.Bool.{Bool, true, not}
+use mathlib.Core.List.{List}
 use Prim.Native.Nat.{ℕ, _+_}
 use native.Mathlib.Omega.{arith}
 use lib.ListN.{length, take, getD}
 use borrow.Author.Tests.{not-true}
-use Rattle.spec_base.specs.base.Refusal.{_orElse_, faultUnless}
+use Rattle.spec_base.specs.base.Refusal.{faultUnless, unlessRefused}
 use Rattle.spec_base.specs.base.Put.{put}
 use Rattle.spec_base.proofs.base.RefusalLaws.{else-none, else-zero, held}
-use Rattle.spec_caption.specs.caption_time.Kind.{kindBad}
-use Rattle.spec_caption.specs.caption_time.Convert.{timescaleBad}
-use Rattle.spec_caption.proofs.caption_time.Limits.{units-low, timescale-low}
+use Rattle.spec_time.specs.caption_time.Kind.{kindBad}
+use Rattle.spec_time.specs.caption_time.Convert.{timescaleBad}
+use Rattle.spec_time.proofs.caption_time.Limits.{units-low, timescale-low}
 use Rattle.spec_map.specs.segment.Segment.{segmentsOf, mapBad}
 use Rattle.spec_caption.specs.caption_fate.Says.{captionsIn}
-use Rattle.spec_caption.specs.caption_fate.Emit.{Emit, Warning, outputOf, warningsOf, placesOf}
-use Rattle.spec_session.specs.session_counts.Counts.{total, countsOf, CountedBy, howMany, wasShifted, wasClipped, wasDropped, wasPassed}
-use Rattle.spec_session.specs.session_counts.Reader.{Reading}
-use Rattle.spec_session.specs.session_counts.Session.{emitted}
-use Rattle.spec_session.specs.session_counts.Calls.{readingOf}
-use Rattle.spec_session.proofs.session_counts.Emits.{total-parts}
-use Rattle.spec_session.proofs.session_counts.Counted.{counted-by}
-use Rattle.spec_session.proofs.session_counts.Numbers.{Opened}
+use Rattle.spec_caption.specs.caption_fate.Emit.{Emit, outputOf, warningsOf, placesOf}
+use Rattle.spec_machine.specs.session_counts.Counts.{total, countsOf, CountedBy, howMany, wasShifted, wasClipped, wasDropped, wasPassed}
+use Rattle.spec_machine.specs.session_counts.Reader.{Reading}
+use Rattle.spec_machine.specs.session_counts.Session.{emitted}
+use Rattle.spec_machine.specs.session_counts.Calls.{readingOf}
+use Rattle.spec_machine.proofs.session_counts.Emits.{total-parts}
+use Rattle.spec_machine.proofs.session_counts.Counted.{counted-by}
+use Rattle.spec_machine.proofs.session_counts.Numbers.{Opened}
 use Rattle.promise.specs.Plain.{plainRead}
 use Rattle.promise.specs.Demand.{passings, heard}
 use Rattle.promise.specs.Promise.{configOf}
@@ -29,7 +29,7 @@ use Rattle.promise.specs.Runs.{warningsIn}
 use Rattle.promise.proofs.AgainLaws.{text-again}
 use Rattle.promise.proofs.PartLaws.{all-right, passed-warnings}
 use Rattle.promise.proofs.RunLaws.{front, warnings-back}
-use Rattle.spec_runs.specs.one_call.Text.{refusedWith, emitsFor, textNumber, unlessRefused, toldOf, Retimed}
+use Rattle.spec_runs.specs.one_call.Text.{refusedWith, emitsFor, textNumber, toldOf, Retimed}
 use Rattle.spec_runs.specs.atonceruns.Claims.{saidOf, putThrough, TextHolds, TextPromise, TextFed}
 
 -- what is not refused has a good timescale, a good map and a known kind

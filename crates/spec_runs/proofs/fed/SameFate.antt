@@ -1,8 +1,7 @@
 -- REQUEST 2.8, tied to a feed: `same-fate`.
-use mathlib.Core.Path.{_≡_, sym, ap, _∙_}
+use mathlib.Core.Path.{ap, _∙_}
 use mathlib.Core.List.{List}
-use Prim.Native.Nat.{ℕ, _≤_}
-use lib.ListN.{length}
+use Prim.Native.Nat.{ℕ}
 use Rattle.spec_map.specs.segment.Segment.{segmentsOf}
 use Rattle.spec_caption.specs.declared.caption_fate.Config.{Config}
 use Rattle.spec_caption.specs.caption_fate.Fates.{Fate}
@@ -10,9 +9,8 @@ use Rattle.spec_caption.specs.caption_fate.Says.{Part}
 use Rattle.spec_caption.specs.caption_fate.Emit.{decided}
 use Rattle.spec_caption.specs.caption_fate.Told.{countedOf}
 use Rattle.spec_ask.proofs.ask_reason.Truth.{fate-is, taken-number, told-number}
-use Rattle.spec_session.specs.session_counts.Session.{openSession}
-use Rattle.spec_session.proofs.session_counts.Numbers.{Opened as Admitted, opened}
-use Rattle.spec_session.specs.kinds.Kit.{kit}
+use Rattle.spec_machine.proofs.session_counts.Numbers.{Opened as Admitted, opened}
+use Rattle.spec_machine.specs.kinds.Kit.{kit}
 use Rattle.promise.specs.Hours.{AllInHours}
 use Rattle.promise.specs.Demand.{heard}
 use Rattle.promise.specs.Runs.{callsOf}

@@ -9,8 +9,8 @@ use Rattle.spec_caption.specs.caption_fate.Fates.{Fate}
 use Rattle.spec_caption.specs.caption_fate.Says.{Part}
 use Rattle.spec_ask.specs.ask_rough.Rough.{roughOf, JudgedAs}
 use Rattle.spec_ask.proofs.ask_rough.Meaning.{single-tick}
-use Rattle.spec_session.proofs.session_counts.Numbers.{opened}
-use Rattle.spec_session.specs.kinds.Kit.{kit}
+use Rattle.spec_machine.proofs.session_counts.Numbers.{opened}
+use Rattle.spec_machine.specs.kinds.Kit.{kit}
 use Rattle.promise.specs.Demand.{ticks}
 use Rattle.promise.specs.Promise.{configOf}
 use Rattle.promise.proofs.TheDemand.{demand-opened}

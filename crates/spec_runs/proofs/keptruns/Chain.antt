@@ -5,15 +5,15 @@ use mathlib.Core.List.{List}
 use Prim.Native.Nat.{ℕ, _≤_, _*_}
 use lib.ListN.{length, take}
 use borrow.Author.Tests.{le-leb}
-use Rattle.spec_base.specs.base.Refusal.{_orElse_, faultUnless}
+use Rattle.spec_base.specs.base.Refusal.{faultUnless}
 use Rattle.spec_base.specs.base.Put.{put}
 use Rattle.spec_base.proofs.base.RefusalLaws.{else-none}
-use Rattle.spec_caption.specs.caption_time.Kind.{kindBad}
+use Rattle.spec_time.specs.caption_time.Kind.{kindBad}
 use Rattle.spec_map.specs.segment.Segment.{flatOf}
 use Rattle.spec_map.specs.segmap.Map.{mapOf}
 use Rattle.spec_map.proofs.segmap.Built.{map-front}
 use Rattle.spec_session.specs.session.SessionCalls.{openOf}
-use Rattle.spec_parking.specs.parked_blocks.Sealed.{sealedLength}
+use Rattle.spec_parked_blocks.specs.parked_blocks.Sealed.{sealedLength}
 use Rattle.spec_parking.specs.parking.Parkings.{keepNumber}
 use Rattle.promise.proofs.TheDemand.{built-opens}
 use Rattle.spec_parking.specs.session_bytes.ByteCalls.{openNumber}

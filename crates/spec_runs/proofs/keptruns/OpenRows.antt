@@ -1,15 +1,15 @@
 -- Open over bytes: its numbers, the first words that it stores, and that a refusal stores nothing. By computation.
 use mathlib.Core.Path.{_≡_, refl}
-use mathlib.Core.List.{List, [], _∷_}
+use mathlib.Core.List.{[], _∷_}
 use lib.ListN.{take, replicate}
 use Rattle.spec_base.specs.base.Put.{put}
 use Rattle.spec_base.specs.base.Refusal.{_orElse_, faultUnless}
-use Rattle.spec_caption.specs.caption_time.Kind.{kindBad}
-use Rattle.spec_caption.specs.caption_time.Convert.{timescaleBad}
+use Rattle.spec_time.specs.caption_time.Kind.{kindBad}
+use Rattle.spec_time.specs.caption_time.Convert.{timescaleBad}
 use Rattle.spec_map.specs.segment.Segment.{segmentsOf, anyBad, mapBad}
 use Rattle.spec_session.specs.session_state.View.{stored}
 use Rattle.spec_session.specs.session.SessionCalls.{openOf}
-use Rattle.spec_parking.specs.parked_blocks.Sealed.{wordBytes, wordsBytes, sealed, rowOf}
+use Rattle.spec_parked_blocks.specs.parked_blocks.Sealed.{wordBytes, wordsBytes, sealed, rowOf}
 use Rattle.spec_parking.specs.parking.Parked.{headWords, parkedOf}
 use Rattle.spec_parking.specs.session_bytes.ByteCalls.{openNumber, openBytes}
 

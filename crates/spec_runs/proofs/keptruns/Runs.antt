@@ -1,26 +1,25 @@
 -- Demand 3 over the bytes of a session: `kept-promise`, `kept-chain`.
-use mathlib.Core.Path.{_≡_, refl, sym, ap, ap₂, subst, _∙_}
+use mathlib.Core.Path.{_≡_, refl, sym, ap, subst, _∙_}
 use mathlib.Core.Logic.{inr}
 use mathlib.Core.Bool.{Bool, true, false, cond}
 use mathlib.Core.List.{List, [], _∷_, _++_}
-use Prim.Native.Nat.{ℕ, _≤_}
-use lib.Dec.{eqb}
+use Prim.Native.Nat.{ℕ}
 use lib.ListN.{length, take}
 use Rattle.spec_base.specs.base.Put.{put}
 use Rattle.spec_base.proofs.base.RefusalLaws.{else-zero}
 use Rattle.spec_base.proofs.base.PutLaws.{take-put}
 use Rattle.spec_caption.specs.declared.caption_fate.Config.{Config}
 use Rattle.spec_caption.specs.caption_fate.Emit.{Warning, outputOf, warningsOf, placesOf}
-use Rattle.spec_format.specs.declared.ass_columns.Columns.{Columns}
-use Rattle.spec_session.specs.session_counts.Session.{Call}
-use Rattle.spec_session.specs.session_counts.Calls.{Played, ProperCall, Proper}
-use Rattle.spec_session.proofs.session_counts.Numbers as numbers
+use Rattle.spec_ass.specs.declared.ass_columns.Columns.{Columns}
+use Rattle.spec_machine.specs.session_counts.Session.{Call}
+use Rattle.spec_machine.specs.session_counts.Calls.{Played, ProperCall, Proper}
+use Rattle.spec_machine.proofs.session_counts.Numbers as numbers
 use Rattle.spec_session.specs.declared.session_state.Session.{Session}
 use Rattle.spec_session.specs.session_state.View.{view, stored, foreignOf}
 use Rattle.spec_session.specs.declared.session.Fed.{Fed}
 use Rattle.spec_session.specs.declared.session.Opened.{Opened}
 use Rattle.spec_session.specs.session.SessionCalls.{feedCall, finishCall, answerOf, nextOf, Answered, openOf, OpenAnswered}
-use Rattle.spec_parking.specs.parked_blocks.Sealed.{sealedLength}
+use Rattle.spec_parked_blocks.specs.parked_blocks.Sealed.{sealedLength}
 use Rattle.spec_parking.specs.parking.Parked.{parkedOf, sessionIn}
 use Rattle.spec_parking.specs.parking.Parkings.{whenDone, keepNumber}
 use Rattle.spec_parking.proofs.parking.Kept.{parked-length}
@@ -31,7 +30,7 @@ use Rattle.promise.proofs.TheDemand.{demand-opened}
 use Rattle.spec_runs.proofs.parkruns.Walk.{At, at-native, at-next}
 use Rattle.spec_runs.proofs.parkruns.Two.{sound, at-open}
 use Rattle.spec_parking.specs.session_bytes.ByteCalls.{openNumber, openBytes, refuses, toldIn}
-use Rattle.spec_runs.specs.keptruns.Kept.{Left, KeptCall, keptCallOf, keptCalls, leftBy, Leaves, KeptMet, KeptRan, textLeft, warningsLeft, keptOutcome}
+use Rattle.spec_runs.specs.keptruns.Kept.{Left, KeptCall, keptCallOf, keptCalls, Leaves, KeptRan, textLeft, warningsLeft, keptOutcome}
 use Rattle.spec_runs.specs.keptruns.Kept as kept
 use Rattle.spec_runs.specs.keptruns.Claims.{firstBytes, KeptPromise}
 use Rattle.spec_runs.proofs.keptruns.Steps.{none-emitted, names, number-is, text-is, places-are, bytes-are}

@@ -1,5 +1,5 @@
 -- One call over the bytes of a session that open and the calls lead to: it is the call on the session itself, and leaves the bytes of the next one.
-use mathlib.Core.Path.{_≡_, refl, sym, ap, ap₂, subst, _∙_}
+use mathlib.Core.Path.{_≡_, refl, sym, ap, ap₂, _∙_}
 use mathlib.Core.Logic.{inl, inr}
 use mathlib.Core.Bool.{Bool, true, false, _||_, cond, true≢false}
 use mathlib.Core.List.{List, [], _∷_, _++_, append-nil}
@@ -12,11 +12,11 @@ use Rattle.spec_base.specs.base.Put.{put}
 use Rattle.spec_base.proofs.base.RefusalLaws.{else-none}
 use Rattle.spec_base.proofs.base.PutLaws.{put-nil}
 use Rattle.spec_caption.specs.caption_fate.Emit.{Emit, outputOf, warningsOf, placesOf}
-use Rattle.spec_session.specs.session_counts.Session.{Call, feed, finish, Gate, refuse, admit, Answer, accepted, respond}
-use Rattle.spec_session.specs.session_counts.Session as model
-use Rattle.spec_format.specs.declared.ass_columns.Columns.{Columns}
-use Rattle.spec_session.proofs.session_counts.Numbers.{OfText, OfCall, accepted-number, call-number, refused-same}
-use Rattle.spec_session.specs.kinds.Kit.{kit}
+use Rattle.spec_machine.specs.session_counts.Session.{Call, feed, finish, Gate, refuse, admit, Answer, accepted, respond}
+use Rattle.spec_machine.specs.session_counts.Session as model
+use Rattle.spec_ass.specs.declared.ass_columns.Columns.{Columns}
+use Rattle.spec_machine.proofs.session_counts.Numbers.{OfText, accepted-number, call-number, refused-same}
+use Rattle.spec_machine.specs.kinds.Kit.{kit}
 use Rattle.spec_session.specs.declared.session_state.Session.{Session}
 use Rattle.spec_session.specs.session_state.View.{view, foreignOf}
 use Rattle.spec_session.specs.session.SessionCalls.{answerOf, nextOf, sessionGate, nextBy}

@@ -1,36 +1,30 @@
 -- What the reader handed back opens, and the promise is kept for it; what was written is handed back.
-use mathlib.Core.Path.{_≡_, refl, sym, ap, ap₂, subst, _∙_}
-use mathlib.Core.Bool.{Bool, true, false, not, cond, _||_}
-use mathlib.Core.List.{List, []}
-use Prim.Native.Nat.{ℕ, _*_, _≤_, _<_}
+use mathlib.Core.Path.{_≡_, sym, ap, ap₂, subst, _∙_}
+use mathlib.Core.Bool.{true, false, not}
+use mathlib.Core.List.{List}
+use Prim.Native.Nat.{ℕ, _*_, _≤_}
 use native.Mathlib.Omega.{arith}
-use lib.Dec.{eqb, leb}
+use lib.Dec.{leb}
 use lib.ListN.{length, take}
 use borrow.Author.Tests.{not-true, leb-true, le-leb}
 use Rattle.spec_base.specs.base.Limits.{mostSegments}
 use Rattle.spec_base.specs.base.Refusal.{_orElse_, faultUnless}
 use Rattle.spec_base.specs.base.Put.{put}
-use Rattle.spec_base.proofs.base.RefusalLaws.{held, else-zero, else-none, unless-held}
+use Rattle.spec_base.proofs.base.RefusalLaws.{held, else-zero}
 use Rattle.spec_base.proofs.base.PutLaws.{take-put}
 use Rattle.spec_text.specs.utf8.Utf8.{utf8}
-use Rattle.spec_caption.specs.caption_time.Kind.{kindBad}
-use Rattle.spec_caption.specs.caption_time.Convert.{timescaleBad}
+use Rattle.spec_time.specs.caption_time.Kind.{kindBad}
+use Rattle.spec_time.specs.caption_time.Convert.{timescaleBad}
 use Rattle.spec_map.specs.segment.Segment.{segmentsOf, flatOf, mapBad}
-use Rattle.spec_session.specs.session_counts.Session.{gate, openBy}
-use Rattle.spec_session.specs.kinds.Kit.{kit}
-use Rattle.spec_session.specs.declared.session.Opened.{Opened}
-use Rattle.spec_session.specs.session.SessionCalls.{OpenAnswered, openOf}
-use Rattle.promise.specs.Promise.{configOf}
+use Rattle.spec_session.specs.session.SessionCalls.{openOf}
 use Rattle.promise.proofs.TheDemand.{demand-opened}
-use Rattle.spec_json.specs.declared.map_json_write.Wrote.{Wrote}
-use Rattle.spec_json.specs.declared.map_json_read.Taken.{Taken}
-use Rattle.spec_json.specs.map_json_write.Names.{mostPath}
-use Rattle.spec_json.specs.map_json_write.Text.{mapText}
-use Rattle.spec_json.specs.map_json_write.Reads.{isMapText, mapSaid}
-use Rattle.spec_json.specs.map_json_write.MapWritten.{writeNumber, whenDone, Writes, Back}
-use Rattle.spec_json.specs.map_json_read.MapRead.{readNumber, valueWhenDone, Reads}
-use Rattle.spec_json.proofs.map_json_write.Whole.{round-trip}
-use Rattle.spec_runs.specs.mapback.Claims.{Opens, ReadOpens, Returned, WrittenBack}
+use Rattle.spec_map_json.specs.map_json_write.Names.{mostPath}
+use Rattle.spec_map_json.specs.map_json_write.Text.{mapText}
+use Rattle.spec_map_json.specs.map_json_write.Reads.{isMapText, mapSaid}
+use Rattle.spec_map_json.specs.map_json_write.MapWritten.{writeNumber, whenDone}
+use Rattle.spec_map_json.specs.map_json_read.MapRead.{readNumber, valueWhenDone, Reads}
+use Rattle.spec_map_json.proofs.map_json_write.Whole.{round-trip}
+use Rattle.spec_runs.specs.mapback.Claims.{ReadOpens, WrittenBack}
 
 -- ---- an answer of 0
 pub record Fine (text : List ℕ) (places bytes : ℕ) : Type 0 where

@@ -9,16 +9,16 @@ use borrow.Author.Tests.{eqb-true}
 use Rattle.spec_base.specs.base.Refusal.{_orElse_, faultUnless}
 use Rattle.spec_base.proofs.base.Laws.{and-left, and-right}
 use Rattle.spec_text.specs.utf8.Utf8.{utf8}
-use Rattle.spec_caption.specs.caption_time.Convert.{timescaleBad}
+use Rattle.spec_time.specs.caption_time.Convert.{timescaleBad}
 use Rattle.spec_map.specs.segment.Segment.{flatOf, mapBad}
 use Rattle.spec_json.specs.json.Space.{padded}
 use Rattle.spec_json.specs.json.Str.{stringBytes}
 use Rattle.spec_json.specs.json.Value.{valueWidth}
 use Rattle.spec_json.specs.json.Member.{Member, bare, fieldOf}
 use Rattle.spec_json.proofs.json.MemberUtf8.{part-whole, bare-in, field-in, string-utf8}
-use Rattle.spec_json.specs.map_json_write.Names.{timescaleName, rateNumName, rateDenName, inputName, mostPath}
-use Rattle.spec_json.specs.map_json_write.Reads.{short, fields, pathSaid, fieldsSaid, isMapText, mapSaid}
-use Rattle.spec_json.specs.map_json_write.MapWritten.{writeNumber}
+use Rattle.spec_map_json.specs.map_json_write.Names.{timescaleName, rateNumName, rateDenName, inputName, mostPath}
+use Rattle.spec_map_json.specs.map_json_write.Reads.{short, fields, pathSaid, fieldsSaid, isMapText, mapSaid}
+use Rattle.spec_map_json.specs.map_json_write.MapWritten.{writeNumber}
 use Rattle.spec_runs.specs.mapback.Claims.{ReadWritten}
 use Rattle.spec_runs.proofs.mapback.Opened.{fine, done-value, taken-back}
 

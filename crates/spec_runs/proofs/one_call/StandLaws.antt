@@ -14,19 +14,19 @@ use Rattle.spec_base.specs.base.Put.{put}
 use Rattle.spec_caption.specs.declared.caption_fate.Config.{Config}
 use Rattle.spec_caption.specs.caption_fate.Says.{Part}
 use Rattle.spec_caption.specs.caption_fate.Emit.{Emit, outputOf, warningsOf, placesOf}
-use Rattle.spec_format.specs.declared.ass_columns.Columns.{Columns}
-use Rattle.spec_session.specs.session_counts.Counts.{countsOf}
-use Rattle.spec_session.specs.session_counts.Reader.{Reading, reading, readText}
-use Rattle.spec_session.specs.session_counts.Session.{configBad, Call, lentOf, emitted, answer, fresh, openSession}
-use Rattle.spec_session.specs.session_counts.Session as model
-use Rattle.spec_session.specs.session_counts.Calls.{Reader, ReaderAnswer, newReader, readerRefusal, readerAccepts, readerBy, readerAnswer}
-use Rattle.spec_session.proofs.session_counts.Laws.{Lawful}
-use Rattle.spec_session.proofs.session_counts.Lists.{Inv, Kept, keeps, at-last, starts}
-use Rattle.spec_session.proofs.session_counts.Numbers.{Opened, opened, opened-config, opens-fresh}
-use Rattle.spec_session.proofs.session_counts.Wholly.{fault-whole, alive}
-use Rattle.spec_session.specs.kinds.Kit.{kit}
-use Rattle.spec_session.proofs.kinds.KindLaws.{lawful}
-use Rattle.spec_session.proofs.kinds.Fits.{text-fits}
+use Rattle.spec_ass.specs.declared.ass_columns.Columns.{Columns}
+use Rattle.spec_machine.specs.session_counts.Counts.{countsOf}
+use Rattle.spec_machine.specs.session_counts.Reader.{Reading, reading, readText}
+use Rattle.spec_machine.specs.session_counts.Session.{configBad, Call, lentOf, emitted, answer, fresh, openSession}
+use Rattle.spec_machine.specs.session_counts.Session as model
+use Rattle.spec_machine.specs.session_counts.Calls.{Reader, ReaderAnswer, newReader, readerRefusal, readerAccepts, readerBy, readerAnswer}
+use Rattle.spec_machine.proofs.session_counts.Laws.{Lawful}
+use Rattle.spec_machine.proofs.session_counts.Lists.{Inv, Kept, keeps, at-last, starts}
+use Rattle.spec_machine.proofs.session_counts.Numbers.{Opened, opened, opened-config, opens-fresh}
+use Rattle.spec_machine.proofs.session_counts.Wholly.{fault-whole, alive}
+use Rattle.spec_machine.specs.kinds.Kit.{kit}
+use Rattle.spec_machine.proofs.kinds.KindLaws.{lawful}
+use Rattle.spec_machine.proofs.kinds.Fits.{text-fits}
 use Rattle.spec_session.specs.declared.session_state.Session.{Session}
 use Rattle.spec_session.specs.session_state.View.{view, stored}
 use Rattle.spec_session.specs.session_lines.Done.{Wrote}

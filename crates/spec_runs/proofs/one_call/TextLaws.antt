@@ -1,7 +1,7 @@
--- Where pieces end; a text that has been fed, and its finish.
+-- A text that has been fed, and its finish.
 use mathlib.Core.Path.{_≡_, refl, sym, ap, subst, _∙_}
 use mathlib.Core.Bool.{Bool, true, false, cond}
-use mathlib.Core.List.{List, [], _++_}
+use mathlib.Core.List.{List, _++_}
 use Prim.Native.Nat.{ℕ, _+_, _-_, _*_, _≤_, _<_}
 use native.Mathlib.Omega.{arith}
 use lib.Dec.{ltb}
@@ -10,16 +10,16 @@ use lib.Seq.{take-add, take-all}
 use borrow.Author.Tests.{ltb-true, ltb-false, lt-ltb, le-ltb}
 use Rattle.spec_base.specs.base.Limits.{mostTaken, leastOutput, leastPlaces}
 use Rattle.spec_base.specs.base.Put.{put}
-use Rattle.spec_base.proofs.base.PutLaws.{put-nil, length-put, length-tail}
+use Rattle.spec_base.proofs.base.PutLaws.{length-put}
 use Rattle.spec_caption.specs.declared.caption_fate.Config.{Config}
 use Rattle.spec_caption.specs.caption_fate.Says.{Part}
-use Rattle.spec_caption.specs.caption_fate.Emit.{emitsOf, outputOf, warningsOf, placesOf}
-use Rattle.spec_session.specs.declared.session_counts.Counts.{Counts}
-use Rattle.spec_session.specs.session_counts.Counts.{countsOf}
-use Rattle.spec_session.specs.session_counts.Reader.{Reading, reading}
-use Rattle.spec_session.specs.session_counts.Session.{Call, emitted}
-use Rattle.spec_session.proofs.session_counts.Numbers.{Opened}
-use Rattle.spec_session.proofs.kinds.Fits.{answer-fits}
+use Rattle.spec_caption.specs.caption_fate.Emit.{outputOf, warningsOf, placesOf}
+use Rattle.spec_machine.specs.declared.session_counts.Counts.{Counts}
+use Rattle.spec_machine.specs.session_counts.Counts.{countsOf}
+use Rattle.spec_machine.specs.session_counts.Reader.{Reading, reading}
+use Rattle.spec_machine.specs.session_counts.Session.{Call, emitted}
+use Rattle.spec_machine.proofs.session_counts.Numbers.{Opened}
+use Rattle.spec_machine.proofs.kinds.Fits.{answer-fits}
 use Rattle.spec_session.specs.declared.session_state.Session.{Session}
 use Rattle.spec_session.specs.session_state.View.{view}
 use Rattle.spec_session.specs.session_lines.Done.{Wrote}
@@ -30,49 +30,9 @@ use Rattle.promise.specs.Plain.{plainRead}
 use Rattle.promise.specs.Promise.{configOf}
 use Rattle.spec_runs.specs.declared.one_call.Ran.{Ran}
 use Rattle.spec_runs.specs.one_call.Text.{outputFor, placesFor, emitsFor}
-use Rattle.spec_runs.specs.one_call.Ran.{pieceEnd, RanText}
+use Rattle.spec_runs.specs.one_call.Ran.{RanText}
 use Rattle.spec_runs.proofs.one_call.StandLaws.{Stands, Over, stands-room, partsBehind, led-end, wrote-behind, over-plain}
-
--- ---- where a piece ends
-pub end-last : (i n : ℕ) → n < i + 1024 → n ≡ pieceEnd i n
-unfolding pieceEnd
-end-last i n h = sym (rw (lt-ltb n (i + 1024) h))
-
-pub end-next : (i n : ℕ) → i + 1024 ≤ n → i + 1024 ≡ pieceEnd i n
-unfolding pieceEnd
-end-next i n h = sym (rw (le-ltb n (i + 1024) h))
-
-pub record Ends (i e n : ℕ) : Type 0 where
-  pub lo : i < e
-  pub hi : e ≤ n
-  pub near : e ≤ i + 1024
-
-end-by : (i n : ℕ) (t : Bool) → ltb n (i + 1024) ≡ t → i < n → Ends i (cond t n (i + 1024)) n
-end-by i n true q h = record { lo = h; hi = omega arith; near = omega (arith, ltb-true n (i + 1024) q) }
-end-by i n false q h = record { lo = omega arith; hi = ltb-false n (i + 1024) q; near = omega arith }
-
-pub end-of : (i n e : ℕ) → e ≡ pieceEnd i n → i < n → Ends i e n
-unfolding pieceEnd
-end-of i n e q h = subst (λ (x : ℕ). Ends i x n) (sym q) (end-by i n (ltb n (i + 1024)) refl h)
-
-module _ (text : List ℕ) (i e : ℕ) (E : Ends i e (length text)) where
-  pub piece-length : length (take (e - i) (drop i text)) ≡ e - i
-  piece-length = length-take (e - i) (drop i text) ∙ omega (arith, length-drop i text, E .lo, E .hi)
-
-  pub front-length : length (take i text) ≡ i
-  front-length = length-take i text ∙ omega (arith, E .lo, E .hi)
-
-  pub front-is : take i text ++ take (e - i) (drop i text) ≡ take e text
-  front-is =
-      let q : i + (e - i) ≡ e = omega (arith, E .lo) in
-      sym (take-add i (e - i) text) ∙ ap (λ (k : ℕ). take k text) q
-
-  -- a piece is short, and the text up to its end too
-  pub piece-short : length (take (e - i) (drop i text)) ≤ 1024
-  piece-short = omega (arith, piece-length, E .near)
-
-  pub piece-taken : length text ≤ mostTaken → length (take i text) + length (take (e - i) (drop i text)) ≤ mostTaken
-  piece-taken h = omega (arith, piece-length, front-length, E .lo, E .hi)
+use Rattle.spec_base.proofs.base.PartLaws.{rest-length}
 
 -- the first i bytes have been fed
 pub record At (c : Config) (m text : List ℕ) (i : ℕ) (s : Session) (o w : ℕ) (out₀ out places₀ places : List ℕ) : Type 0 where
@@ -84,10 +44,6 @@ pub record At (c : Config) (m text : List ℕ) (i : ℕ) (s : Session) (o w : �
   pub stands : Stands c m opens (take i text) s o w out₀ out places₀ places
 
 -- ---- the start
-pub none-wrote : (c : Config) (m out places : List ℕ) → Wrote c m [] 0 0 out out places places
-unfolding emitsOf outputOf warningsOf placesOf
-none-wrote c m out places = record { written = refl; warned = refl; text = sym (put-nil out); warnings = sym (put-nil places) }
-
 abbrev pub ownOf : Session → Config
 ownOf s = configOf (s .config .kind) (s .config .timescale)
 
@@ -102,7 +58,7 @@ back-length : (a : ℕ) (l y : List ℕ) → a ≤ length l → length y ≡ len
 back-length a l y h e =
     let p = length-append (take a l) (y ++ drop (length l - a) (drop a l)) in
     let q = length-append y (drop (length l - a) (drop a l)) in
-    omega (arith, p, q, length-take a l, length-drop (length l - a) (drop a l), length-drop a l, length-tail a l)
+    omega (arith, p, q, length-take a l, length-drop (length l - a) (drop a l), length-drop a l, rest-length a l)
 
 -- ---- a call more
 module _ (c : Config) (m text : List ℕ) (i : ℕ) (s : Session) (o w : ℕ) (out₀ out places₀ places : List ℕ) (A : At c m text i s o w out₀ out places₀ places) where
@@ -127,10 +83,10 @@ module _ (c : Config) (m text : List ℕ) (i : ℕ) (s : Session) (o w : ℕ) (o
   at-room = (omega (arith, few .0, A .output, out-long), omega (arith, few .1, A .warned, places-long))
 
   enough : leastOutput ≤ length (lent o out)
-  enough = omega (arith, length-tail o out, at-room .0)
+  enough = omega (arith, rest-length o out, at-room .0)
 
   enough-places : leastPlaces ≤ length (lent w places)
-  enough-places = omega (arith, length-tail w places, at-room .1)
+  enough-places = omega (arith, rest-length w places, at-room .1)
 
   -- what a call wrote fits behind what was written, and the buffers keep their lengths
   pub at-sums : (x : Call) (r : Fed) (u u′ v v′ : List ℕ) → Answered s x r u u′ v v′ → (o + r .written ≤ 4294967295) × (w + r .warned ≤ 4294967295)

@@ -8,22 +8,22 @@ use lib.Dec.{leb}
 use lib.ListN.{length, set}
 use borrow.Author.Tests.{ne-eqb, leb-true}
 use Rattle.spec_base.specs.base.Limits.{mostTaken}
-use Rattle.spec_base.specs.base.Refusal.{_orElse_, faultUnless}
+use Rattle.spec_base.specs.base.Refusal.{_orElse_, faultUnless, unlessRefused}
 use Rattle.spec_base.specs.base.Put.{put}
 use Rattle.spec_base.proofs.base.RefusalLaws.{else-none, else-found, else-zero, held}
 use Rattle.spec_base.proofs.base.PutLaws.{put-nil, sets-put}
-use Rattle.spec_caption.specs.caption_time.Kind.{kindBad}
-use Rattle.spec_caption.specs.caption_time.Convert.{timescaleBad}
+use Rattle.spec_time.specs.caption_time.Kind.{kindBad}
+use Rattle.spec_time.specs.caption_time.Convert.{timescaleBad}
 use Rattle.spec_map.specs.segment.Segment.{mapBad}
 use Rattle.spec_caption.specs.declared.caption_fate.Config.{Config}
 use Rattle.spec_caption.specs.caption_fate.Emit.{Emit, outputOf, warningsOf, placesOf}
-use Rattle.spec_format.specs.declared.ass_columns.Columns.{Columns}
-use Rattle.spec_session.specs.declared.session_counts.Counts.{Counts}
-use Rattle.spec_session.specs.session_counts.Session.{gate, openBy, fresh}
-use Rattle.spec_session.specs.session_counts.Session as model
-use Rattle.spec_session.proofs.session_counts.Counted.{counted-by}
-use Rattle.spec_session.proofs.session_counts.Numbers.{Opened, opened, opens-fresh}
-use Rattle.spec_session.specs.kinds.Kit.{kit}
+use Rattle.spec_ass.specs.declared.ass_columns.Columns.{Columns}
+use Rattle.spec_machine.specs.declared.session_counts.Counts.{Counts}
+use Rattle.spec_machine.specs.session_counts.Session.{gate, openBy, fresh}
+use Rattle.spec_machine.specs.session_counts.Session as model
+use Rattle.spec_machine.proofs.session_counts.Counted.{counted-by}
+use Rattle.spec_machine.proofs.session_counts.Numbers.{Opened, opened, opens-fresh}
+use Rattle.spec_machine.specs.kinds.Kit.{kit}
 use Rattle.spec_session.specs.declared.session_state.Session.{Session}
 use Rattle.spec_session.specs.session_state.View.{stored}
 use Rattle.spec_session.specs.declared.session.Opened as opening
@@ -31,7 +31,7 @@ use Rattle.spec_session.specs.session.SessionCalls.{openOf, OpenAnswered}
 use Rattle.promise.specs.Plain.{plainRead}
 use Rattle.promise.specs.Promise.{configOf}
 use Rattle.spec_runs.specs.declared.one_call.Ran.{Ran}
-use Rattle.spec_runs.specs.one_call.Text.{outputFor, placesFor, lengthsFault, refusedWith, emitsFor, textNumber, unlessRefused, toldOf, Retimed}
+use Rattle.spec_runs.specs.one_call.Text.{outputFor, placesFor, lengthsFault, refusedWith, emitsFor, textNumber, toldOf, Retimed}
 use Rattle.spec_runs.specs.one_call.Ran.{Ready, RanText, tellsOf}
 
 -- ---- seven numbers stored

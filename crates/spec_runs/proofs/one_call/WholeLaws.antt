@@ -12,24 +12,24 @@ use Rattle.spec_base.specs.base.Put.{placed, placedLength}
 use Rattle.spec_base.proofs.base.PutLaws.{length-put, length-yes, placed-yes, take-put}
 use Rattle.spec_map.specs.segment.Segment.{mapBad}
 use Rattle.spec_caption.specs.declared.caption_fate.Config.{Config}
-use Rattle.spec_format.specs.declared.ass_columns.Columns.{Columns}
-use Rattle.spec_session.specs.session_counts.Counts.{noCounts}
-use Rattle.spec_session.specs.session_counts.Machine.{Machine, Run, going, stopped, run}
-use Rattle.spec_session.specs.session_counts.Reader.{reading, readText}
-use Rattle.spec_session.specs.session_counts.Session.{isOutcome, outcomeBad, Gate, admit, gate, foreign, fresh, settle, resume, respond}
-use Rattle.spec_session.specs.session_counts.Session as model
-use Rattle.spec_session.proofs.session_counts.CutLaws.{has-none}
-use Rattle.spec_session.proofs.session_counts.Bytes.{ranTo, begin, bytes-reading}
-use Rattle.spec_session.proofs.session_counts.Resume.{ByFault, run-fault}
-use Rattle.spec_session.proofs.session_counts.Laws.{Lawful}
-use Rattle.spec_session.proofs.session_counts.Lists.{Inv, live}
-use Rattle.spec_session.proofs.session_counts.Numbers.{Opened, opened-config}
-use Rattle.spec_session.proofs.session_counts.Wholly.{fault-whole}
-use Rattle.spec_session.proofs.session_counts.Native.{not-foreign}
-use Rattle.spec_session.specs.kinds.Takes.{State, noColumns}
-use Rattle.spec_session.specs.kinds.Kit.{kit}
-use Rattle.spec_session.proofs.kinds.KindLaws.{lawful}
-use Rattle.spec_session.proofs.kinds.Native.{is-native}
+use Rattle.spec_ass.specs.declared.ass_columns.Columns.{Columns}
+use Rattle.spec_machine.specs.session_counts.Counts.{noCounts}
+use Rattle.spec_machine.specs.session_counts.Machine.{Machine, Run, going, stopped, run}
+use Rattle.spec_machine.specs.session_counts.Reader.{reading, readText}
+use Rattle.spec_machine.specs.session_counts.Session.{isOutcome, outcomeBad, Gate, admit, gate, foreign, fresh, settle, resume, respond}
+use Rattle.spec_machine.specs.session_counts.Session as model
+use Rattle.spec_machine.proofs.session_counts.CutLaws.{has-none}
+use Rattle.spec_machine.proofs.session_counts.Bytes.{ranTo, begin, bytes-reading}
+use Rattle.spec_machine.proofs.session_counts.Resume.{ByFault, run-fault}
+use Rattle.spec_machine.proofs.session_counts.Laws.{Lawful}
+use Rattle.spec_machine.proofs.session_counts.Lists.{Inv, live}
+use Rattle.spec_machine.proofs.session_counts.Numbers.{Opened, opened-config}
+use Rattle.spec_machine.proofs.session_counts.Wholly.{fault-whole}
+use Rattle.spec_machine.proofs.session_counts.Native.{not-foreign}
+use Rattle.spec_machine.specs.kinds.Takes.{State, noColumns}
+use Rattle.spec_machine.specs.kinds.Kit.{kit}
+use Rattle.spec_machine.proofs.kinds.KindLaws.{lawful}
+use Rattle.spec_machine.proofs.kinds.Native.{is-native}
 use Rattle.spec_session.specs.declared.session_state.Session.{Session}
 use Rattle.spec_session.specs.declared.session_state.Head.{Head}
 use Rattle.spec_session.specs.session_state.View.{heldOf, view}

@@ -4,9 +4,6 @@ use mathlib.Core.Path.{_≡_, refl, sym, ap, ap₂, subst, _∙_}
 use mathlib.Core.Logic.{inl}
 use mathlib.Core.List.{List, [], _∷_, _++_, append-assoc}
 use Prim.Native.Nat.{ℕ}
-use lib.ListN.{length, take}
-use Rattle.spec_base.specs.base.Put.{put}
-use Rattle.spec_base.proofs.base.PutLaws.{take-put}
 use Rattle.spec_map.specs.declared.segment.Segment.{Segment}
 use Rattle.spec_map.specs.segment.Segment.{segmentsOf}
 use Rattle.spec_caption.specs.declared.caption_fate.Config.{Config}
@@ -15,15 +12,15 @@ use Rattle.spec_caption.specs.caption_fate.Says.{Part}
 use Rattle.spec_caption.specs.caption_fate.Emit.{Warning, emitsOf, outputOf, warningsOf, placesOf}
 use Rattle.spec_caption.specs.caption_fate.Warns.{partWarns, warnsBy}
 use Rattle.spec_caption.proofs.caption_fate.WarnLaws.{warns-later}
-use Rattle.spec_format.specs.declared.ass_columns.Columns.{Columns}
-use Rattle.spec_session.specs.session_counts.Session.{Call, lentOf, answer, fresh}
-use Rattle.spec_session.specs.session_counts.Session as model
-use Rattle.spec_session.specs.session_counts.Calls.{Played, play, ProperCall, Proper}
-use Rattle.spec_session.proofs.session_counts.Numbers.{Opened}
-use Rattle.spec_session.specs.kinds.Kit.{kit}
+use Rattle.spec_ass.specs.declared.ass_columns.Columns.{Columns}
+use Rattle.spec_machine.specs.session_counts.Session.{Call, lentOf, answer, fresh}
+use Rattle.spec_machine.specs.session_counts.Session as model
+use Rattle.spec_machine.specs.session_counts.Calls.{Played, play, ProperCall, Proper}
+use Rattle.spec_machine.proofs.session_counts.Numbers.{Opened}
+use Rattle.spec_machine.specs.kinds.Kit.{kit}
 use Rattle.spec_session.specs.declared.session_state.Session.{Session}
 use Rattle.spec_session.specs.session_state.View.{view}
-use Rattle.spec_session.specs.session.SessionCalls.{feedCall, finishCall, answerOf, nextOf}
+use Rattle.spec_session.specs.session.SessionCalls.{answerOf, nextOf}
 use Rattle.spec_parking.specs.parking.Parked.{parkedOf}
 use Rattle.spec_parking.proofs.parking.Kept.{parked-again}
 use Rattle.promise.specs.Demand.{Demand}

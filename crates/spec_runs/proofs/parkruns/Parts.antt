@@ -9,28 +9,27 @@ use Rattle.spec_map.specs.segment.Segment.{mapBad}
 use Rattle.spec_caption.specs.declared.caption_fate.Config.{Config}
 use Rattle.spec_caption.specs.caption_fate.Says.{Part}
 use Rattle.spec_map.specs.segment.Segment.{segmentsOf}
-use Rattle.spec_format.specs.declared.ass_columns.Columns.{Columns}
-use Rattle.spec_session.specs.session_counts.Machine.{Machine, Run, going, stopped, run, finishRun}
-use Rattle.spec_session.specs.session_counts.Reader.{Reading}
-use Rattle.spec_session.specs.session_counts.Session.{Session, Call, feed, finish, lentOf, argumentBad, Gate, refuse, admit, gate, gateOf, foreign, fresh, settle, resume, respond, answer, emitted}
-use Rattle.spec_session.specs.session_counts.Calls.{play, ProperCall, Proper, Reader, ReaderAnswer, readerAnswer, newReader, hear, readingOf}
-use Rattle.spec_session.proofs.session_counts.Emits.{emits-none}
-use Rattle.spec_session.proofs.session_counts.Bytes.{ranTo, begin, bytes-reading}
-use Rattle.spec_session.proofs.session_counts.Resume.{after, run-append, run-after, finish-after}
-use Rattle.spec_session.proofs.session_counts.ReaderGate.{readerResponds, reader-gated}
-use Rattle.spec_session.proofs.session_counts.Native.{GoingOk, Ok, text-ok}
-use Rattle.spec_session.proofs.session_counts.Numbers.{Opened, opened-config}
-use Rattle.spec_session.proofs.session_counts.Lists.{Inv, live, dead, liveSession, deadSession, counted, led, led-native}
-use Rattle.spec_session.specs.kinds.Takes.{State, machineOf}
-use Rattle.spec_session.specs.kinds.Kit.{kit, said}
-use Rattle.spec_session.proofs.kinds.KindLaws.{lawful}
+use Rattle.spec_ass.specs.declared.ass_columns.Columns.{Columns}
+use Rattle.spec_machine.specs.session_counts.Machine.{Machine, Run, going, stopped, run, finishRun}
+use Rattle.spec_machine.specs.session_counts.Reader.{Reading}
+use Rattle.spec_machine.specs.session_counts.Session.{Session, Call, feed, finish, lentOf, argumentBad, Gate, refuse, admit, gate, gateOf, foreign, fresh, settle, resume, respond, answer, emitted}
+use Rattle.spec_machine.specs.session_counts.Calls.{play, ProperCall, Proper, Reader, ReaderAnswer, readerAnswer, newReader, hear, readingOf}
+use Rattle.spec_machine.proofs.session_counts.Emits.{emits-none}
+use Rattle.spec_machine.proofs.session_counts.Bytes.{ranTo, begin, bytes-reading}
+use Rattle.spec_machine.proofs.session_counts.Resume.{after, run-append, run-after, finish-after}
+use Rattle.spec_machine.proofs.session_counts.ReaderGate.{readerResponds, reader-gated}
+use Rattle.spec_machine.proofs.session_counts.Native.{GoingOk, Ok, text-ok}
+use Rattle.spec_machine.proofs.session_counts.Numbers.{Opened, opened-config}
+use Rattle.spec_machine.proofs.session_counts.Lists.{Inv, live, dead, liveSession, deadSession, counted, led, led-native}
+use Rattle.spec_machine.specs.kinds.Takes.{State, machineOf}
+use Rattle.spec_machine.specs.kinds.Kit.{kit, said}
+use Rattle.spec_machine.proofs.kinds.KindLaws.{lawful}
 use Rattle.spec_session.specs.session.Stand.{partsIn}
 use Rattle.spec_session.specs.session.SessionCalls.{gateNumber}
 use Rattle.spec_session.proofs.session.CallLaws.{gate-passed}
-use Rattle.promise.specs.Plain.{plainRead}
 use Rattle.promise.specs.Demand.{saidIn}
-use Rattle.promise.proofs.PlainText.{said-plain}
 use Rattle.spec_runs.specs.parkruns.Steps.{partsBy, partsOf}
+use Rattle.promise.proofs.DemandText.{read-same}
 
 -- ---- one call, of any session
 settled-emits : (v : Session Columns) (t : ℕ) (m : List ℕ) (y : Run State) → settle kit v t m y .emits ≡ emitted (v .config) m (partsIn y)
@@ -172,11 +171,8 @@ module _ (c : Config) (m : List ℕ) (o : Opened c m) where
       ∙ ap₂ (λ (ps qs : List Part). ps ++ qs) (parts-snoc past p x) (ap (λ (y : Session Columns). partsAll y xs) (play-snoc (fresh kit c) past x))
       ∙ append-assoc (saidParts past) (partsOf v x) (partsAll (answer kit v x .session) xs)
 
-  read-same : _≡_ {A = Bool → List ℕ → Reading} (λ f t. said (c .kind) f t) (λ f t. plainRead (c .kind) f t)
-  read-same = λ i f t. said-plain (c .kind) (o .kind-known) f t i
-
   said-same : (xs : List Call) → saidParts xs ≡ saidIn c xs .parts
-  said-same xs = ap (λ (r : Bool → List ℕ → Reading). readingOf r (hear r newReader xs .reader) .parts) read-same
+  said-same xs = ap (λ (r : Bool → List ℕ → Reading). readingOf r (hear r newReader xs .reader) .parts) (read-same c m o)
 
   -- the parts of a text that goes on
   pub said-more : (past : List Call) → Proper m past → (xs : List Call) → Proper m xs

@@ -6,18 +6,18 @@ use Prim.Native.Nat.{ℕ, _≤_}
 use lib.ListN.{length}
 use Rattle.spec_base.specs.base.Limits.{mostHeld}
 use Rattle.spec_caption.specs.declared.caption_fate.Config.{Config}
-use Rattle.spec_format.specs.declared.ass_columns.Columns.{Columns}
-use Rattle.spec_session.specs.declared.session_counts.Counts.{Counts}
-use Rattle.spec_session.specs.session_counts.Machine.{Run, going, stopped, run, finishRun}
-use Rattle.spec_session.specs.session_counts.Session.{Call, feed, finish, Gate, refuse, admit, blankOf, settle, resume, respond}
-use Rattle.spec_session.specs.session_counts.Session as model
-use Rattle.spec_session.specs.kinds.Takes.{State, machineOf}
-use Rattle.spec_session.specs.kinds.Kit.{kit}
+use Rattle.spec_ass.specs.declared.ass_columns.Columns.{Columns}
+use Rattle.spec_machine.specs.declared.session_counts.Counts.{Counts}
+use Rattle.spec_machine.specs.session_counts.Machine.{Run, going, stopped, run, finishRun}
+use Rattle.spec_machine.specs.session_counts.Session.{Call, feed, finish, Gate, refuse, admit, blankOf, settle, resume, respond}
+use Rattle.spec_machine.specs.session_counts.Session as model
+use Rattle.spec_machine.specs.kinds.Takes.{State, machineOf}
+use Rattle.spec_machine.specs.kinds.Kit.{kit}
 use Rattle.spec_session.specs.declared.session_state.Session.{Session}
 use Rattle.spec_session.specs.session_state.View.{heldOf, view, padded, stored}
 use Rattle.spec_session.proofs.session_state.ViewLaws.{held-padded}
 use Rattle.spec_session.specs.session.SessionCalls.{sessionGate, nextBy, nextOf}
-use Rattle.spec_parking.specs.parked_blocks.Sealed.{filled}
+use Rattle.spec_parked_blocks.specs.parked_blocks.Sealed.{filled}
 use Rattle.spec_parking.specs.parking.Parked.{keptBytes, remembered}
 use Rattle.promise.proofs.RunLaws.{Whole, next-small, next-is}
 

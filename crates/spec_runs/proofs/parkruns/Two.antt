@@ -3,13 +3,13 @@ use mathlib.Core.Path.{_≡_, refl, sym, ap, subst, _∙_}
 use mathlib.Core.List.{List, []}
 use Prim.Native.Nat.{ℕ}
 use native.Mathlib.Omega.{arith}
-use Rattle.spec_format.specs.declared.ass_columns.Columns.{Columns}
-use Rattle.spec_session.specs.session_counts.Session.{fresh, openSession}
-use Rattle.spec_session.specs.session_counts.Session as model
-use Rattle.spec_session.specs.session_counts.Calls.{play}
-use Rattle.spec_session.proofs.session_counts.Numbers.{Opened, opened, opens-fresh}
-use Rattle.spec_session.proofs.session_counts.Refine.{trace-plays}
-use Rattle.spec_session.specs.kinds.Kit.{kit}
+use Rattle.spec_ass.specs.declared.ass_columns.Columns.{Columns}
+use Rattle.spec_machine.specs.session_counts.Session.{fresh, openSession}
+use Rattle.spec_machine.specs.session_counts.Session as model
+use Rattle.spec_machine.specs.session_counts.Calls.{play}
+use Rattle.spec_machine.proofs.session_counts.Numbers.{Opened, opened, opens-fresh}
+use Rattle.spec_machine.proofs.session_counts.Refine.{trace-plays}
+use Rattle.spec_machine.specs.kinds.Kit.{kit}
 use Rattle.spec_session.specs.declared.session_state.Session.{Session}
 use Rattle.spec_session.specs.session_state.View.{view, stored}
 use Rattle.spec_session.specs.declared.session.Opened as calling

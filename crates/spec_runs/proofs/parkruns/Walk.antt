@@ -1,7 +1,7 @@
 -- Steps walked through: no parking is refused, each gives the very session back, and the calls alone are a run of the same outcome.
 use mathlib.Core.Path.{_≡_, refl, sym, ap, subst, _∙_}
 use mathlib.Core.Logic.{inr}
-use mathlib.Core.Bool.{false, cond, not}
+use mathlib.Core.Bool.{false, cond}
 use mathlib.Core.List.{List, [], _∷_, _++_}
 use Prim.Native.Nat.{ℕ, _≤_}
 use lib.Dec.{eqb}
@@ -11,20 +11,20 @@ use Rattle.spec_base.specs.base.Refusal.{_orElse_, faultUnless}
 use Rattle.spec_base.specs.base.Put.{put}
 use Rattle.spec_base.proofs.base.PutLaws.{take-put}
 use Rattle.spec_caption.specs.declared.caption_fate.Config.{Config}
-use Rattle.spec_format.specs.declared.ass_columns.Columns.{Columns}
-use Rattle.spec_session.specs.session_counts.Session.{Call, answer, fresh, foreign}
-use Rattle.spec_session.specs.session_counts.Session as model
-use Rattle.spec_session.specs.session_counts.Calls.{Played, play, ProperCall, Proper}
-use Rattle.spec_session.proofs.session_counts.Numbers.{Opened, opened-config}
-use Rattle.spec_session.proofs.session_counts.Lists.{led-native}
-use Rattle.spec_session.specs.kinds.Kit.{kit}
-use Rattle.spec_session.proofs.kinds.KindLaws.{lawful}
+use Rattle.spec_ass.specs.declared.ass_columns.Columns.{Columns}
+use Rattle.spec_machine.specs.session_counts.Session.{Call, answer, fresh, foreign}
+use Rattle.spec_machine.specs.session_counts.Session as model
+use Rattle.spec_machine.specs.session_counts.Calls.{Played, play, ProperCall, Proper}
+use Rattle.spec_machine.proofs.session_counts.Numbers.{Opened, opened-config}
+use Rattle.spec_machine.proofs.session_counts.Lists.{led-native}
+use Rattle.spec_machine.specs.kinds.Kit.{kit}
+use Rattle.spec_machine.proofs.kinds.KindLaws.{lawful}
 use Rattle.spec_session.specs.declared.session_state.Session.{Session}
 use Rattle.spec_session.specs.session_state.View.{view, stored, foreignOf}
 use Rattle.spec_session.proofs.session_state.ViewLaws.{foreign-view}
 use Rattle.spec_session.specs.session.SessionCalls.{nextOf}
 use Rattle.spec_parking.specs.declared.parking.TakenUp.{TakenUp}
-use Rattle.spec_parking.specs.parked_blocks.Sealed.{sealedLength}
+use Rattle.spec_parked_blocks.specs.parked_blocks.Sealed.{sealedLength}
 use Rattle.spec_parking.specs.parking.Parked.{parkedOf, sessionIn}
 use Rattle.spec_parking.specs.parking.Parkings.{parkNumber, whenDone, Parks, TakesUp, Kept}
 use Rattle.spec_parking.proofs.parking.Kept.{parked-again, parked-length}

@@ -3,8 +3,8 @@ use mathlib.Core.Path.{_≡_, refl, sym, ap, ap₂, subst, _∙_}
 use mathlib.Core.List.{List}
 use Prim.Native.Nat.{ℕ}
 use native.Mathlib.Omega.{arith}
-use Rattle.spec_caption.specs.caption_stamp.Write.{timeText}
-use Rattle.spec_caption.proofs.caption_time.Limits.{timescale-low, units-low}
+use Rattle.spec_time.specs.caption_stamp.Write.{timeText}
+use Rattle.spec_time.proofs.caption_time.Limits.{timescale-low, units-low}
 use Rattle.spec_map.specs.declared.segment.Segment.{Segment}
 use Rattle.spec_map.specs.segment.Segment.{segmentsOf, flatOf}
 use Rattle.spec_map.proofs.segment.SegmentLaws.{flat-back}
@@ -18,9 +18,9 @@ use Rattle.spec_caption.specs.caption_fate.Emit.{Caption, none, decided, render
 use Rattle.spec_ask.specs.ask_order.Ascending.{ascends}
 use Rattle.spec_ask.specs.ask_order.Order.{WrittenAs, InOrder}
 use Rattle.spec_ask.proofs.ask_order.Places.{kept-as, keeps-order}
-use Rattle.spec_session.specs.session_counts.Session.{openSession}
-use Rattle.spec_session.proofs.session_counts.Numbers.{opened}
-use Rattle.spec_session.specs.kinds.Kit.{kit}
+use Rattle.spec_machine.specs.session_counts.Session.{openSession}
+use Rattle.spec_machine.proofs.session_counts.Numbers.{opened}
+use Rattle.spec_machine.specs.kinds.Kit.{kit}
 use Rattle.spec_session.specs.declared.session.Opened.{Opened}
 use Rattle.spec_session.specs.session.SessionCalls.{OpenAnswered, openOf}
 use Rattle.promise.specs.Demand.{saidIn}

@@ -8,15 +8,15 @@ use mathlib.Core.List.{List}
 use Prim.Native.Nat.{ℕ, _+_, _*_}
 use lib.ListN.{length, take, getD}
 use Rattle.spec_base.specs.base.Put.{put}
-use Rattle.spec_caption.specs.caption_time.Kind.{kindBad}
+use Rattle.spec_time.specs.caption_time.Kind.{kindBad}
 use Rattle.spec_map.specs.segment.Segment.{segmentsOf, flatOf}
 use Rattle.spec_map.specs.segmap.Map.{mapOf}
 use Rattle.spec_caption.specs.caption_fate.Says.{Part, captionsIn}
 use Rattle.spec_caption.specs.caption_fate.Emit.{Emit, Warning, outputOf, warningsOf}
-use Rattle.spec_format.specs.declared.ass_columns.Columns.{Columns}
-use Rattle.spec_session.specs.session_counts.Counts.{howMany, wasShifted, wasClipped, wasDropped, wasPassed}
-use Rattle.spec_session.specs.session_counts.Session.{Call, emitted}
-use Rattle.spec_session.specs.session_counts.Calls.{Played}
+use Rattle.spec_ass.specs.declared.ass_columns.Columns.{Columns}
+use Rattle.spec_machine.specs.session_counts.Counts.{howMany, wasShifted, wasClipped, wasDropped, wasPassed}
+use Rattle.spec_machine.specs.session_counts.Session.{Call, emitted}
+use Rattle.spec_machine.specs.session_counts.Calls.{Played}
 use Rattle.promise.specs.Plain.{plainRead}
 use Rattle.promise.specs.Again.{AllAgain}
 use Rattle.promise.specs.Demand.{AllRight, passings, heard, Demand}

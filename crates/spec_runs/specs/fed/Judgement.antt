@@ -9,7 +9,7 @@ use Rattle.spec_caption.specs.caption_fate.Fates.{Fate}
 use Rattle.spec_caption.specs.caption_fate.Says.{Cue, Part, cue}
 use Rattle.spec_caption.specs.caption_fate.Emit.{decided, emitOf}
 use Rattle.spec_ask.specs.ask_rough.Rough.{roughOf, JudgedAs}
-use Rattle.spec_session.specs.session_counts.Calls.{Proper}
+use Rattle.spec_machine.specs.session_counts.Calls.{Proper}
 use Rattle.spec_session.specs.declared.session.Opened.{Opened}
 use Rattle.spec_session.specs.session.SessionCalls.{OpenAnswered}
 use Rattle.promise.specs.Demand.{ticks, saidIn, Demand}

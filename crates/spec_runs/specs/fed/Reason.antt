@@ -11,7 +11,7 @@ use Rattle.spec_caption.specs.caption_fate.Says.{Cue, Part, cue}
 use Rattle.spec_caption.specs.caption_fate.Emit.{decided, emitOf}
 use Rattle.spec_caption.specs.caption_fate.Told.{countedOf}
 use Rattle.spec_ask.specs.ask_reason.Reason.{whyOf}
-use Rattle.spec_session.specs.session_counts.Calls.{Proper}
+use Rattle.spec_machine.specs.session_counts.Calls.{Proper}
 use Rattle.spec_session.specs.declared.session.Opened.{Opened}
 use Rattle.spec_session.specs.session.SessionCalls.{OpenAnswered}
 use Rattle.promise.specs.Demand.{saidIn, Demand}

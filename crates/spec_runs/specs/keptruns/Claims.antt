@@ -8,11 +8,11 @@ use mathlib.Core.List.{List}
 use Prim.Native.Nat.{ℕ, _≤_, _*_}
 use lib.ListN.{length, take}
 use Rattle.spec_base.specs.base.Put.{put}
-use Rattle.spec_caption.specs.caption_time.Kind.{kindBad}
+use Rattle.spec_time.specs.caption_time.Kind.{kindBad}
 use Rattle.spec_map.specs.segment.Segment.{flatOf}
 use Rattle.spec_map.specs.segmap.Map.{mapOf}
-use Rattle.spec_session.specs.session_counts.Calls.{Proper}
-use Rattle.spec_parking.specs.parked_blocks.Sealed.{sealedLength}
+use Rattle.spec_machine.specs.session_counts.Calls.{Proper}
+use Rattle.spec_parked_blocks.specs.parked_blocks.Sealed.{sealedLength}
 use Rattle.promise.specs.Demand.{Demand}
 use Rattle.promise.specs.Promise.{configOf}
 use Rattle.spec_parking.specs.session_bytes.ByteCalls.{openNumber, openBytes}

@@ -6,9 +6,9 @@ use Prim.Native.Nat.{ℕ}
 use lib.ListN.{length, take}
 use Rattle.spec_base.specs.base.Put.{put}
 use Rattle.spec_caption.specs.caption_fate.Emit.{Warning}
-use Rattle.spec_format.specs.declared.ass_columns.Columns.{Columns}
-use Rattle.spec_session.specs.session_counts.Session.{Call}
-use Rattle.spec_session.specs.session_counts.Calls.{Played}
+use Rattle.spec_ass.specs.declared.ass_columns.Columns.{Columns}
+use Rattle.spec_machine.specs.session_counts.Session.{Call}
+use Rattle.spec_machine.specs.session_counts.Calls.{Played}
 use Rattle.spec_session.specs.session_state.View.{view}
 use Rattle.spec_session.specs.session.SessionCalls.{feedCall, finishCall}
 use Rattle.spec_parking.specs.parking.Parked.{sessionIn}

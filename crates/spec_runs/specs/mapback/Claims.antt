@@ -9,17 +9,17 @@ use lib.ListN.{length, take, getD}
 use Rattle.spec_base.specs.base.Limits.{mostFrame, mostSegments}
 use Rattle.spec_base.specs.base.Refusal.{faultUnless}
 use Rattle.spec_text.specs.utf8.Utf8.{utf8}
-use Rattle.spec_caption.specs.caption_time.Kind.{kindBad}
+use Rattle.spec_time.specs.caption_time.Kind.{kindBad}
 use Rattle.spec_map.specs.segment.Segment.{segmentsOf}
 use Rattle.spec_session.specs.declared.session.Opened.{Opened}
 use Rattle.spec_session.specs.session.SessionCalls.{OpenAnswered}
 use Rattle.promise.specs.Stronger.{DemandKept}
-use Rattle.spec_json.specs.declared.map_json_write.Wrote.{Wrote}
-use Rattle.spec_json.specs.declared.map_json_read.Taken.{Taken}
-use Rattle.spec_json.specs.map_json_write.Names.{mostPath}
-use Rattle.spec_json.specs.map_json_write.Text.{mapText}
-use Rattle.spec_json.specs.map_json_write.MapWritten.{Writes}
-use Rattle.spec_json.specs.map_json_read.MapRead.{Reads}
+use Rattle.spec_map_json.specs.declared.map_json_write.Wrote.{Wrote}
+use Rattle.spec_map_json.specs.declared.map_json_read.Taken.{Taken}
+use Rattle.spec_map_json.specs.map_json_write.Names.{mostPath}
+use Rattle.spec_map_json.specs.map_json_write.Text.{mapText}
+use Rattle.spec_map_json.specs.map_json_write.MapWritten.{Writes}
+use Rattle.spec_map_json.specs.map_json_read.MapRead.{Reads}
 
 pub record Opens (kind T : ℕ) (m : List ℕ) (o : Opened) : Type 0 where
   pub number : o .number ≡ 0

@@ -1,15 +1,14 @@
--- Where pieces end. For the private functions: a session to start with, and what a run over a whole text leaves.
+-- For the private functions: a session to start with, and what a run over a whole text leaves.
 use mathlib.Core.Path.{_≡_}
-use mathlib.Core.Bool.{true, cond}
+use mathlib.Core.Bool.{true}
 use mathlib.Core.List.{List, _∷_, []}
-use Prim.Native.Nat.{ℕ, _+_, _≤_}
-use lib.Dec.{ltb}
+use Prim.Native.Nat.{ℕ, _≤_}
 use lib.ListN.{length}
-use Rattle.spec_base.specs.base.Limits.{mostPiece, mostTaken}
+use Rattle.spec_base.specs.base.Limits.{mostTaken}
 use Rattle.spec_base.specs.base.Put.{put}
 use Rattle.spec_caption.specs.caption_fate.Emit.{outputOf, warningsOf, placesOf}
 use Rattle.spec_caption.specs.declared.caption_fate.Config.{Config}
-use Rattle.spec_session.specs.session_counts.Counts.{countsOf}
+use Rattle.spec_machine.specs.session_counts.Counts.{countsOf}
 use Rattle.spec_session.specs.declared.session_state.Session.{Session}
 use Rattle.spec_session.specs.declared.session_state.Head.{Head}
 use Rattle.spec_session.specs.session_state.View.{stored}
@@ -17,10 +16,6 @@ use Rattle.spec_session.specs.session.SessionCalls.{openOf}
 use Rattle.promise.specs.Plain.{plainRead}
 use Rattle.spec_runs.specs.declared.one_call.Ran.{Ran}
 use Rattle.spec_runs.specs.one_call.Text.{outputFor, placesFor, emitsFor}
-
--- where a piece that begins at i of n bytes ends: 1,024 bytes on, or where the text ends
-unfoldable pub pieceEnd : (i n : ℕ) → ℕ
-pieceEnd i n = cond (ltb n (i + mostPiece)) n (i + mostPiece)
 
 -- the session that open returned with 0, and enough lent for a text of n bytes
 pub record Ready (s : Session) (map : List ℕ) (n out places : ℕ) : Type 0 where

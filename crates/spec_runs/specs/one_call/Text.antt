@@ -1,20 +1,20 @@
 -- A whole text at once: the number, and what stands in the lent output, places and told numbers afterwards. All of it is the plain reader's
 -- (promise/specs/Plain): the text is read as after a finish, and what it says is put through the map.
 use mathlib.Core.Path.{_≡_}
-use mathlib.Core.Bool.{true, not, cond}
+use mathlib.Core.Bool.{true, not}
 use mathlib.Core.List.{List, [], _∷_}
 use Prim.Native.Nat.{ℕ, _+_, _*_, _/_}
-use lib.Dec.{eqb, leb}
+use lib.Dec.{leb}
 use lib.ListN.{length}
 use Rattle.spec_base.specs.base.Limits.{mostTaken, leastOutput, leastPlaces}
-use Rattle.spec_base.specs.base.Refusal.{_orElse_, faultUnless}
+use Rattle.spec_base.specs.base.Refusal.{_orElse_, faultUnless, unlessRefused}
 use Rattle.spec_base.specs.base.Put.{put}
-use Rattle.spec_caption.specs.caption_time.Kind.{kindBad}
-use Rattle.spec_caption.specs.caption_time.Convert.{timescaleBad}
+use Rattle.spec_time.specs.caption_time.Kind.{kindBad}
+use Rattle.spec_time.specs.caption_time.Convert.{timescaleBad}
 use Rattle.spec_map.specs.segment.Segment.{mapBad}
 use Rattle.spec_caption.specs.caption_fate.Emit.{Emit, outputOf, warningsOf, placesOf}
-use Rattle.spec_session.specs.session_counts.Counts.{howMany, wasShifted, wasClipped, wasDropped, wasPassed}
-use Rattle.spec_session.specs.session_counts.Session.{emitted}
+use Rattle.spec_machine.specs.session_counts.Counts.{howMany, wasShifted, wasClipped, wasDropped, wasPassed}
+use Rattle.spec_machine.specs.session_counts.Session.{emitted}
 use Rattle.promise.specs.Plain.{plainRead}
 use Rattle.promise.specs.Promise.{configOf}
 
@@ -52,10 +52,7 @@ emitsFor kind T m text = emitted (configOf kind T) m (plainRead kind true text .
 unfoldable pub textNumber : (kind T : ℕ) (map text : List ℕ) (out places told : ℕ) → ℕ
 textNumber kind T m text o w t = refusedWith kind T m (length text) o w t orElse plainRead kind true text .fault
 
--- ---- what is written: refused, nothing
-abbrev pub unlessRefused : (refusal : ℕ) → List ℕ → List ℕ
-unlessRefused k v = cond (eqb k 0) v []
-
+-- ---- what is written: refused, nothing (`unlessRefused`)
 -- both lengths, the captions of each fate, and the bytes taken
 unfoldable pub toldOf : List Emit → (taken : ℕ) → List ℕ
 toldOf es n =

@@ -10,9 +10,9 @@ use Rattle.spec_caption.specs.caption_fate.Says.{Part}
 use Rattle.spec_caption.specs.caption_fate.Emit.{outputOf}
 use Rattle.spec_caption.specs.caption_fate.Warns.{warnsBy}
 use Rattle.spec_map.specs.segment.Segment.{segmentsOf}
-use Rattle.spec_session.specs.session_counts.Counts.{countsOf}
-use Rattle.spec_session.specs.session_counts.Session.{emitted}
-use Rattle.spec_session.specs.session_counts.Calls.{Proper}
+use Rattle.spec_machine.specs.session_counts.Counts.{countsOf}
+use Rattle.spec_machine.specs.session_counts.Session.{emitted}
+use Rattle.spec_machine.specs.session_counts.Calls.{Proper}
 use Rattle.spec_session.specs.declared.session.Opened.{Opened}
 use Rattle.spec_session.specs.session.SessionCalls.{OpenAnswered}
 use Rattle.spec_parking.specs.declared.parking.TakenUp.{TakenUp}

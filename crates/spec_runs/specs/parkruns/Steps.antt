@@ -9,20 +9,20 @@ use Rattle.spec_caption.specs.caption_fate.Emit.{Warning, outputOf, placesOf}
 use Rattle.spec_caption.specs.caption_fate.Warns.{warnsBy}
 use Rattle.spec_map.specs.segment.Segment.{segmentsOf}
 use Rattle.spec_base.specs.base.Put.{put}
-use Rattle.spec_format.specs.declared.ass_columns.Columns.{Columns}
-use Rattle.spec_session.specs.session_counts.Machine.{run, finishRun}
-use Rattle.spec_session.specs.session_counts.Session.{Call, feed, finish, lentOf, Gate, refuse, admit, gateOf, resume}
-use Rattle.spec_session.specs.session_counts.Session as model
-use Rattle.spec_session.specs.session_counts.Calls.{Played}
-use Rattle.spec_session.specs.kinds.Takes.{machineOf}
-use Rattle.spec_session.specs.kinds.Kit.{kit}
+use Rattle.spec_ass.specs.declared.ass_columns.Columns.{Columns}
+use Rattle.spec_machine.specs.session_counts.Machine.{run, finishRun}
+use Rattle.spec_machine.specs.session_counts.Session.{Call, feed, finish, lentOf, Gate, refuse, admit, gateOf, resume}
+use Rattle.spec_machine.specs.session_counts.Session as model
+use Rattle.spec_machine.specs.session_counts.Calls.{Played}
+use Rattle.spec_machine.specs.kinds.Takes.{machineOf}
+use Rattle.spec_machine.specs.kinds.Kit.{kit}
 use Rattle.spec_session.specs.declared.session_state.Session.{Session}
 use Rattle.spec_session.specs.session_state.View.{view}
 use Rattle.spec_session.specs.declared.session.Fed.{Fed}
 use Rattle.spec_session.specs.session.SessionCalls.{answerOf, nextOf}
 use Rattle.spec_session.specs.session.Stand.{partsIn}
 use Rattle.spec_parking.specs.declared.parking.TakenUp.{TakenUp}
-use Rattle.spec_parking.specs.parked_blocks.Sealed.{sealedLength}
+use Rattle.spec_parked_blocks.specs.parked_blocks.Sealed.{sealedLength}
 use Rattle.spec_parking.specs.parking.Parked.{parkedOf}
 use Rattle.spec_parking.specs.parking.Parkings.{Parks, TakesUp, Mark}
 use Rattle.promise.specs.Runs.{Made, Lends, Met, writtenBy, warnedBy}

@@ -5,7 +5,7 @@ use mathlib.Core.Path.{_≡_}
 use mathlib.Core.Bool.{true}
 use mathlib.Core.List.{List, List·Memᴰ}
 use Prim.Native.Nat.{ℕ, _≤_}
-use Rattle.spec_caption.specs.caption_stamp.Write.{timeText}
+use Rattle.spec_time.specs.caption_stamp.Write.{timeText}
 use Rattle.spec_map.specs.declared.segment.Segment.{Segment}
 use Rattle.spec_map.specs.segment.Segment.{segmentsOf, flatOf}
 use Rattle.spec_caption.specs.declared.caption_fate.Config.{Config}
@@ -14,7 +14,7 @@ use Rattle.spec_caption.specs.caption_fate.Says.{Cue, Part, cue}
 use Rattle.spec_caption.specs.caption_fate.Emit.{decided, render, emitOf}
 use Rattle.spec_ask.specs.ask_order.Ascending.{ascends}
 use Rattle.spec_ask.specs.ask_order.Order.{WrittenAs}
-use Rattle.spec_session.specs.session_counts.Calls.{Proper}
+use Rattle.spec_machine.specs.session_counts.Calls.{Proper}
 use Rattle.spec_session.specs.declared.session.Opened.{Opened}
 use Rattle.spec_session.specs.session.SessionCalls.{OpenAnswered}
 use Rattle.promise.specs.Demand.{saidIn, Demand}

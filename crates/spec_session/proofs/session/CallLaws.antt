@@ -1,39 +1,39 @@
 -- Laws of what a call answers.
 use mathlib.Core.Path.{_≡_, refl, sym, ap, ap₂, subst, _∙_}
-use mathlib.Core.Bool.{Bool, true, false, _||_, cond}
+use mathlib.Core.Bool.{Bool, true, false, _||_}
 use mathlib.Core.List.{List, [], _∷_, _++_, append-nil}
 use Prim.Native.Nat.{ℕ, zero, suc, _+_, _-_, _≤_}
 use native.Mathlib.Omega.{arith}
 use native.Mathlib.Nat.{le-of-eq, not-suc-le-zero}
-use lib.Dec.{eqb, ltb}
+use lib.Dec.{ltb}
 use lib.ListN.{length, take, drop, replicate, length-append, length-drop, length-take, drop-of-length-le}
 use borrow.Author.Tests.{ltb-false, eqb-false}
-use Rattle.spec_base.specs.base.Limits.{mostPiece, leastOutput, leastPlaces, mostTaken, mostHeld, mostLine, mostBlock}
+use Rattle.spec_base.specs.base.Limits.{mostPiece, leastOutput, leastPlaces, mostTaken, mostHeld, mostBlock}
 use Rattle.spec_base.specs.base.Put.{put}
 use Rattle.spec_base.proofs.base.Laws.{or-left, or-right}
 use Rattle.spec_base.proofs.base.PutLaws.{put-nil}
 use Rattle.spec_text.specs.text.Line.{concat, lineCount}
-use Rattle.spec_caption.specs.caption_time.Kind.{kindBad}
-use Rattle.spec_caption.specs.caption_time.Convert.{timescaleBad}
+use Rattle.spec_time.specs.caption_time.Kind.{kindBad}
+use Rattle.spec_time.specs.caption_time.Convert.{timescaleBad}
 use Rattle.spec_map.specs.segment.Segment.{mapBad}
 use Rattle.spec_caption.specs.declared.caption_fate.Config.{Config}
 use Rattle.spec_caption.specs.caption_fate.Says.{Part}
 use Rattle.spec_caption.specs.caption_fate.Emit.{outputOf, warningsOf, placesOf}
-use Rattle.spec_format.specs.declared.ass_columns.Columns.{Columns}
-use Rattle.spec_session.specs.declared.session_counts.Counts.{Counts}
-use Rattle.spec_session.specs.session_counts.Counts.{noCounts, countAll}
-use Rattle.spec_session.specs.session_counts.Cut.{closedLines, unfinished}
-use Rattle.spec_session.specs.session_counts.Machine.{Run, going, stopped, run, finishRun, restOf}
-use Rattle.spec_session.specs.session_counts.Session.{Call, feed, finish, lentOf, argumentBad, Gate, refuse, admit, gate, configBad, countsAbove, foreign, emitted, settle, resume, respond, openBy, fresh, noSession}
-use Rattle.spec_session.specs.session_counts.Session as model
-use Rattle.spec_session.proofs.session_counts.Emits.{emits-none}
-use Rattle.spec_session.proofs.session_counts.Resume.{ByFault, run-fault, Stopped, finish-stops}
-use Rattle.spec_session.proofs.session_counts.Native.{GoingOk, Ok, run-ok}
-use Rattle.spec_session.specs.kinds.Takes.{State, noColumns, machineOf}
-use Rattle.spec_session.specs.kinds.Kit.{kit, strange}
-use Rattle.spec_session.proofs.kinds.KindLaws.{lawful, known-three}
-use Rattle.spec_session.proofs.kinds.Native.{Native}
-use Rattle.spec_session.proofs.kinds.Fits.{resume-ok}
+use Rattle.spec_ass.specs.declared.ass_columns.Columns.{Columns}
+use Rattle.spec_machine.specs.declared.session_counts.Counts.{Counts}
+use Rattle.spec_machine.specs.session_counts.Counts.{noCounts, countAll}
+use Rattle.spec_machine.specs.session_counts.Cut.{closedLines, unfinished}
+use Rattle.spec_machine.specs.session_counts.Machine.{Run, going, stopped, run, finishRun, restOf}
+use Rattle.spec_machine.specs.session_counts.Session.{Call, Gate, refuse, admit, gate, configBad, countsAbove, foreign, emitted, settle, resume, respond, openBy, fresh, noSession}
+use Rattle.spec_machine.specs.session_counts.Session as model
+use Rattle.spec_machine.proofs.session_counts.Emits.{emits-none}
+use Rattle.spec_machine.proofs.session_counts.Resume.{ByFault, run-fault, Stopped, finish-stops}
+use Rattle.spec_machine.proofs.session_counts.Native.{Ok, run-ok}
+use Rattle.spec_machine.specs.kinds.Takes.{State, noColumns, machineOf}
+use Rattle.spec_machine.specs.kinds.Kit.{kit, strange}
+use Rattle.spec_machine.proofs.kinds.KindLaws.{lawful, known-three}
+use Rattle.spec_machine.proofs.kinds.Native.{Native}
+use Rattle.spec_machine.proofs.kinds.Fits.{resume-ok}
 use Rattle.spec_session.specs.declared.session_state.Session.{Session}
 use Rattle.spec_session.specs.session_state.View.{heldOf, view, padded, stored, foreignOf}
 use Rattle.spec_session.proofs.session_state.ViewLaws.{held-length, held-plain, foreign-view, native-view}
@@ -152,11 +152,11 @@ by-gate s x r out out′ places places′ g e b =
     }
 
 -- nothing emitted, nothing written
-nothing-written : (out : List ℕ) → out ≡ put (outputOf []) out
+pub nothing-written : (out : List ℕ) → out ≡ put (outputOf []) out
 unfolding outputOf
 nothing-written out = sym (put-nil out)
 
-nothing-warned : (places : List ℕ) → places ≡ put (placesOf (warningsOf [])) places
+pub nothing-warned : (places : List ℕ) → places ≡ put (placesOf (warningsOf [])) places
 unfolding warningsOf placesOf
 nothing-warned places = sym (put-nil places)
 

@@ -11,36 +11,36 @@ use borrow.Author.Tests.{eq-eqb, ne-eqb, eqb-false}
 use Rattle.spec_base.specs.base.Limits.{mostBlock}
 use Rattle.spec_base.specs.base.Put.{put, placed}
 use Rattle.spec_base.proofs.base.Laws.{and-right}
-use Rattle.spec_base.proofs.base.PutLaws.{put-nil, tail-back, putAt-nil, placed-yes, length-tail}
+use Rattle.spec_base.proofs.base.PutLaws.{put-nil, tail-back, putAt-nil, placed-yes}
 use Rattle.spec_text.specs.pattern.Find.{equals}
 use Rattle.spec_text.specs.utf8.Utf8.{utf8}
 use Rattle.spec_text.specs.text.Line.{concat, linesOf, lineCount, hasLf}
-use Rattle.spec_caption.specs.caption_time.Kind.{kindBad}
+use Rattle.spec_time.specs.caption_time.Kind.{kindBad}
 use Rattle.spec_caption.specs.declared.caption_fate.Config.{Config}
 use Rattle.spec_map.specs.segment.Segment.{segmentsOf}
 use Rattle.spec_caption.specs.caption_fate.Says.{Part, stays, notUtf8, badHeader, faultNumber}
 use Rattle.spec_caption.specs.caption_fate.Emit.{Emit, Warning, emitBy, emitsOf, outputOf, warningsOf, placesOf}
-use Rattle.spec_format.specs.ass_line.Line.{LineSays, lineSays, faulty as lineFaulty, says as lineSaid}
-use Rattle.spec_format.specs.block_timing.Style.{styleOf}
-use Rattle.spec_format.specs.block_timing.Header.{headerDue}
-use Rattle.spec_format.specs.block_cue.Block.{BlockSays, blockSays, faulty as blockFaulty, says as blockSaid}
-use Rattle.spec_session.specs.declared.session_counts.Counts.{Counts}
-use Rattle.spec_session.specs.session_counts.Counts.{countAll}
-use Rattle.spec_session.specs.session_counts.Cut.{unfinished}
-use Rattle.spec_session.specs.session_counts.Machine.{Machine, Says, faulty, says, bom, hasBom, withBom, lineWith, takeLine, restFor, Run, going, stopped, lineEnd, closed, lastEnd, atEnd, finishRun}
-use Rattle.spec_session.specs.session_counts.Session.{emitted}
-use Rattle.spec_session.proofs.session_counts.Emits.{emits-none, output-none, count-none}
-use Rattle.spec_session.proofs.session_counts.Resume.{fault-number}
-use Rattle.spec_session.proofs.session_counts.OpenLines.{bom-open}
-use Rattle.spec_session.proofs.session_counts.Laws.{StepOk, Lawful}
-use Rattle.spec_session.proofs.session_counts.Native.{line-ok}
-use Rattle.spec_session.proofs.session_counts.Room.{outLen, warnLen, RoomOf, Leaves, line-room}
-use Rattle.spec_session.specs.kinds.Takes.{State, blankState, ofLine, lineTakes, ofBlock, closes, takes, blockEnds, ends, machineOf}
-use Rattle.spec_session.specs.kinds.Kit.{kit}
-use Rattle.spec_session.proofs.kinds.KindLaws.{takes-ass, takes-srt, takes-vtt, Fit, known-three, lawful-fit, lawful-size, lawful-pending}
-use Rattle.spec_session.proofs.kinds.Native.{Native}
-use Rattle.spec_session.proofs.kinds.KindRoom.{srt-some, block-end, vtt-end}
-use Rattle.spec_session.proofs.kinds.Fits.{places-two, room-of}
+use Rattle.spec_ass.specs.ass_line.Line.{LineSays, lineSays, faulty as lineFaulty, says as lineSaid}
+use Rattle.spec_cue.specs.block_timing.Style.{styleOf}
+use Rattle.spec_cue.specs.block_timing.Header.{headerDue}
+use Rattle.spec_cue.specs.block_cue.Block.{BlockSays, blockSays, faulty as blockFaulty, says as blockSaid}
+use Rattle.spec_machine.specs.declared.session_counts.Counts.{Counts}
+use Rattle.spec_machine.specs.session_counts.Counts.{countAll}
+use Rattle.spec_machine.specs.session_counts.Cut.{unfinished}
+use Rattle.spec_machine.specs.session_counts.Machine.{Machine, Says, faulty, says, bom, hasBom, withBom, lineWith, takeLine, restFor, Run, going, stopped, lineEnd, closed, lastEnd, atEnd, finishRun}
+use Rattle.spec_machine.specs.session_counts.Session.{emitted}
+use Rattle.spec_machine.proofs.session_counts.Emits.{emits-none, output-none, count-none}
+use Rattle.spec_machine.proofs.session_counts.Resume.{fault-number}
+use Rattle.spec_machine.proofs.session_counts.OpenLines.{bom-open}
+use Rattle.spec_machine.proofs.session_counts.Laws.{StepOk, Lawful}
+use Rattle.spec_machine.proofs.session_counts.Native.{line-ok}
+use Rattle.spec_machine.proofs.session_counts.Room.{outLen, warnLen, RoomOf, line-room}
+use Rattle.spec_machine.specs.kinds.Takes.{State, blankState, ofLine, lineTakes, ofBlock, closes, takes, blockEnds, ends, machineOf}
+use Rattle.spec_machine.specs.kinds.Kit.{kit}
+use Rattle.spec_machine.proofs.kinds.KindLaws.{takes-ass, takes-srt, takes-vtt, Fit, known-three, lawful-fit, lawful-size, lawful-pending}
+use Rattle.spec_machine.proofs.kinds.Native.{Native}
+use Rattle.spec_machine.proofs.kinds.KindRoom.{srt-some, block-end, vtt-end}
+use Rattle.spec_machine.proofs.kinds.Fits.{places-two, room-of}
 use Rattle.spec_session.specs.declared.session_lines.Ended.{Ended}
 use Rattle.spec_session.specs.declared.session.Going.{Going}
 use Rattle.spec_session.specs.session_lines.LinesThrough.{textEnds, endIn, EndTells}
@@ -49,8 +49,10 @@ use Rattle.spec_session.proofs.session_lines.TellLaws.{told-within}
 use Rattle.spec_session.proofs.session_lines.BomLaws.{put-under, bom-placed}
 use Rattle.spec_session.proofs.session_lines.DoneLaws.{end-done}
 use Rattle.spec_session.specs.session.Stand.{Shows, Room, CloseRoom, Opening, resumeAt, stoppedAt, closingTo, bomTo, bomAloneOf}
-use Rattle.spec_session.proofs.session.StandLaws.{drop-take, lent, back, told-sums, wrote-more, counts-more, held-block, held-line}
+use Rattle.spec_session.proofs.session.StandLaws.{lent, back, told-sums, wrote-more, counts-more, held-block, held-line}
 use Rattle.spec_session.proofs.session.RunLaws.{counts-grown, fit-parsed, places-none, s₀, begun, begin-sizes, begin-native, begin-shows, L}
+use Rattle.spec_base.proofs.base.PartLaws.{drop-take, rest-length}
+use Rattle.spec_machine.proofs.session_counts.Keeps.{Kept}
 
 -- ---- what a finish says in each kind
 pub finish-ass : (kind : ℕ) (s : State) (n : ℕ) → kind ≡ 0 → ends kind s n ≡ says s []
@@ -95,8 +97,8 @@ module _ (c : Config) (m : List ℕ) (at : Going) (held out places : List ℕ) (
       end-done c m (at .lines) (at .counts) (take (at .start) held) e (lent (at .written) out) y (lent (at .warned) places) z d
       (record {
         counts = R .counts;
-        room-long = omega (arith, R, length-take-le (at .start) held (R .block), length-tail (at .written) out);
-        places-long = omega (arith, R, length-tail (at .warned) places);
+        room-long = omega (arith, R, length-take-le (at .start) held (R .block), rest-length (at .written) out);
+        places-long = omega (arith, R, rest-length (at .warned) places);
       })
       h
 
@@ -237,7 +239,7 @@ module _ (c : Config) (m : List ℕ) (M : Machine State) (at : Going) (held out 
           end-done c m (at .lines) (at .counts) (take (at .start) held) e (lent 3 out) y places z d
           (record {
             counts = omega (arith, p .counts);
-            room-long = omega (arith, p .out-long, start-small, length-take (at .start) held, length-tail 3 out);
+            room-long = omega (arith, p .out-long, start-small, length-take (at .start) held, rest-length 3 out);
             places-long = omega (arith, p .places-long);
           })
           h
@@ -245,7 +247,7 @@ module _ (c : Config) (m : List ℕ) (M : Machine State) (at : Going) (held out 
       pub bom-sums : length y ≡ length (lent 3 out) → length z ≡ length places → (3 + e .written ≤ length out) × (e .warned ≤ length places)
       bom-sums i j =
           let w = told-within _ _ e (lent 3 out) y places z h i j in
-          (omega (arith, w, p .out-long, length-tail 3 out), omega (arith, w))
+          (omega (arith, w, p .out-long, rest-length 3 out), omega (arith, w))
 
     module _ (kind : ℕ) (s : State) (k : kind ≡ 0 → ⊥) (q : take (at .start) held ≡ concat (s .block)) (g : Parsed (eqb kind 0) (s .block))
         (b : Ends c m (textEnds kind (at .lines) (linesOf (take (at .start) held))) (at .counts) e (lent 3 out) y places z) where
@@ -268,32 +270,32 @@ unfolding bomAloneOf
 alone-asked n l b e f = rw (eq-eqb n 0 e) f
 
 -- ---- the last line: it may have no LF
-ass-last : (s : State) (n : ℕ) (l : List ℕ) → s .block ≡ [] → Leaves (λ (t : State). t .block ≡ []) (lineTakes s n l)
+ass-last : (s : State) (n : ℕ) (l : List ℕ) → s .block ≡ [] → Kept (λ (t : State). t .block ≡ []) (lineTakes s n l)
 unfolding lineTakes
 ass-last s n l e = go (utf8 l) (lineSays (s .columns) n l)
   where
-    go : (u : Bool) (x : LineSays) → Leaves (λ (t : State). t .block ≡ []) (cond u (ofLine s x) (faulty notUtf8))
+    go : (u : Bool) (x : LineSays) → Kept (λ (t : State). t .block ≡ []) (cond u (ofLine s x) (faulty notUtf8))
     go false x = tt
     go true (lineFaulty f) = tt
     go true (lineSaid d p) = e
 
 -- after it no block is open in ASS, and in the other kinds the block's bytes are its lines
 step-last : (kind : ℕ) → kindBad kind ≡ false → (s : State) (n : ℕ) (l : List ℕ) → Fit kind s → hasLf l ≡ false
-    → Leaves (λ (t : State). Parsed (eqb kind 0) (t .block)) (takes kind s n l)
-step-last zero e s n l f h = subst (Leaves (λ (t : State). t .block ≡ [])) (sym (takes-ass s n l)) (ass-last s n l (f .block))
-step-last (suc zero) e s n l f h = subst (Leaves (λ (t : State). linesOf (concat (t .block)) ≡ t .block)) (sym (takes-srt s n l)) (block-end 0 srt-some s n l (f .block) h)
-step-last (suc (suc zero)) e s n l f h = subst (Leaves (λ (t : State). linesOf (concat (t .block)) ≡ t .block)) (sym (takes-vtt s n l)) (vtt-end s n l (f .block) h (headerDue 2 n (s .block)))
+    → Kept (λ (t : State). Parsed (eqb kind 0) (t .block)) (takes kind s n l)
+step-last zero e s n l f h = subst (Kept (λ (t : State). t .block ≡ [])) (sym (takes-ass s n l)) (ass-last s n l (f .block))
+step-last (suc zero) e s n l f h = subst (Kept (λ (t : State). linesOf (concat (t .block)) ≡ t .block)) (sym (takes-srt s n l)) (block-end 0 srt-some s n l (f .block) h)
+step-last (suc (suc zero)) e s n l f h = subst (Kept (λ (t : State). linesOf (concat (t .block)) ≡ t .block)) (sym (takes-vtt s n l)) (vtt-end s n l (f .block) h (headerDue 2 n (s .block)))
 step-last (suc (suc (suc k))) e s n l f h = absurd (known-three k e)
 
-bom-leaves : (P : State → Type 0) (x : Says State) → Leaves P x → Leaves P (withBom x)
+bom-leaves : (P : State → Type 0) (x : Says State) → Kept P x → Kept P (withBom x)
 bom-leaves P (faulty f) o = tt
 bom-leaves P (says t ps) o = o
 
 pub last-line : (kind : ℕ) → kindBad kind ≡ false → (s : State) (n : ℕ) (l : List ℕ) → Fit kind s → hasLf l ≡ false
-    → Leaves (λ (t : State). Parsed (eqb kind 0) (t .block)) (takeLine (machineOf kind) s n l)
+    → Kept (λ (t : State). Parsed (eqb kind 0) (t .block)) (takeLine (machineOf kind) s n l)
 last-line kind e s n l f h = go (eqb n 0 && hasBom l) refl
   where
-    go : (b : Bool) → (eqb n 0 && hasBom l) ≡ b → Leaves (λ (t : State). Parsed (eqb kind 0) (t .block)) (lineWith (machineOf kind) b s n l)
+    go : (b : Bool) → (eqb n 0 && hasBom l) ≡ b → Kept (λ (t : State). Parsed (eqb kind 0) (t .block)) (lineWith (machineOf kind) b s n l)
     go true q =
         bom-leaves (λ (t : State). Parsed (eqb kind 0) (t .block)) (takes kind s n (drop 3 l))
         (step-last kind e s n (drop 3 l) f (bom-open l (and-right (eqb n 0) (hasBom l) q) h))
@@ -311,7 +313,7 @@ module _ (M : Machine State) (s : State) (n : ℕ) where
   last-run true (x ∷ l) e h = absurd (true≢false e)
   last-run false (x ∷ l) e h = refl
 
-no-bytes : (l : List ℕ) → length l ≡ 0 → l ≡ []
+pub no-bytes : (l : List ℕ) → length l ≡ 0 → l ≡ []
 no-bytes [] e = refl
 no-bytes (b ∷ l) e = absurd (omega arith)
 
@@ -419,7 +421,7 @@ module _ (c : Config) (m : List ℕ) (at : Going) (held o w : List ℕ) (d : Rea
     finish-fault b r h′ o′ w′ sh e =
         subst (λ (t : Run State). Shows c m (at .counts) t o w r h′ o′ w′) (is-last b) (fault-run (takeLine M₀ state (at .lines) rest) r h′ o′ w′ sh e)
 
-    passed-run : (x : Says State) (l r : Going) (h′ o₁ w₁ o′ w′ : List ℕ) → Leaves (λ (t : State). Parsed (eqb kind 0) (t .block)) x
+    passed-run : (x : Says State) (l r : Going) (h′ o₁ w₁ o′ w′ : List ℕ) → Kept (λ (t : State). Parsed (eqb kind 0) (t .block)) x
         → Shows c m (at .counts) (lineEnd M₀ (at .lines) [] x) o w l h′ o₁ w₁ → l .number ≡ 0
         → ((t : State) (n : ℕ) (ps : List Part) → Parsed (eqb kind 0) (t .block) → Shows c m (at .counts) (going t n [] ps) o w l h′ o₁ w₁
         → Shows c m (at .counts) (closed M₀ ps (ends kind t n)) o w r h′ o′ w′)

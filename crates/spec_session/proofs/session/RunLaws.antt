@@ -11,31 +11,31 @@ use lib.Seq.{length-take-le}
 use borrow.Author.Tests.{leb-true, eqb-false}
 use Rattle.spec_base.specs.base.Limits.{mostLine, mostTaken, mostPiece}
 use Rattle.spec_base.proofs.base.PutLaws.{put-nil}
-use Rattle.spec_caption.specs.caption_time.Kind.{kindBad}
+use Rattle.spec_time.specs.caption_time.Kind.{kindBad}
 use Rattle.spec_map.specs.segment.Segment.{segmentsOf}
 use Rattle.spec_caption.specs.declared.caption_fate.Config.{Config}
 use Rattle.spec_caption.specs.caption_fate.Fates.{passed, dropped, shifted, clipped}
 use Rattle.spec_caption.specs.caption_fate.Says.{Part, captionsIn}
 use Rattle.spec_caption.specs.caption_fate.Emit.{Emit, Caption, none, decided, outputOf, warningsOf, placesOf}
-use Rattle.spec_format.proofs.block_cue.FineBlock.{lines-held}
-use Rattle.spec_format.specs.declared.ass_columns.Columns.{Columns}
-use Rattle.spec_session.specs.declared.session_counts.Counts.{Counts}
-use Rattle.spec_session.specs.session_counts.Counts.{noCounts, count, countAll, one, captions}
-use Rattle.spec_session.specs.session_counts.Cut.{closedLines, unfinished}
-use Rattle.spec_session.specs.session_counts.Machine.{Machine, Says, faulty, says, Run, going, stopped, lineEnd, takeLine, byte, byteStep, run}
-use Rattle.spec_session.specs.session_counts.Session.{isOutcome, outcomeBad, Session, emitted}
-use Rattle.spec_session.proofs.session_counts.Emits.{parts-append, parts-none, captions-emitted, count-none, emits-none, output-none}
-use Rattle.spec_session.proofs.session_counts.CutLaws.{cut-joined, cut-length}
-use Rattle.spec_session.proofs.session_counts.Resume.{ByFault, run-take, run-fault}
-use Rattle.spec_session.proofs.session_counts.Laws.{StepOk, Lawful}
-use Rattle.spec_session.proofs.session_counts.Native as sound
-use Rattle.spec_session.proofs.session_counts.Room as room
-use Rattle.spec_session.proofs.session_counts.Room.{outLen, warnLen}
-use Rattle.spec_session.specs.kinds.Takes.{State, machineOf}
-use Rattle.spec_session.specs.kinds.Kit.{kit}
-use Rattle.spec_session.proofs.kinds.KindLaws.{Fit, known-three, lawful, lawful-size, lawful-pending}
-use Rattle.spec_session.proofs.kinds.Native.{Native, is-native}
-use Rattle.spec_session.proofs.kinds.Fits.{places-two, resume-ok, feed-room}
+use Rattle.spec_cue.proofs.block_cue.FineBlock.{lines-held}
+use Rattle.spec_ass.specs.declared.ass_columns.Columns.{Columns}
+use Rattle.spec_machine.specs.declared.session_counts.Counts.{Counts}
+use Rattle.spec_machine.specs.session_counts.Counts.{noCounts, count, countAll, one, captions}
+use Rattle.spec_machine.specs.session_counts.Cut.{closedLines, unfinished}
+use Rattle.spec_machine.specs.session_counts.Machine.{Machine, Says, faulty, says, Run, going, stopped, lineEnd, takeLine, byte, byteStep, run}
+use Rattle.spec_machine.specs.session_counts.Session.{isOutcome, outcomeBad, Session, emitted}
+use Rattle.spec_machine.proofs.session_counts.Emits.{parts-append, parts-none, captions-emitted, count-none, emits-none, output-none}
+use Rattle.spec_machine.proofs.session_counts.CutLaws.{cut-joined, cut-length}
+use Rattle.spec_machine.proofs.session_counts.Resume.{ByFault, run-take, run-fault}
+use Rattle.spec_machine.proofs.session_counts.Laws.{StepOk, Lawful}
+use Rattle.spec_machine.proofs.session_counts.Native as sound
+use Rattle.spec_machine.proofs.session_counts.Room as room
+use Rattle.spec_machine.proofs.session_counts.Room.{outLen, warnLen}
+use Rattle.spec_machine.specs.kinds.Takes.{State, machineOf}
+use Rattle.spec_machine.specs.kinds.Kit.{kit}
+use Rattle.spec_machine.proofs.kinds.KindLaws.{Fit, known-three, lawful, lawful-size, lawful-pending}
+use Rattle.spec_machine.proofs.kinds.Native.{Native, is-native}
+use Rattle.spec_machine.proofs.kinds.Fits.{places-two, resume-ok, feed-room}
 use Rattle.spec_session.specs.declared.session.Going.{Going}
 use Rattle.spec_session.specs.session_lines.Done.{Wrote, Ready, Parsed}
 use Rattle.spec_session.specs.session.Stand.{Joins, Shows, ByteRoom, ParsedIn, Opening, resumeAt, holdingTo}

@@ -2,30 +2,30 @@
 use mathlib.Core.Path.{_≡_, refl, sym, ap, ap₂, subst, _∙_}
 use mathlib.Core.Bool.{Bool, true, false, cond}
 use mathlib.Core.List.{List, [], _∷_, _++_, append-nil, append-assoc}
-use Prim.Native.Nat.{ℕ, zero, suc, _+_, _-_, _≤_, _<_}
+use Prim.Native.Nat.{ℕ, suc, _+_, _-_, _≤_, _<_}
 use native.Mathlib.Omega.{arith}
-use native.Mathlib.Nat.{add-zero, suc-sub-suc, zero-sub, sub-zero}
+use native.Mathlib.Nat.{add-zero}
 use native.Mathlib.Numerals.{add-one}
 use lib.Dec.{eqb}
 use lib.ListN.{length, take, drop, set, getD, length-append, length-drop}
-use lib.Seq.{take-nil, take-append-seam, drop-append-seam, drop-append-add, take-suc, take-suc-set, take-take, take-add, drop-drop, drop-set-lt, getD-drop, length-take-le}
+use lib.Seq.{take-append-seam, drop-append-seam, drop-append-add, take-suc, take-suc-set, take-take, take-add, drop-drop, drop-set-lt, getD-drop, length-take-le}
 use borrow.Author.Tests.{le-leb, lt-leb, eq-eqb, ne-eqb, eqb-false}
 use Rattle.spec_base.specs.base.Limits.{mostLine}
 use Rattle.spec_base.specs.base.Put.{put}
-use Rattle.spec_base.proofs.base.PutLaws.{put-back, length-tail}
+use Rattle.spec_base.proofs.base.PutLaws.{put-back}
 use Rattle.spec_text.specs.text.Line.{concat}
 use Rattle.spec_map.specs.segment.Segment.{segmentsOf}
 use Rattle.spec_caption.specs.declared.caption_fate.Config.{Config}
 use Rattle.spec_caption.specs.caption_fate.Says.{Part, faultNumber}
 use Rattle.spec_caption.specs.caption_fate.Emit.{Emit, outputOf, warningsOf, placesOf}
-use Rattle.spec_session.specs.declared.session_counts.Counts.{Counts}
-use Rattle.spec_session.specs.session_counts.Counts.{countAll}
-use Rattle.spec_session.specs.session_counts.Machine.{Machine, Says, faulty, says, Run, going, stopped, lineEnd, takeLine, byteStep}
-use Rattle.spec_session.specs.session_counts.Session.{emitted}
-use Rattle.spec_session.proofs.session_counts.Emits.{emits-append, output-append, warnings-append, places-append, count-append}
-use Rattle.spec_session.proofs.session_counts.Resume.{fault-number}
-use Rattle.spec_session.specs.kinds.Takes.{State, machineOf}
-use Rattle.spec_session.proofs.kinds.KindLaws.{concat-snoc}
+use Rattle.spec_machine.specs.declared.session_counts.Counts.{Counts}
+use Rattle.spec_machine.specs.session_counts.Counts.{countAll}
+use Rattle.spec_machine.specs.session_counts.Machine.{Machine, Says, faulty, says, Run, going, stopped, lineEnd, takeLine, byteStep}
+use Rattle.spec_machine.specs.session_counts.Session.{emitted}
+use Rattle.spec_machine.proofs.session_counts.Emits.{emits-append, output-append, warnings-append, places-append, count-append}
+use Rattle.spec_machine.proofs.session_counts.Resume.{fault-number}
+use Rattle.spec_machine.specs.kinds.Takes.{State, machineOf}
+use Rattle.spec_machine.proofs.kinds.KindLaws.{concat-snoc}
 use Rattle.spec_session.specs.declared.session_lines.Taken.{Taken}
 use Rattle.spec_session.specs.declared.session_lines.Ended.{Ended}
 use Rattle.spec_session.specs.session_lines.LinesThrough.{PartsAnswer, takeIn, EndTells, endedBy, LineTells}
@@ -34,14 +34,9 @@ use Rattle.spec_session.proofs.session_lines.DoneLaws.{take-done, take-
 use Rattle.spec_session.specs.declared.session.Going.{Going}
 use Rattle.spec_session.specs.session_lines.Done.{stateAfter, Ready, Ample, Wrote, Done, Parsed}
 use Rattle.spec_session.specs.session.Stand.{Holds, Shows, Room, ByteRoom, ParsedIn, stoppedAt, holdingTo, linedTo}
+use Rattle.spec_base.proofs.base.PartLaws.{drop-take, rest-length}
 
 -- ---- parts of the held bytes
-pub drop-take : (a m : ℕ) (l : List ℕ) → drop a (take m l) ≡ take (m - a) (drop a l)
-drop-take zero m l = ap (λ (j : ℕ). take j l) (sym (sub-zero m))
-drop-take (suc a) zero l = ap (λ (j : ℕ). take j (drop (suc a) l)) (sym (zero-sub (suc a)))
-drop-take (suc a) (suc m) [] = sym (take-nil (suc m - suc a))
-drop-take (suc a) (suc m) (x ∷ l) = drop-take a m l ∙ ap (λ (j : ℕ). take j (drop a l)) (sym (suc-sub-suc m a))
-
 -- bytes that go down by k, one at a time
 pub moved-more : (held₀ held : List ℕ) (s k n i : ℕ) → s + k + n ≤ length held₀ → i < n → length held ≡ length held₀
     → take (s + i) held ≡ take s held₀ ++ take i (drop (s + k) held₀) → drop (s + k + i) held ≡ drop (s + k + i) held₀
@@ -134,7 +129,7 @@ pub told-sums : (a b : ℕ) (out places y z : List ℕ) (q : PartsAnswer) (t : C
     → length y ≡ length (lent a out) → length z ≡ length (lent b places) → (a + e .written ≤ length out) × (b + e .warned ≤ length places)
 told-sums a b out places y z q t e h p r i j =
     let w = told-within q t e (lent a out) y (lent b places) z h i j in
-    (omega (arith, w, length-tail a out), omega (arith, w, length-tail b places))
+    (omega (arith, w, rest-length a out), omega (arith, w, rest-length b places))
 
 -- ---- a line with room for it
 module _ (c : Config) (m : List ℕ) (at : Going) (held out places : List ℕ) (R : Room at (length held) (length out) (length places)) (told : Taken) (y z : List ℕ)
@@ -147,8 +142,8 @@ module _ (c : Config) (m : List ℕ) (at : Going) (held out places : List ℕ) (
   room-lent =
       record {
         counts = R .counts;
-        room-long = omega (arith, R, held-size, length-tail (at .written) out);
-        places-long = omega (arith, R, length-tail (at .warned) places);
+        room-long = omega (arith, R, held-size, rest-length (at .written) out);
+        places-long = omega (arith, R, rest-length (at .warned) places);
       }
 
   line-there : at .start ≤ length (take (at .held) held)

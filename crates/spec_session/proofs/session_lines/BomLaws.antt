@@ -9,19 +9,19 @@ use lib.ListN.{length, take, drop, length-append}
 use lib.Seq.{drop-drop, drop-at, length-take-le}
 use borrow.Author.Tests.{eq-eqb, ne-eqb}
 use Rattle.spec_base.specs.base.Put.{put, putAt, placed}
-use Rattle.spec_base.proofs.base.PartLaws.{rest-all}
-use Rattle.spec_base.proofs.base.PutLaws.{put-nil, put-append, tail-back, putAt-nil, putAt-zero, placed-yes, length-tail}
+use Rattle.spec_base.proofs.base.PartLaws.{rest-all, rest-length}
+use Rattle.spec_base.proofs.base.PutLaws.{put-nil, put-append, tail-back, putAt-nil, putAt-zero, placed-yes}
 use Rattle.spec_text.specs.pattern.Find.{starts}
 use Rattle.spec_map.specs.declared.segment.Segment.{Segment}
 use Rattle.spec_caption.specs.declared.caption_fate.Config.{Config}
 use Rattle.spec_caption.specs.caption_fate.Says.{stays, faultNumber}
 use Rattle.spec_caption.specs.caption_fate.Emit.{Emit, emit, none, outputOf, warningsOf}
-use Rattle.spec_format.specs.declared.ass_columns.Columns.{Columns}
-use Rattle.spec_session.specs.declared.session_counts.Counts.{Counts}
-use Rattle.spec_session.specs.session_counts.Counts.{countAll}
-use Rattle.spec_session.specs.session_counts.Machine.{bom, hasBom, Says, faulty, says, withBom, lineWith, takeLine}
-use Rattle.spec_session.proofs.session_counts.OpenLines.{bom-length}
-use Rattle.spec_session.specs.kinds.Takes.{State, takes, machineOf}
+use Rattle.spec_ass.specs.declared.ass_columns.Columns.{Columns}
+use Rattle.spec_machine.specs.declared.session_counts.Counts.{Counts}
+use Rattle.spec_machine.specs.session_counts.Counts.{countAll}
+use Rattle.spec_machine.specs.session_counts.Machine.{bom, hasBom, Says, faulty, says, withBom, lineWith, takeLine}
+use Rattle.spec_machine.proofs.session_counts.OpenLines.{bom-length}
+use Rattle.spec_machine.specs.kinds.Takes.{State, takes, machineOf}
 use Rattle.spec_session.specs.declared.session_lines.Taken.{Taken}
 use Rattle.spec_session.specs.session_lines.LinesThrough.{strangeIn, emittedIn, lineRefusal, isOpen, takenIn, bomSize, EndTells, endedBy, LineTells}
 use Rattle.spec_session.specs.session_lines.Told.{behindLine}
@@ -158,7 +158,7 @@ module _ (c : Config) (m : List Segment) (k : Columns) (q : Counts) (r : Taken) 
         LineTells (takenIn c m k (bomSize n (drop at held)) (takeLine (machineOf (c .kind)) s n (drop at held))) q u out z w w′
 
     pub behind-room : (b : ℕ) → Behind b → length y ≡ length (tail b) → length w′ ≡ length w → r .written ≤ length out - b
-    behind-room b d i j = omega (arith, told-within _ q (endedBy r) (tail b) y w w′ (d .said) i j, length-tail b out)
+    behind-room b d i j = omega (arith, told-within _ q (endedBy r) (tail b) y w w′ (d .said) i j, rest-length b out)
 
     behind-line : (b : ℕ) → Behind b → LineTells (takenIn c m k 0 (takes (c .kind) s n (drop b (drop at held)))) q r (tail b) y w w′
     behind-line b d = subst (λ (l : List ℕ). LineTells (takenIn c m k 0 (takes (c .kind) s n l)) q r (tail b) y w w′) (sym (drop-drop b at held)) d

@@ -18,21 +18,21 @@ use Rattle.spec_caption.specs.caption_fate.Says.{Part, stays, notUtf8, badHeade
 use Rattle.spec_caption.specs.caption_fate.Emit.{Emit, emitBy, emitOf, emitsOf, outputOf, warningsOf, placesOf}
 use Rattle.spec_caption.specs.caption_fate.Told.{Answer, answered, partIn}
 use Rattle.spec_caption.proofs.caption_fate.FineLaws.{Set}
-use Rattle.spec_format.specs.declared.ass_columns.Columns.{Columns}
-use Rattle.spec_format.specs.ass_line.Line.{LineSays, lineSays, faulty as lineFaulty, says as lineSaid}
-use Rattle.spec_format.specs.ass_line.AssThrough.{lineAnswer, lineAnswerIn, lineIn}
-use Rattle.spec_format.proofs.ass_line.LineFine.{line-fine}
-use Rattle.spec_format.specs.block_timing.Style.{styleOf}
-use Rattle.spec_format.specs.block_timing.Header.{isHeader, headerDue}
-use Rattle.spec_format.specs.block_cue.Block.{BlockSays, blockSays, faulty as blockFaulty, says as blockSaid}
-use Rattle.spec_format.specs.block_cue.BlockThrough.{blockAnswer, blockAnswerIn, blockIn}
-use Rattle.spec_format.proofs.block_cue.FineBlock.{block-fine}
-use Rattle.spec_session.specs.declared.session_counts.Counts.{Counts}
-use Rattle.spec_session.specs.session_counts.Counts.{countAll}
-use Rattle.spec_session.specs.session_counts.Machine.{hasBom, Says, faulty, says, bom, withBom, lineWith, takeLine}
-use Rattle.spec_session.specs.session_counts.Session.{emitted}
-use Rattle.spec_session.proofs.session_counts.OpenLines.{bom-length}
-use Rattle.spec_session.specs.kinds.Takes.{State, blankState, withBlock, ofLine, lineTakes, ofBlock, closes, adds, blockTakes, headTakes, takes, machineOf}
+use Rattle.spec_ass.specs.declared.ass_columns.Columns.{Columns}
+use Rattle.spec_ass.specs.ass_line.Line.{LineSays, lineSays, faulty as lineFaulty, says as lineSaid}
+use Rattle.spec_ass.specs.ass_line.AssThrough.{lineAnswer, lineAnswerIn, lineIn}
+use Rattle.spec_ass.proofs.ass_line.LineFine.{line-fine}
+use Rattle.spec_cue.specs.block_timing.Style.{styleOf}
+use Rattle.spec_cue.specs.block_timing.Header.{isHeader, headerDue}
+use Rattle.spec_cue.specs.block_cue.Block.{BlockSays, blockSays, faulty as blockFaulty, says as blockSaid}
+use Rattle.spec_cue.specs.block_cue.BlockThrough.{blockAnswer, blockAnswerIn, blockIn}
+use Rattle.spec_cue.proofs.block_cue.FineBlock.{block-fine}
+use Rattle.spec_machine.specs.declared.session_counts.Counts.{Counts}
+use Rattle.spec_machine.specs.session_counts.Counts.{countAll}
+use Rattle.spec_machine.specs.session_counts.Machine.{hasBom, Says, faulty, says, bom, withBom, lineWith, takeLine}
+use Rattle.spec_machine.specs.session_counts.Session.{emitted}
+use Rattle.spec_machine.proofs.session_counts.OpenLines.{bom-length}
+use Rattle.spec_machine.specs.kinds.Takes.{State, blankState, withBlock, ofLine, lineTakes, ofBlock, closes, adds, blockTakes, headTakes, takes, machineOf}
 use Rattle.spec_session.specs.declared.session_lines.Taken.{Taken}
 use Rattle.spec_session.specs.declared.session_lines.Ended.{Ended}
 use Rattle.spec_session.specs.session_lines.LinesThrough.{strangeIn, emittedIn, partsRefusal, answerIn, lineRefusal, isOpen, takenIn, textEnds, endIn, stateOf, bomSize, takeIn, EndTells, endedBy, LineTells}
@@ -296,7 +296,7 @@ bom-small n l = go (eqb n 0) (hasBom l) refl
     go true false e = omega arith
     go true true e = omega (arith, bom-length l e)
 
-skip-small : (c : Config) (m : List Segment) (k : Columns) (b : ℕ) (x : Says State) → takenIn c m k b x .skip ≤ b
+pub skip-small : (c : Config) (m : List Segment) (k : Columns) (b : ℕ) (x : Says State) → takenIn c m k b x .skip ≤ b
 skip-small c m k b (faulty f) = omega arith
 skip-small c m k b (says s ps) = go (strangeIn c m ps)
   where

@@ -11,13 +11,13 @@ use Rattle.spec_base.proofs.base.Laws.{or-left, or-right}
 use Rattle.spec_text.specs.text.Line.{linesOf}
 use Rattle.spec_map.specs.declared.segment.Segment.{Segment}
 use Rattle.spec_caption.specs.declared.caption_fate.Config.{Config}
-use Rattle.spec_format.specs.declared.ass_columns.Columns.{Columns}
-use Rattle.spec_format.specs.block_timing.Style.{styleOf}
-use Rattle.spec_format.specs.block_timing.Header.{headerDue}
-use Rattle.spec_session.specs.declared.session_counts.Counts.{Counts}
-use Rattle.spec_session.specs.session_counts.Machine.{takeLine}
-use Rattle.spec_session.specs.session_counts.Session.{countsAbove}
-use Rattle.spec_session.specs.kinds.Takes.{blankState, closes, machineOf}
+use Rattle.spec_ass.specs.declared.ass_columns.Columns.{Columns}
+use Rattle.spec_cue.specs.block_timing.Style.{styleOf}
+use Rattle.spec_cue.specs.block_timing.Header.{headerDue}
+use Rattle.spec_machine.specs.declared.session_counts.Counts.{Counts}
+use Rattle.spec_machine.specs.session_counts.Machine.{takeLine}
+use Rattle.spec_machine.specs.session_counts.Session.{countsAbove}
+use Rattle.spec_machine.specs.kinds.Takes.{blankState, closes, machineOf}
 use Rattle.spec_session.specs.declared.session_lines.Taken.{Taken}
 use Rattle.spec_session.specs.declared.session_lines.Ended.{Ended}
 use Rattle.spec_session.specs.session_lines.LinesThrough.{answerIn, takenIn, mostCount, lentBad, endIn, stateOf, bomSize, takeIn, EndTells, LineTells}

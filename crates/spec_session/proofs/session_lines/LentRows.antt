@@ -3,7 +3,7 @@ use mathlib.Core.Path.{_≡_, refl}
 use mathlib.Core.Bool.{Bool, true, false}
 use mathlib.Core.List.{List, [], _∷_}
 use Prim.Native.Nat.{ℕ}
-use Rattle.spec_session.specs.declared.session_counts.Counts.{Counts}
+use Rattle.spec_machine.specs.declared.session_counts.Counts.{Counts}
 use Rattle.spec_session.specs.session_lines.LinesThrough.{lentBad}
 
 abbrev counted : (shifted clipped dropped passed : ℕ) → Counts

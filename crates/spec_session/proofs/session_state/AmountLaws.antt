@@ -1,16 +1,16 @@
 -- 17: the tests of config and columns, one by one.
 use mathlib.Core.Path.{_≡_, sym, _∙_}
 use mathlib.Core.Bool.{Bool, true, false}
-use Prim.Native.Nat.{ℕ, _≤_, _<_}
+use Prim.Native.Nat.{_≤_, _<_}
 use lib.Dec.{ltb}
 use borrow.Author.Tests.{lt-ltb, le-ltb}
 use Rattle.spec_base.specs.base.Limits.{mostColumns}
-use Rattle.spec_caption.specs.caption_time.Kind.{kindBad}
-use Rattle.spec_caption.specs.caption_time.Convert.{timescaleBad}
+use Rattle.spec_time.specs.caption_time.Kind.{kindBad}
+use Rattle.spec_time.specs.caption_time.Convert.{timescaleBad}
 use Rattle.spec_caption.specs.declared.caption_fate.Config.{Config}
-use Rattle.spec_format.specs.declared.ass_columns.Columns.{Columns}
-use Rattle.spec_session.specs.session_counts.Session.{configBad}
-use Rattle.spec_session.specs.kinds.Kit.{columnsBad}
+use Rattle.spec_ass.specs.declared.ass_columns.Columns.{Columns}
+use Rattle.spec_machine.specs.session_counts.Session.{configBad}
+use Rattle.spec_machine.specs.kinds.Kit.{columnsBad}
 
 module _ (c : Config) (a : Bool) (e : a ≡ kindBad (c .kind)) where
   pub no-kind : a ≡ true → true ≡ configBad c

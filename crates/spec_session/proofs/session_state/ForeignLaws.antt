@@ -8,15 +8,15 @@ use lib.Dec.{ltb}
 use lib.ListN.{length, take}
 use borrow.Author.Tests.{lt-ltb, le-ltb}
 use Rattle.spec_base.specs.base.Limits.{mostTaken, mostHeld, mostLine}
-use Rattle.spec_format.specs.declared.ass_columns.Columns.{Columns}
+use Rattle.spec_ass.specs.declared.ass_columns.Columns.{Columns}
 use Rattle.spec_base.proofs.base.Laws.{or-right}
 use Rattle.spec_text.specs.text.Line.{hasLf, lineCount}
-use Rattle.spec_session.specs.session_counts.Cut.{Cut, closedLines}
-use Rattle.spec_session.specs.session_counts.Session.{configBad, countsAbove, outcomeBad}
-use Rattle.spec_session.proofs.session_counts.CutLaws.{cut-rest}
-use Rattle.spec_session.specs.session_counts.Session as model
-use Rattle.spec_session.specs.kinds.Kit.{kit, columnsBad, heldBad, strange}
-use Rattle.spec_session.proofs.kinds.KindLaws.{held-ass}
+use Rattle.spec_machine.specs.session_counts.Cut.{Cut, closedLines}
+use Rattle.spec_machine.specs.session_counts.Session.{configBad, countsAbove, outcomeBad}
+use Rattle.spec_machine.proofs.session_counts.CutLaws.{cut-rest}
+use Rattle.spec_machine.specs.session_counts.Session as model
+use Rattle.spec_machine.specs.kinds.Kit.{kit, columnsBad, heldBad, strange}
+use Rattle.spec_machine.proofs.kinds.KindLaws.{held-ass}
 use Rattle.spec_session.specs.declared.session_state.Session.{Session}
 use Rattle.spec_session.specs.declared.session_state.Head.{Head}
 use Rattle.spec_session.specs.session_state.Head.{viewOf}

@@ -7,20 +7,20 @@ use native.Mathlib.Omega.{arith}
 use native.Mathlib.Nat.{not-suc-le-zero}
 use native.Mathlib.Numerals.{add-one}
 use lib.Dec.{eqb, ltb}
-use lib.ListN.{length, take, drop, getD, length-append, length-drop}
+use lib.ListN.{length, take, drop, getD, length-append}
 use lib.Seq.{length-take-le, take-suc, take-length, take-append-seam}
 use borrow.Author.Tests.{lt-ltb, le-ltb, ltb-false, eq-eqb, ne-eqb}
 use Rattle.spec_base.specs.base.Limits.{mostLine, mostBlock, mostHeld}
 use Rattle.spec_base.proofs.base.Laws.{or-left, or-right}
 use Rattle.spec_text.specs.utf8.Utf8.{utf8}
 use Rattle.spec_text.specs.text.Line.{concat, linesOf, lineLength, hasLf}
-use Rattle.spec_text.proofs.text.LineLaws.{lines-back, lines-cut, lines-end, line-some}
-use Rattle.spec_format.specs.block_timing.Style.{blankIn}
-use Rattle.spec_session.specs.session_counts.Cut.{Cut, cut, isLf, closedLines, unfinished}
-use Rattle.spec_session.proofs.session_counts.CutLaws.{cut-joined, cut-length, cut-ends, cut-open, cut-rest, cut-held, has-none}
-use Rattle.spec_session.proofs.session_counts.OpenLines.{has-lf-append, ends-lf}
-use Rattle.spec_session.specs.kinds.Kit.{linesBad, heldBad}
-use Rattle.spec_session.proofs.kinds.KindLaws.{concat-snoc, finished-snoc}
+use Rattle.spec_text.proofs.text.LineLaws.{lines-back, lines-cut, lines-end}
+use Rattle.spec_cue.specs.block_timing.Style.{blankIn}
+use Rattle.spec_machine.specs.session_counts.Cut.{Cut, cut, isLf, closedLines, unfinished}
+use Rattle.spec_machine.proofs.session_counts.CutLaws.{cut-joined, cut-length, cut-ends, cut-open, cut-rest, cut-held, has-none}
+use Rattle.spec_machine.proofs.session_counts.OpenLines.{has-lf-append, ends-lf}
+use Rattle.spec_machine.specs.kinds.Kit.{linesBad, heldBad}
+use Rattle.spec_machine.proofs.kinds.KindLaws.{concat-snoc, finished-snoc}
 
 -- ---- where the finished lines end
 abbrev pub closedLength : List ℕ → ℕ

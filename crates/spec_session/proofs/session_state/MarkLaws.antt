@@ -1,17 +1,17 @@
 -- The outcome, and how many LFs are held.
-use mathlib.Core.Path.{_≡_, refl, sym, ap, subst, _∙_}
-use mathlib.Core.Bool.{Bool, true, false, _||_, _&&_, not, cond}
-use mathlib.Core.List.{List, [], _∷_, _++_}
+use mathlib.Core.Path.{_≡_, refl, sym, ap, _∙_}
+use mathlib.Core.Bool.{Bool, true, false, _||_, not, cond}
+use mathlib.Core.List.{List, [], _∷_}
 use Prim.Native.Nat.{ℕ, suc, _+_, _≤_, _<_}
 use native.Mathlib.Numerals.{add-one}
 use native.Mathlib.Omega.{arith}
 use lib.Dec.{eqb, leb}
 use lib.ListN.{length, drop, getD, drop-of-length-le}
 use lib.Seq.{drop-cons}
-use borrow.Author.Tests.{eq-eqb, ne-eqb, lt-leb, le-leb}
+use borrow.Author.Tests.{ne-eqb, lt-leb, le-leb}
 use Rattle.spec_text.specs.text.Line.{lineCount}
-use Rattle.spec_session.specs.session_counts.Cut.{before, push, isLf, closedLines, cut}
-use Rattle.spec_session.specs.session_counts.Session.{isOutcome, outcomeBad}
+use Rattle.spec_machine.specs.session_counts.Cut.{before, push, isLf, closedLines, cut}
+use Rattle.spec_machine.specs.session_counts.Session.{isOutcome, outcomeBad}
 
 -- ---- the outcome
 pub outcome-none : (k : ℕ) → k ≡ 0 → true ≡ isOutcome k

@@ -7,14 +7,14 @@ use lib.ListN.{replicate}
 use Rattle.spec_text.specs.utf8.Utf8.{leadLen, secondLow, secondHigh, tail, widthBy, charWidth, codeBy, codeHead, utf8From, utf8}
 use Rattle.spec_text.specs.whitespace.White.{whiteHigh, white, whiteHead, headFrom, trimHead}
 use Rattle.spec_text.specs.text.Line.{blank}
-use Rattle.spec_caption.specs.caption_time.Kind.{kindBad}
-use Rattle.spec_caption.specs.caption_time.Convert.{timescaleBad}
-use Rattle.spec_format.specs.declared.ass_columns.Columns.{Columns}
-use Rattle.spec_format.specs.block_timing.Style.{blankIn}
-use Rattle.spec_session.specs.session_counts.Counts.{noCounts}
-use Rattle.spec_session.specs.session_counts.Session.{Session, isOutcome, outcomeBad, foreign}
-use Rattle.spec_session.specs.kinds.Takes.{noColumns}
-use Rattle.spec_session.specs.kinds.Kit.{kit, heldBad, columnsBad}
+use Rattle.spec_time.specs.caption_time.Kind.{kindBad}
+use Rattle.spec_time.specs.caption_time.Convert.{timescaleBad}
+use Rattle.spec_ass.specs.declared.ass_columns.Columns.{Columns}
+use Rattle.spec_cue.specs.block_timing.Style.{blankIn}
+use Rattle.spec_machine.specs.session_counts.Counts.{noCounts}
+use Rattle.spec_machine.specs.session_counts.Session.{Session, isOutcome, outcomeBad, foreign}
+use Rattle.spec_machine.specs.kinds.Takes.{noColumns}
+use Rattle.spec_machine.specs.kinds.Kit.{kit, heldBad, columnsBad}
 
 -- an SRT session that has taken 5,000 bytes
 abbrev at : (timescale lines outcome : ℕ) → (ended : Bool) → (held : List ℕ) → Session Columns

@@ -7,10 +7,10 @@ use native.Mathlib.Omega.{arith}
 use lib.ListN.{length, take, replicate, length-append, length-take, length-replicate}
 use lib.Seq.{take-append-seam}
 use Rattle.spec_base.specs.base.Limits.{mostHeld}
-use Rattle.spec_format.specs.declared.ass_columns.Columns.{Columns}
-use Rattle.spec_session.specs.session_counts.Session as model
-use Rattle.spec_session.specs.kinds.Kit.{kit}
-use Rattle.spec_session.proofs.kinds.Native.{Native, is-native}
+use Rattle.spec_ass.specs.declared.ass_columns.Columns.{Columns}
+use Rattle.spec_machine.specs.session_counts.Session as model
+use Rattle.spec_machine.specs.kinds.Kit.{kit}
+use Rattle.spec_machine.proofs.kinds.Native.{Native, is-native}
 use Rattle.spec_session.specs.declared.session_state.Session.{Session}
 use Rattle.spec_session.specs.session_state.View.{heldOf, view, padded, stored, foreignOf}
 

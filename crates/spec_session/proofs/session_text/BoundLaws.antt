@@ -3,16 +3,15 @@ use mathlib.Core.Path.{_≡_, refl, sym, ap, _∙_}
 use mathlib.Core.Bool.{Bool, true, false, cond, true≢false}
 use mathlib.Core.List.{List}
 use Prim.Native.Nat.{ℕ, _*_, _%_, _≤_}
-use native.Mathlib.Omega.{arith}
 use borrow.Author.Tests.{eq-eqb, eqb-true, le-leb, ltb-false}
-use lib.Dec.{ltb, leb, eqb}
+use lib.Dec.{ltb, eqb}
 use lib.ListN.{length, take}
 use Rattle.spec_base.specs.base.Limits.{mostSegments}
 use Rattle.spec_base.specs.base.Put.{put}
 use Rattle.spec_base.proofs.base.PutLaws.{take-put}
 use Rattle.spec_map.specs.declared.segment.Surveyed.{Surveyed}
 use Rattle.spec_map.specs.segment.Segment.{segmentsOf, anyBad, mapBad}
-use Rattle.spec_map.specs.segment.Groups.{groupsOf, surveyable, groupsIn, smallIn, Surveys}
+use Rattle.spec_map.specs.segment.Groups.{groupsOf, surveyable, groupsIn, Surveys}
 use Rattle.spec_map.proofs.segment.GroupLaws.{small-good}
 
 good-whole : (m : List ℕ) → mapBad m ≡ false → (length m % 6 ≡ 0) × (length m ≤ 6 * mostSegments)

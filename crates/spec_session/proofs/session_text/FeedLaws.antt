@@ -11,11 +11,11 @@ use borrow.Author.Tests.{ltb-false, le-ltb}
 use Rattle.spec_base.specs.base.Limits.{mostPiece, leastOutput, leastPlaces, mostTaken}
 use Rattle.spec_base.proofs.base.Laws.{or-left, or-right}
 use Rattle.spec_map.specs.segment.Segment.{mapBad}
-use Rattle.spec_format.specs.declared.ass_columns.Columns.{Columns}
-use Rattle.spec_session.specs.session_counts.Session.{Call, Gate, refuse, admit, gate, foreign, respond, gateOf, answer}
-use Rattle.spec_session.specs.session_counts.Session as model
-use Rattle.spec_session.specs.kinds.Kit.{kit}
-use Rattle.spec_session.proofs.kinds.Native.{is-native}
+use Rattle.spec_ass.specs.declared.ass_columns.Columns.{Columns}
+use Rattle.spec_machine.specs.session_counts.Session.{Call, Gate, refuse, admit, gate, foreign, respond, gateOf, answer}
+use Rattle.spec_machine.specs.session_counts.Session as model
+use Rattle.spec_machine.specs.kinds.Kit.{kit}
+use Rattle.spec_machine.proofs.kinds.Native.{is-native}
 use Rattle.spec_session.specs.declared.session_state.Head.{Head}
 use Rattle.spec_session.specs.session_state.Head.{viewOf}
 use Rattle.spec_session.specs.session.SessionCalls.{feedCall, gateNumber, lengthsBad}

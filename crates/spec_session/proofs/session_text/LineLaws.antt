@@ -11,63 +11,51 @@ use lib.Seq.{take-take, take-add, take-all, drop-drop}
 use borrow.Author.Tests.{le-leb, le-ltb, ltb-true, ltb-false, eqb-true, eqb-false, ne-eqb}
 use Rattle.spec_base.specs.base.Limits.{mostLine, mostBlock, mostTaken}
 use Rattle.spec_base.specs.base.Put.{put}
-use Rattle.spec_base.proofs.base.PutLaws.{length-put, length-tail}
+use Rattle.spec_base.proofs.base.PutLaws.{length-put}
 use Rattle.spec_text.specs.utf8.Utf8.{utf8}
 use Rattle.spec_text.specs.text.Line.{concat, hasLf}
-use Rattle.spec_format.specs.block_timing.Style.{blankIn}
-use Rattle.spec_format.specs.block_timing.Header.{headerDue}
-use Rattle.spec_map.specs.declared.segment.Segment.{Segment}
+use Rattle.spec_cue.specs.block_timing.Style.{blankIn}
+use Rattle.spec_cue.specs.block_timing.Header.{headerDue}
 use Rattle.spec_map.specs.segment.Segment.{segmentsOf}
 use Rattle.spec_caption.specs.declared.caption_fate.Config.{Config}
 use Rattle.spec_caption.specs.caption_fate.Says.{Part, faultNumber}
 use Rattle.spec_caption.specs.caption_fate.Emit.{outputOf, warningsOf, placesOf}
-use Rattle.spec_format.specs.declared.ass_columns.Columns.{Columns}
-use Rattle.spec_session.specs.session_counts.Counts.{countAll}
-use Rattle.spec_session.specs.session_counts.Machine.{Machine, Says, faulty, says, Run, going, stopped, lineEnd, takeLine, run}
-use Rattle.spec_session.specs.session_counts.Cut.{closedLines}
-use Rattle.spec_session.specs.session_counts.Session.{emitted}
-use Rattle.spec_session.proofs.session_counts.GoodLines.{good-line, good-later}
-use Rattle.spec_session.proofs.session_counts.Emits.{emits-none, count-none}
-use Rattle.spec_session.proofs.session_counts.Bytes.{run-stopped}
-use Rattle.spec_session.proofs.session_counts.Resume.{run-append, fault-number}
-use Rattle.spec_session.proofs.session_counts.Laws.{Lawful}
-use Rattle.spec_session.proofs.session_counts.Native.{Ok, GoingOk}
-use Rattle.spec_session.proofs.session_counts.Room as room
-use Rattle.spec_session.proofs.session_counts.Room.{GoingRoom, outLen, warnLen}
-use Rattle.spec_session.specs.kinds.Takes.{State, blockTakes, takes, machineOf}
-use Rattle.spec_session.specs.kinds.Kit.{kit}
-use Rattle.spec_session.proofs.kinds.KindLaws.{Fit, lawful-size, concat-snoc}
-use Rattle.spec_session.proofs.kinds.Native.{Native}
-use Rattle.spec_session.proofs.kinds.Fits.{places-two}
+use Rattle.spec_machine.specs.session_counts.Counts.{countAll}
+use Rattle.spec_machine.specs.session_counts.Machine.{Machine, Says, faulty, says, Run, going, stopped, lineEnd, takeLine, run}
+use Rattle.spec_machine.specs.session_counts.Cut.{closedLines}
+use Rattle.spec_machine.specs.session_counts.Session.{emitted}
+use Rattle.spec_machine.proofs.session_counts.GoodLines.{good-line, good-later}
+use Rattle.spec_machine.proofs.session_counts.Emits.{emits-none, count-none}
+use Rattle.spec_machine.proofs.session_counts.Bytes.{run-stopped}
+use Rattle.spec_machine.proofs.session_counts.Resume.{run-append, fault-number}
+use Rattle.spec_machine.proofs.session_counts.Laws.{Lawful}
+use Rattle.spec_machine.proofs.session_counts.Native.{Ok, GoingOk}
+use Rattle.spec_machine.proofs.session_counts.Room as room
+use Rattle.spec_machine.proofs.session_counts.Room.{GoingRoom, outLen, warnLen}
+use Rattle.spec_machine.specs.kinds.Takes.{State, blockTakes, takes, machineOf}
+use Rattle.spec_machine.specs.kinds.Kit.{kit}
+use Rattle.spec_machine.proofs.kinds.KindLaws.{Fit, lawful-size, concat-snoc}
+use Rattle.spec_machine.proofs.kinds.Native.{Native}
+use Rattle.spec_machine.proofs.kinds.Fits.{places-two}
 use Rattle.spec_session.specs.declared.session_state.Head.{Head}
 use Rattle.spec_session.specs.declared.session_lines.Taken.{Taken}
-use Rattle.spec_session.specs.session_lines.LinesThrough.{strangeIn, emittedIn, lineRefusal, isOpen, takenIn, stateOf, bomSize, takeIn, LineTells}
+use Rattle.spec_session.specs.session_lines.LinesThrough.{takenIn, stateOf, bomSize, takeIn, LineTells}
 use Rattle.spec_session.specs.session_lines.Done.{Ample, Below, Wrote, Done, Parsed}
 use Rattle.spec_session.proofs.session_lines.LentLaws.{lent-fine, none-above}
-use Rattle.spec_session.proofs.session_lines.DoneLaws.{take-done, take-skip}
-use Rattle.spec_session.proofs.session.StandLaws.{drop-take, lent, back, wrote-more, counts-more}
+use Rattle.spec_session.proofs.session_lines.DoneLaws.{take-done, take-skip, skip-small}
+use Rattle.spec_session.proofs.session.StandLaws.{lent, back, wrote-more, counts-more}
 use Rattle.spec_session.proofs.session.RunLaws.{Slow, counts-grown, fit-back, fit-parsed, wrote-none}
 use Rattle.spec_session.specs.declared.session_text.Lined.{Lined}
 use Rattle.spec_session.specs.session_text.Answer.{textSession}
 use Rattle.spec_session.specs.session_text.Lined.{Closed, LineEnd, Joins, lineStart, startState, Starts, linedOf, Lining, Onto, textRun, Ends}
 use Rattle.spec_session.proofs.session_text.StartLaws.{run-line, run-open, run-long, own, ready, L, text-few, start-within, start-block, start-first, start-run, ran-ok, ran-room, ran-slow}
+use Rattle.spec_base.proofs.base.PartLaws.{drop-take, rest-length}
+use Rattle.spec_session.proofs.session.EndLaws.{no-bytes}
 
 -- ---- a BOM stands only before a first line
 later-none : (n : ℕ) (l : List ℕ) → eqb n 0 ≡ false → bomSize n l ≡ 0
 unfolding bomSize
 later-none n l e = rw e
-
-skip-small : (c : Config) (m : List Segment) (k : Columns) (b : ℕ) (x : Says State) → takenIn c m k b x .skip ≤ b
-skip-small c m k b (faulty f) = omega arith
-skip-small c m k b (says s ps) = go (strangeIn c m ps)
-  where
-    go : (u : Bool) → cond u (lineRefusal 15 k) (record { said = record { number = 0; emitted = emittedIn c m ps }; columns = s .columns; skip = b; added = isOpen (s .block) }) .skip ≤ b
-    go true = omega arith
-    go false = omega arith
-
-no-bytes : (l : List ℕ) → length l ≡ 0 → l ≡ []
-no-bytes [] e = refl
-no-bytes (b ∷ l) e = absurd (omega arith)
 
 -- ---- a line that only joins the open block
 header-later : (kind n : ℕ) (b : List (List ℕ)) → (n ≡ 0 → ⊥) → headerDue kind n b ≡ false
@@ -141,9 +129,6 @@ module _ (h : Head) (m text : List ℕ) (at : Lined) (out₀ out places₀ place
       ap length (sym (A .block)) ∙ length-take (at .place - at .begin) (drop (at .begin) text)
       ∙ omega (arith, length-drop (at .begin) text, A .within, A .order)
 
-  pub block-small : at .place ≤ at .begin + mostBlock
-  block-small = omega (arith, fits .small, block-size, A .order)
-
   -- what the lines so far have written and warned of
   pub lined-few : (at .written ≤ 3 * at .begin) × (3 * at .warned ≤ at .begin)
   unfolding outLen warnLen
@@ -191,8 +176,8 @@ module _ (h : Head) (m text : List ℕ) (at : Lined) (out₀ out places₀ place
     ample =
         record {
           counts = below (omega (arith, C .lo, C .hi));
-          room-long = omega (arith, held-length, C .hi, C .lo, A .order, lined-room .0, length-tail (at .written) out);
-          places-long = omega (arith, lined-room .1, length-tail (at .warned) places);
+          room-long = omega (arith, held-length, C .hi, C .lo, A .order, lined-room .0, rest-length (at .written) out);
+          places-long = omega (arith, lined-room .1, rest-length (at .warned) places);
         }
 
     there : size ≤ length held
@@ -402,8 +387,8 @@ module _ (h : Head) (m text : List ℕ) (at : Lined) (out₀ out places₀ place
       sym (start-run h m text (length out₀) (length places₀) S) ∙ ap (run Q (going (startState h text) (h .lines) [] [])) rest-split
       ∙ run-append Q (going (startState h text) (h .lines) [] []) front rest ∙ ap (λ (r : Run State). run Q r rest) (A .ran)
 
-  rest-length : length rest ≡ length text - at .place
-  rest-length = length-drop (at .place) text
+  left-length : length rest ≡ length text - at .place
+  left-length = length-drop (at .place) text
 
   rest-held : drop (at .begin) text ≡ concat (A .state .block) ++ rest
   rest-held =
@@ -438,9 +423,9 @@ module _ (h : Head) (m text : List ℕ) (at : Lined) (out₀ out places₀ place
   ends-rest e C z k f r q = rw q (subst (λ (j : ℕ). Ends h m text (textRun h text) (numbered j) out₀ out places₀ places) (sym f) (go (ltb mostLine (length text - at .place)) refl))
     where
       go : (t : Bool) → ltb mostLine (length text - at .place) ≡ t → Ends h m text (textRun h text) (numbered (cond t 19 0)) out₀ out places₀ places
-      go true x = ends-long (rest-run ∙ run-long Q (A .state) (at .lines) (A .parts) rest (C .none z) (omega (arith, ltb-true mostLine (length text - at .place) x, rest-length)))
+      go true x = ends-long (rest-run ∙ run-long Q (A .state) (at .lines) (A .parts) rest (C .none z) (omega (arith, ltb-true mostLine (length text - at .place) x, left-length)))
       go false x =
-          let y : length rest ≤ mostLine = omega (arith, ltb-false mostLine (length text - at .place) x, rest-length) in
+          let y : length rest ≤ mostLine = omega (arith, ltb-false mostLine (length text - at .place) x, left-length) in
           ends-open (rest-run ∙ run-open Q (A .state) (at .lines) (A .parts) [] rest (ap hasLf (sym (take-rest y)) ∙ C .none z) (omega (arith, y)))
 
   -- every byte is taken

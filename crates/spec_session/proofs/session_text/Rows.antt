@@ -8,16 +8,16 @@ use Rattle.spec_text.specs.whitespace.White.{whiteHigh, white, whiteHead, headF
 use Rattle.spec_text.specs.pattern.Find.{starts}
 use Rattle.spec_text.specs.text.Line.{blank}
 use Rattle.spec_map.specs.segment.Segment.{segmentsOf, anyBad, mapBad}
-use Rattle.spec_caption.specs.caption_time.Kind.{kindBad}
-use Rattle.spec_caption.specs.caption_time.Convert.{timescaleBad}
+use Rattle.spec_time.specs.caption_time.Kind.{kindBad}
+use Rattle.spec_time.specs.caption_time.Convert.{timescaleBad}
 use Rattle.spec_caption.specs.caption_fate.Emit.{emitBy, emitsOf, outputOf}
-use Rattle.spec_format.specs.block_timing.Style.{blankIn}
-use Rattle.spec_format.specs.block_timing.Header.{headerDue}
-use Rattle.spec_session.specs.session_counts.Counts.{noCounts}
-use Rattle.spec_session.specs.session_counts.Machine.{hasBom}
-use Rattle.spec_session.specs.session_counts.Session.{isOutcome, outcomeBad}
-use Rattle.spec_session.specs.kinds.Takes.{noColumns, takes, blockTakes}
-use Rattle.spec_session.specs.kinds.Kit.{heldBad, columnsBad}
+use Rattle.spec_cue.specs.block_timing.Style.{blankIn}
+use Rattle.spec_cue.specs.block_timing.Header.{headerDue}
+use Rattle.spec_machine.specs.session_counts.Counts.{noCounts}
+use Rattle.spec_machine.specs.session_counts.Machine.{hasBom}
+use Rattle.spec_machine.specs.session_counts.Session.{isOutcome, outcomeBad}
+use Rattle.spec_machine.specs.kinds.Takes.{noColumns, takes, blockTakes}
+use Rattle.spec_machine.specs.kinds.Kit.{heldBad, columnsBad}
 use Rattle.spec_session.specs.declared.session_state.Head.{Head}
 use Rattle.spec_session.specs.session_state.Head.{viewOf, headOf}
 use Rattle.spec_session.specs.session_text.Answer.{textBad, textGate, textAnswer, textHead, textKept}

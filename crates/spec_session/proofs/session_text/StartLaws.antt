@@ -13,21 +13,21 @@ use Rattle.spec_text.specs.text.Line.{lineLength, endsLine, hasLf, isEmpty, con
 use Rattle.spec_text.proofs.text.LineLaws.{line-le, line-some}
 use Rattle.spec_map.specs.segment.Segment.{segmentsOf}
 use Rattle.spec_caption.specs.caption_fate.Says.{Part}
-use Rattle.spec_session.specs.session_counts.Cut.{closedLines, unfinished}
-use Rattle.spec_session.specs.session_counts.Machine.{Machine, Run, going, stopped, lineEnd, takeLine, byte, run}
-use Rattle.spec_session.proofs.session_counts.Emits.{parts-none}
-use Rattle.spec_session.proofs.session_counts.CutLaws.{cut-joined, cut-length, has-none}
-use Rattle.spec_session.proofs.session_counts.Bytes.{run-stopped}
-use Rattle.spec_session.proofs.session_counts.Resume.{run-append}
-use Rattle.spec_session.proofs.session_counts.Laws.{Lawful}
-use Rattle.spec_session.proofs.session_counts.Native.{Ok, GoingOk, run-ok}
-use Rattle.spec_session.proofs.session_counts.Room as room
-use Rattle.spec_session.proofs.session_counts.Room.{GoingRoom, out-none, warn-none, run-room}
-use Rattle.spec_session.specs.kinds.Takes.{State, machineOf}
-use Rattle.spec_session.specs.kinds.Kit.{kit}
-use Rattle.spec_session.proofs.kinds.KindLaws.{lawful, lawful-fit, lawful-size, lawful-pending}
-use Rattle.spec_session.proofs.kinds.Native.{Native, is-native}
-use Rattle.spec_session.proofs.kinds.Fits.{room-of}
+use Rattle.spec_machine.specs.session_counts.Cut.{closedLines, unfinished}
+use Rattle.spec_machine.specs.session_counts.Machine.{Machine, Run, going, stopped, lineEnd, takeLine, byte, run}
+use Rattle.spec_machine.proofs.session_counts.Emits.{parts-none}
+use Rattle.spec_machine.proofs.session_counts.CutLaws.{cut-joined, cut-length, has-none}
+use Rattle.spec_machine.proofs.session_counts.Bytes.{run-stopped}
+use Rattle.spec_machine.proofs.session_counts.Resume.{run-append}
+use Rattle.spec_machine.proofs.session_counts.Laws.{Lawful}
+use Rattle.spec_machine.proofs.session_counts.Native.{Ok, GoingOk, run-ok}
+use Rattle.spec_machine.proofs.session_counts.Room as room
+use Rattle.spec_machine.proofs.session_counts.Room.{GoingRoom, out-none, warn-none, run-room}
+use Rattle.spec_machine.specs.kinds.Takes.{State, machineOf}
+use Rattle.spec_machine.specs.kinds.Kit.{kit}
+use Rattle.spec_machine.proofs.kinds.KindLaws.{lawful, lawful-fit, lawful-size, lawful-pending}
+use Rattle.spec_machine.proofs.kinds.Native.{Native, is-native}
+use Rattle.spec_machine.proofs.kinds.Fits.{room-of}
 use Rattle.spec_session.specs.declared.session_state.Head.{Head}
 use Rattle.spec_session.specs.session_lines.Done.{Ready}
 use Rattle.spec_session.proofs.session.RunLaws.{Slow, run-slow}

@@ -1,32 +1,29 @@
 -- What a feed answers whose new bytes stand behind the held ones: refused, ended by a fault, or going on.
 use mathlib.Core.Path.{_≡_, refl, sym, ap, ap₂, subst, _∙_}
 use mathlib.Core.Bool.{Bool, true, false}
-use mathlib.Core.List.{List, [], _++_}
+use mathlib.Core.List.{List, _++_}
 use Prim.Native.Nat.{ℕ, _+_, _-_, _*_, _/_, _≤_, _<_}
 use native.Mathlib.Omega.{arith}
 use lib.Dec.{ltb}
 use lib.ListN.{length, take, length-drop, drop-of-length-le}
 use borrow.Author.Tests.{ltb-false, eqb-false, lt-ltb, le-ltb}
 use Rattle.spec_base.specs.base.Limits.{mostTaken}
-use Rattle.spec_base.specs.base.Put.{put}
 use Rattle.spec_base.proofs.base.Laws.{or-left, or-right}
-use Rattle.spec_base.proofs.base.PutLaws.{put-nil}
 use Rattle.spec_text.specs.text.Line.{concat}
 use Rattle.spec_map.specs.segment.Segment.{mapBad}
-use Rattle.spec_caption.specs.caption_fate.Emit.{outputOf, warningsOf, placesOf}
-use Rattle.spec_format.specs.declared.ass_columns.Columns.{Columns}
-use Rattle.spec_session.specs.session_counts.Machine.{Run, going, stopped}
-use Rattle.spec_session.specs.session_counts.Session.{Gate, refuse, admit, gate, foreign, respond, settle, resume}
-use Rattle.spec_session.specs.session_counts.Session as model
-use Rattle.spec_session.proofs.session_counts.Emits.{output-none}
-use Rattle.spec_session.proofs.session_counts.Resume.{ByFault, run-fault}
-use Rattle.spec_session.specs.kinds.Takes.{State, noColumns, machineOf}
-use Rattle.spec_session.specs.kinds.Kit.{kit}
+use Rattle.spec_ass.specs.declared.ass_columns.Columns.{Columns}
+use Rattle.spec_machine.specs.session_counts.Machine.{Run, going, stopped}
+use Rattle.spec_machine.specs.session_counts.Session.{Gate, refuse, admit, gate, foreign, respond, settle, resume}
+use Rattle.spec_machine.specs.session_counts.Session as model
+use Rattle.spec_machine.proofs.session_counts.Emits.{output-none}
+use Rattle.spec_machine.proofs.session_counts.Resume.{ByFault, run-fault}
+use Rattle.spec_machine.specs.kinds.Takes.{State, noColumns, machineOf}
+use Rattle.spec_machine.specs.kinds.Kit.{kit}
 use Rattle.spec_session.specs.declared.session_state.Head.{Head}
 use Rattle.spec_session.specs.session_state.Head.{viewOf}
 use Rattle.spec_session.specs.session.SessionCalls.{feedCall, gateNumber}
 use Rattle.spec_session.proofs.session.RunLaws.{places-none}
-use Rattle.spec_session.proofs.session.CallLaws.{gate-passed}
+use Rattle.spec_session.proofs.session.CallLaws.{gate-passed, nothing-warned, nothing-written}
 use Rattle.spec_session.specs.declared.session_text.TextFed.{TextFed}
 use Rattle.spec_session.specs.declared.session_text.Lined.{Lined}
 use Rattle.spec_session.specs.session_text.Answer.{textNew, textSession, textBad, textGate, textAnswer, textHead, textKept, headBy, keptBy, TextTells, TextAnswered}
@@ -116,12 +113,6 @@ by-gate h m text b r out out′ places places′ g e t =
     subst (λ (y : Gate). TextTells (respond kit y (textSession h text) (feedCall m (textNew h text) (length out) (length places)))
     (headBy y h (respond kit y (textSession h text) (feedCall m (textNew h text) (length out) (length places)) .session))
     (keptBy y text (respond kit y (textSession h text) (feedCall m (textNew h text) (length out) (length places)) .session .held)) text r out out′ places places′) (sym e) t
-
-nothing-written : (out : List ℕ) → out ≡ put (outputOf []) out
-nothing-written out = rw output-none (sym (put-nil out))
-
-nothing-warned : (places : List ℕ) → places ≡ put (placesOf (warningsOf [])) places
-nothing-warned places = rw places-none (sym (put-nil places))
 
 module _ (h : Head) (m text : List ℕ) (b : Bool) (out places held : List ℕ) (a : Bool) (n : ℕ) (eh : held ≡ take (h .«held_len») text)
     (ea : a ≡ textBad b h (length text) (length out) (length places)) (en : n ≡ headRefusal h held m a) where

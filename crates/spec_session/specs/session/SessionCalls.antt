@@ -11,13 +11,13 @@ use Rattle.spec_text.specs.text.Line.{concat}
 use Rattle.spec_map.specs.segment.Segment.{mapBad}
 use Rattle.spec_caption.specs.declared.caption_fate.Config.{Config}
 use Rattle.spec_caption.specs.caption_fate.Emit.{outputOf, warningsOf, placesOf}
-use Rattle.spec_format.specs.declared.ass_columns.Columns.{Columns}
-use Rattle.spec_session.specs.declared.session_counts.Counts.{Counts}
-use Rattle.spec_session.specs.session_counts.Cut.{closedLines}
-use Rattle.spec_session.specs.session_counts.Session.{Lent, Call, feed, finish, Gate, refuse, admit, gate, argumentBad, lentOf, answer, openSession}
-use Rattle.spec_session.specs.session_counts.Session as model
-use Rattle.spec_session.specs.kinds.Takes.{noColumns}
-use Rattle.spec_session.specs.kinds.Kit.{kit}
+use Rattle.spec_ass.specs.declared.ass_columns.Columns.{Columns}
+use Rattle.spec_machine.specs.declared.session_counts.Counts.{Counts}
+use Rattle.spec_machine.specs.session_counts.Cut.{closedLines}
+use Rattle.spec_machine.specs.session_counts.Session.{Lent, Call, feed, finish, Gate, refuse, admit, gate, argumentBad, lentOf, answer, openSession}
+use Rattle.spec_machine.specs.session_counts.Session as model
+use Rattle.spec_machine.specs.kinds.Takes.{noColumns}
+use Rattle.spec_machine.specs.kinds.Kit.{kit}
 use Rattle.spec_session.specs.declared.session_state.Session.{Session}
 use Rattle.spec_session.specs.session_state.View.{view, stored, foreignOf}
 use Rattle.spec_session.specs.declared.session.Fed.{Fed}

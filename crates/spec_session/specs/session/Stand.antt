@@ -1,7 +1,7 @@
 -- How the loop's numbers and the lent slices stand for the text taken: for the private functions.
 use mathlib.Core.Path.{_≡_}
-use mathlib.Core.Bool.{Bool, true, false, _&&_}
-use mathlib.Core.List.{List, [], _∷_, _++_}
+use mathlib.Core.Bool.{Bool, false, _&&_}
+use mathlib.Core.List.{List, [], _++_}
 use Prim.Native.Nat.{ℕ, _+_, _*_, _≤_, _<_, _^_}
 use lib.Dec.{eqb}
 use lib.ListN.{length, take}
@@ -10,13 +10,13 @@ use Rattle.spec_text.specs.pattern.Find.{equals}
 use Rattle.spec_text.specs.text.Line.{concat, lineCount}
 use Rattle.spec_caption.specs.declared.caption_fate.Config.{Config}
 use Rattle.spec_caption.specs.caption_fate.Says.{Part}
-use Rattle.spec_session.specs.declared.session_counts.Counts.{Counts}
-use Rattle.spec_session.specs.session_counts.Counts.{countAll}
-use Rattle.spec_session.specs.session_counts.Cut.{closedLines, unfinished}
-use Rattle.spec_session.specs.session_counts.Machine.{bom, Run, going, stopped}
-use Rattle.spec_session.specs.session_counts.Session.{emitted}
-use Rattle.spec_session.specs.kinds.Takes.{State}
-use Rattle.spec_session.specs.kinds.Kit.{strange}
+use Rattle.spec_machine.specs.declared.session_counts.Counts.{Counts}
+use Rattle.spec_machine.specs.session_counts.Counts.{countAll}
+use Rattle.spec_machine.specs.session_counts.Cut.{closedLines, unfinished}
+use Rattle.spec_machine.specs.session_counts.Machine.{bom, Run, going, stopped}
+use Rattle.spec_machine.specs.session_counts.Session.{emitted}
+use Rattle.spec_machine.specs.kinds.Takes.{State}
+use Rattle.spec_machine.specs.kinds.Kit.{strange}
 use Rattle.spec_session.specs.declared.session_lines.Taken.{Taken}
 use Rattle.spec_session.specs.declared.session_lines.Ended.{Ended}
 use Rattle.spec_session.specs.session_lines.Done.{Wrote, Below, Parsed}

@@ -12,14 +12,14 @@ use Rattle.spec_caption.specs.declared.caption_fate.Config.{Config}
 use Rattle.spec_caption.specs.caption_fate.Says.{Part, badHeader, faultNumber}
 use Rattle.spec_caption.specs.caption_fate.Emit.{Emit, outputOf, warningsOf, placesOf}
 use Rattle.spec_caption.specs.caption_fate.Told.{partIn}
-use Rattle.spec_format.specs.declared.ass_columns.Columns.{Columns}
-use Rattle.spec_format.specs.block_timing.Style.{styleOf}
-use Rattle.spec_format.specs.block_timing.Header.{headerDue}
-use Rattle.spec_session.specs.declared.session_counts.Counts.{Counts}
-use Rattle.spec_session.specs.session_counts.Counts.{countAll}
-use Rattle.spec_session.specs.session_counts.Machine.{hasBom, Says, faulty, says, takeLine}
-use Rattle.spec_session.specs.session_counts.Session.{countsAbove}
-use Rattle.spec_session.specs.kinds.Takes.{State, blankState, closes, machineOf}
+use Rattle.spec_ass.specs.declared.ass_columns.Columns.{Columns}
+use Rattle.spec_cue.specs.block_timing.Style.{styleOf}
+use Rattle.spec_cue.specs.block_timing.Header.{headerDue}
+use Rattle.spec_machine.specs.declared.session_counts.Counts.{Counts}
+use Rattle.spec_machine.specs.session_counts.Counts.{countAll}
+use Rattle.spec_machine.specs.session_counts.Machine.{hasBom, Says, faulty, says, takeLine}
+use Rattle.spec_machine.specs.session_counts.Session.{countsAbove}
+use Rattle.spec_machine.specs.kinds.Takes.{State, blankState, closes, machineOf}
 use Rattle.spec_session.specs.declared.session_lines.Taken.{Taken}
 use Rattle.spec_session.specs.declared.session_lines.Ended.{Ended}
 

@@ -9,10 +9,10 @@ use Rattle.spec_base.specs.base.Limits.{mostTaken}
 use Rattle.spec_base.specs.base.Put.{put}
 use Rattle.spec_map.specs.segment.Segment.{mapBad}
 use Rattle.spec_caption.specs.caption_fate.Emit.{outputOf, warningsOf, placesOf}
-use Rattle.spec_format.specs.declared.ass_columns.Columns.{Columns}
-use Rattle.spec_session.specs.session_counts.Session.{Gate, refuse, admit, gate, foreign, respond}
-use Rattle.spec_session.specs.session_counts.Session as model
-use Rattle.spec_session.specs.kinds.Kit.{kit}
+use Rattle.spec_ass.specs.declared.ass_columns.Columns.{Columns}
+use Rattle.spec_machine.specs.session_counts.Session.{Gate, refuse, admit, gate, foreign, respond}
+use Rattle.spec_machine.specs.session_counts.Session as model
+use Rattle.spec_machine.specs.kinds.Kit.{kit}
 use Rattle.spec_session.specs.declared.session_state.Head.{Head}
 use Rattle.spec_session.specs.session_state.Head.{viewOf, headOf}
 use Rattle.spec_session.specs.session.SessionCalls.{feedCall}

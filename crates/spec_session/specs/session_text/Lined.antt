@@ -10,15 +10,15 @@ use Rattle.spec_text.specs.text.Line.{concat, endsLine, hasLf}
 use Rattle.spec_map.specs.segment.Segment.{mapBad}
 use Rattle.spec_caption.specs.declared.caption_fate.Config.{Config}
 use Rattle.spec_caption.specs.caption_fate.Says.{Part}
-use Rattle.spec_format.specs.block_timing.Style.{blankIn}
-use Rattle.spec_format.specs.declared.ass_columns.Columns.{Columns}
-use Rattle.spec_session.specs.declared.session_counts.Counts.{Counts}
-use Rattle.spec_session.specs.session_counts.Counts.{countAll}
-use Rattle.spec_session.specs.session_counts.Cut.{closedLines}
-use Rattle.spec_session.specs.session_counts.Machine.{Run, going, stopped, run}
-use Rattle.spec_session.specs.session_counts.Session.{gate, emitted, foreign, resume}
-use Rattle.spec_session.specs.kinds.Takes.{State, noColumns, machineOf}
-use Rattle.spec_session.specs.kinds.Kit.{kit}
+use Rattle.spec_cue.specs.block_timing.Style.{blankIn}
+use Rattle.spec_ass.specs.declared.ass_columns.Columns.{Columns}
+use Rattle.spec_machine.specs.declared.session_counts.Counts.{Counts}
+use Rattle.spec_machine.specs.session_counts.Counts.{countAll}
+use Rattle.spec_machine.specs.session_counts.Cut.{closedLines}
+use Rattle.spec_machine.specs.session_counts.Machine.{Run, going, stopped, run}
+use Rattle.spec_machine.specs.session_counts.Session.{gate, emitted, foreign, resume}
+use Rattle.spec_machine.specs.kinds.Takes.{State, noColumns, machineOf}
+use Rattle.spec_machine.specs.kinds.Kit.{kit}
 use Rattle.spec_session.specs.declared.session_state.Head.{Head}
 use Rattle.spec_session.specs.session_state.Head.{viewOf}
 use Rattle.spec_session.specs.session_lines.Done.{Wrote}

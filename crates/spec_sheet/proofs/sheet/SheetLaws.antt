@@ -1,7 +1,7 @@
 -- Laws of the frame sheet that crates above cite.
-use Prim.Native.Nat.{ℕ, zero, suc, _+_, _-_, _*_, _/_, _^_, _≤_, _<_}
+use Prim.Native.Nat.{ℕ, zero, suc, _+_, _-_, _*_, _/_, _≤_, _<_}
 use mathlib.Core.Bool.{Bool, true, false}
-use mathlib.Core.List.{List, [], _∷_}
+use mathlib.Core.List.{List}
 use mathlib.Core.Logic.{_⊎_, inl, inr, ⊎-elim}
 use mathlib.Core.Path.{_≡_, refl, sym, ap, _∙_}
 use native.Mathlib.Omega.{arith}
@@ -11,13 +11,12 @@ use borrow.Author.Tests.{le-leb, lt-ltb, ltb-true, leb-true}
 use Rattle.spec_base.specs.base.Limits.{mostTimescale, mostFrames, mostTicks, mostWork}
 use Rattle.spec_base.specs.base.Refusal.{_orElse_, faultUnless, firstOf}
 use Rattle.spec_base.proofs.base.RefusalLaws.{held, else-none, else-zero, else-either, first-zero}
-use Rattle.spec_sheet.proofs.checked_blocks.WordLaws.{word-below}
-use Rattle.spec_sheet.specs.sheet_frames.Frames.{timescaleOf, framesOf, rateNumOf, rateDenOf, decodeOf, durationOf}
+use Rattle.spec_sheet.specs.sheet_frames.Frames.{timescaleOf, framesOf, rateNumOf, rateDenOf, decodeOf}
 use Rattle.spec_sheet.specs.sheet_permutation.Once.{repeatFault, workBytes, onceNumber, EachOnce}
 use Rattle.spec_sheet.proofs.sheet_permutation.NamedLaws.{number-once, once-number}
 use Rattle.spec_sheet.proofs.sheet.TotalLaws.{total-held, total-within, total-short}
-use Rattle.spec_sheet.specs.sheet.Sheet.{sheetFault, totalFault, sheetNumber, sheetOf, numberOf, valuesOf}
-use Rattle.spec_sheet.specs.sheet_frames.Frames.{longOf, perBlock, recordWord, durationIn, ticksFrom}
+use Rattle.spec_sheet.specs.sheet.Sheet.{sheetFault, totalFault, sheetNumber, sheetOf, numberOf}
+use Rattle.spec_sheet.specs.sheet_frames.Frames.{longOf, perBlock, recordWord, ticksFrom}
 use Rattle.spec_sheet.specs.sheet.Sheet.{spareFault, timescaleIn, headFault, spareRecord, recordFault, checkFault, blockFault, recordBlocks, headOf, sheetAnswer}
 use Rattle.spec_sheet.specs.declared.sheet.Head.{Head}
 use Rattle.spec_sheet.specs.declared.sheet.Sheet.{Sheet}
@@ -96,28 +95,6 @@ sound-decode s i e l =
     let b : blockFault s (framesOf s) (blockOf (longOf s) i) ≡ 0 = first-zero _ _ _ (sound-parts s e .blocks) (blockOf (longOf s) i) (p .low) (p .high) in
     let r : recordFault s (framesOf s) i ≡ 0 = first-zero _ _ _ (else-zero _ _ b .1) i (p .from) (p .below) in
     ltb-true _ _ (held _ 14 (omega arith) (sym (record-inside s (framesOf s) i l) ∙ r))
-
--- ---- sizes of what any bytes say
-module _ (s : List ℕ) (bytes : (j : ℕ) → getD s j 0 < 256) where
-  pub timescale-word : timescaleOf s < 2 ^ 32
-  unfolding timescaleOf
-  timescale-word = word-below s 1 bytes
-
-  pub frames-word : framesOf s < 2 ^ 32
-  unfolding framesOf
-  frames-word = word-below s 2 bytes
-
-  duration-in : (t : Bool) (w : ℕ) → durationIn t s w < 2 ^ 64
-  duration-in false w = omega (arith, word-below s (w + 1) bytes)
-  duration-in true w = omega (arith, word-below s (w + 1) bytes, word-below s (w + 2) bytes)
-
-  pub duration-word : (i : ℕ) → durationOf s i < 2 ^ 64
-  unfolding durationOf
-  duration-word i = duration-in (longOf s) (recordWord (longOf s) i)
-
-pub decode-word : (s : List ℕ) (i : ℕ) → decodeOf s i < 2 ^ 31
-unfolding decodeOf
-decode-word s i = omega arith
 
 -- ---- the numbers of the table: 0, 11 to 14
 abbrev FaultNumber : ℕ → Type 0
@@ -254,11 +231,6 @@ number-by (suc k) h = refl
 pub number-is : (s : List ℕ) (lent : ℕ) → numberOf (sheetOf s lent) ≡ sheetNumber s lent
 unfolding sheetOf
 number-is s lent = number-by _ _
-
--- its values are the head's where it is 0
-pub values-are : (s : List ℕ) (lent : ℕ) → sheetNumber s lent ≡ 0 → valuesOf (sheetOf s lent) ≡ timescaleOf s ∷ framesOf s ∷ rateNumOf s ∷ rateDenOf s ∷ []
-unfolding sheetOf headOf sheetAnswer
-values-are s lent e = rw e
 
 -- ---- the number 0: no fault in the bytes, enough work bytes, each sample named exactly once, and the durations together within the limit
 pub record Checked (s : List ℕ) (lent : ℕ) : Type 0 where

@@ -1,7 +1,7 @@
 -- Where records stand, in both layouts: the first of block 1, its last, and the first of block 2.
 use mathlib.Core.Path.{_≡_, refl}
 use mathlib.Core.Bool.{true, false}
-use mathlib.Core.List.{List, [], _∷_, map}
+use mathlib.Core.List.{[], _∷_, map}
 use Rattle.spec_sheet.specs.sheet_frames.Frames.{perBlock, recordWidth, recordWord}
 
 pub record-rows : (map (recordWord false) (0 ∷ 62 ∷ 63 ∷ []) ≡ 129 ∷ 253 ∷ 257 ∷ []) × (map (recordWord true) (0 ∷ 41 ∷ 42 ∷ []) ≡ 129 ∷ 252 ∷ 257 ∷ [])

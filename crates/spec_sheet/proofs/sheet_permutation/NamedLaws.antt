@@ -1,5 +1,5 @@
 -- Records without a fault name each number below n exactly once; and a sum over them in display order is the sum in decode order.
-use Prim.Native.Nat.{ℕ, zero, suc, _+_, _-_, _*_, _≤_, _<_}
+use Prim.Native.Nat.{ℕ, zero, suc, _+_, _*_, _≤_, _<_}
 use mathlib.Core.Path.{_≡_, refl, sym, ap, subst, _∙_}
 use mathlib.Core.Bool.{Bool, true, false, cond, _&&_}
 use mathlib.Core.Logic.{⊎-elim}
@@ -7,8 +7,8 @@ use mathlib.Core.List.{List}
 use native.Mathlib.Omega.{arith}
 use native.Mathlib.Nat.{eq-or-lt-of-le, one-mul, zero-mul, add-mul}
 use borrow.Author.Tests.{eq-eqb, ne-eqb, lt-ltb, le-leb, eqb-true, eqb-false, ltb-true, leb-true}
-use lib.Dec.{ltb, leb, eqb}
-use Rattle.spec_base.specs.base.Refusal.{_orElse_, faultUnless, firstOf}
+use lib.Dec.{ltb, eqb}
+use Rattle.spec_base.specs.base.Refusal.{firstOf}
 use Rattle.spec_base.proofs.base.RefusalLaws.{held, unless-held, else-none, else-zero, first-zero}
 use Rattle.spec_base.proofs.base.Laws.{and-left, and-right}
 use Rattle.spec_sheet.specs.sheet_frames.Frames.{decodeOf}

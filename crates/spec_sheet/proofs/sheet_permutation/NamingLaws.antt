@@ -1,5 +1,5 @@
 -- Laws of the pass over a sheet's records: the bits that are set are the decode indices met so far.
-use Prim.Native.Nat.{ℕ, zero, suc, _+_, _-_, _*_, _/_, _%_, _^_, _≤_, _<_}
+use Prim.Native.Nat.{ℕ, suc, _+_, _-_, _*_, _/_, _%_, _^_, _≤_, _<_}
 use mathlib.Core.Path.{_≡_, refl, sym, ap, subst, _∙_}
 use mathlib.Core.Bool.{Bool, true, false, cond, not, _&&_, false≢true, true≢false}
 use mathlib.Core.List.{List, _++_}
@@ -7,16 +7,17 @@ use native.Mathlib.Omega.{arith}
 use native.Mathlib.Nat.{zero-div}
 use native.Mathlib.Numerals.{add-one}
 use borrow.Author.Tests.{lt-ltb, le-ltb, le-leb, lt-leb, eq-eqb, ne-eqb, eqb-true, eqb-false}
-use lib.Dec.{ltb, leb, eqb}
+use lib.Dec.{ltb, eqb}
 use lib.ListN.{length, getD, take, drop, replicate, length-replicate}
 use lib.Seq.{length-take-le}
 use Rattle.spec_base.specs.base.Put.{put}
 use Rattle.spec_base.proofs.base.PutLaws.{placed-yes, placed-no}
-use Rattle.spec_base.specs.base.Refusal.{_orElse_, faultUnless, firstOf}
+use Rattle.spec_base.specs.base.Refusal.{faultUnless, firstOf}
 use Rattle.spec_base.proofs.base.RefusalLaws.{unless-held, unless-failed, else-none, else-here, left-here, left-next}
 use Rattle.spec_sheet.specs.sheet_frames.Frames.{decodeOf}
 use Rattle.spec_sheet.specs.sheet_permutation.Once.{timesNamed, repeatFault, workBytes, onceNumber, workOnce, bitOf, withBit}
 use Rattle.spec_sheet.proofs.sheet_permutation.BitLaws.{bit-after, byte-after}
+use Rattle.spec_base.proofs.base.Laws.{zero-at}
 
 -- the bits are the decode indices of the first i records
 pub record Seen (s : List ℕ) (i : ℕ) (bits : List ℕ) : Type 0 where
@@ -24,11 +25,6 @@ pub record Seen (s : List ℕ) (i : ℕ) (bits : List ℕ) : Type 0 where
   pub met : (d : ℕ) → bitOf bits d ≡ not (eqb (timesNamed s i d) 0)
 
 -- ---- clear bits: none is met
-zero-at : (k j : ℕ) → _≡_ {A = ℕ} (getD (replicate k 0) j 0) 0
-zero-at zero j = refl
-zero-at (suc k) zero = refl
-zero-at (suc k) (suc j) = zero-at k j
-
 zero-bit : (k : ℕ) → 0 / 2 ^ k % 2 ≡ 0
 zero-bit k = ap (λ (x : ℕ). x % 2) (zero-div (2 ^ k))
 
@@ -83,7 +79,7 @@ counted k e x = go (eqb x e)
         let q : k + 0 ≡ k = omega arith in
         ap (λ (y : ℕ). not (eqb y 0)) q
 
-eqb-turn : (x y : ℕ) → eqb x y ≡ eqb y x
+pub eqb-turn : (x y : ℕ) → eqb x y ≡ eqb y x
 eqb-turn x y = go (eqb x y) refl
   where
     go : (t : Bool) → eqb x y ≡ t → t ≡ eqb y x

@@ -1,7 +1,6 @@
 -- The work bytes by rows: how many 0, 1, 8 and 9 frames need, and two lent bytes of which 8 frames need one.
 use mathlib.Core.Path.{_≡_, refl}
-use mathlib.Core.List.{List, [], _∷_}
-use Prim.Native.Nat.{ℕ}
+use mathlib.Core.List.{[], _∷_}
 use Rattle.spec_base.specs.base.Put.{put, placed}
 use Rattle.spec_sheet.specs.sheet_permutation.Once.{workBytes, workOnce}
 

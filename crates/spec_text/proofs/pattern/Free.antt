@@ -49,7 +49,7 @@ module _ (c : ℕ) (p : List ℕ) where
       le-ltb (first (c ∷ p) s) (length s) (omega (arith, ap (first (c ∷ p)) (append-nil s)))
 
 -- the parts about the byte itself
-first-one : (c : ℕ) (t : List ℕ) → first (c ∷ []) (c ∷ t) ≡ 0
+pub first-one : (c : ℕ) (t : List ℕ) → first (c ∷ []) (c ∷ t) ≡ 0
 unfolding first starts
 first-one c t = rw (eq-eqb c c refl)
 

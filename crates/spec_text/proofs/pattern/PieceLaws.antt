@@ -86,7 +86,7 @@ unfolding joined
 joined-next p [] h = absurd (omega arith)
 joined-next p (g ∷ fs) h = refl
 
-starts-cut : (p s : List ℕ) → starts p s ≡ true → s ≡ p ++ drop (length p) s
+pub starts-cut : (p s : List ℕ) → starts p s ≡ true → s ≡ p ++ drop (length p) s
 unfolding starts
 starts-cut [] s e = refl
 starts-cut (a ∷ p) [] e = absurd (true≢false (sym e))
@@ -113,3 +113,13 @@ joined-from p n (b ∷ s) zero = go (starts p (b ∷ s)) refl (joined-from p n s
 pub pieces-joined : (p s : List ℕ) → 0 < length p → joined p (pieces p s) ≡ s
 unfolding pieces
 pieces-joined p s n = joined-from p n s 0
+
+pub starts-long : (p s : List ℕ) → starts p s ≡ true → length p ≤ length s
+unfolding starts
+starts-long [] s e = omega arith
+starts-long (a ∷ p) [] e = absurd (true≢false (sym e))
+starts-long (a ∷ p) (b ∷ s) e = go (eqb a b) e (starts-long p s)
+  where
+    go : (t : Bool) → cond t (starts p s) false ≡ true → (starts p s ≡ true → length p ≤ length s) → suc (length p) ≤ suc (length s)
+    go true e ih = let z = ih e in omega arith
+    go false e ih = absurd (true≢false (sym e))

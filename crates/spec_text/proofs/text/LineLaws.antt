@@ -1,15 +1,15 @@
 -- Laws of lines, of trimmed texts, and of numbers that are read.
 use mathlib.Core.Path.{_≡_, refl, sym, ap, subst, _∙_}
 use mathlib.Core.Bool.{Bool, true, false, cond}
-use mathlib.Core.List.{List, [], _∷_, _++_, append-nil, append-assoc}
-use Prim.Native.Nat.{ℕ, zero, suc, _+_, _*_, _-_, _≤_, _<_}
-use native.Mathlib.Nat.{le-of-suc-le-suc, not-suc-le-zero, le-trans}
+use mathlib.Core.List.{List, [], _∷_, _++_, append-assoc}
+use Prim.Native.Nat.{ℕ, zero, suc, _+_, _-_, _≤_, _<_}
+use native.Mathlib.Nat.{not-suc-le-zero}
 use native.Mathlib.Omega.{arith}
 use native.Mathlib.Numerals.{add-one}
 use borrow.Author.Tests.{eq-eqb, ne-eqb, leb-true, eqb-true, eqb-false}
 use lib.Dec.{eqb, leb}
 use lib.Seq.{drop-cons}
-use lib.ListN.{length, take, drop, getD, length-drop, length-take, length-append, take-append-drop, drop-of-length-le}
+use lib.ListN.{length, take, drop, getD, length-drop, length-take, take-append-drop, drop-of-length-le}
 use mathlib.Core.Bool.{true≢false}
 use Rattle.spec_base.specs.base.Width.{byWidth}
 use Rattle.spec_base.proofs.base.Laws.{yes!, no! }
@@ -18,7 +18,7 @@ use Rattle.spec_text.specs.declared.text.Number.{Number}
 use Rattle.spec_text.specs.declared.text.Number.the-variants.{Value, Bad}
 use Rattle.spec_text.specs.text.Number.{digits, valueFrom, natural, unsigned, number}
 use Rattle.spec_text.specs.pattern.Piece.{ontoFirst}
-use Rattle.spec_text.specs.text.Line.{lineLength, linesOf, concat, lineCount, terminatorLength, textOf, terminatorOf, isEmpty, blank, endsLine, hasLf}
+use Rattle.spec_text.specs.text.Line.{lineLength, linesOf, concat, terminatorLength, textOf, terminatorOf, isEmpty, blank, endsLine, hasLf}
 
 -- ---- the calls
 pub text-found : (l r : List ℕ) (n m : ℕ) → n ≡ terminatorLength l → m ≡ length l - n → r ≡ take m l → r ≡ textOf l
@@ -42,7 +42,7 @@ pub ends-none : (l : List ℕ) (a i : ℕ) → i ≡ length l - 1 → a ≡ getD
 unfolding terminatorLength
 ends-none l a i ei ea p = no! _ (ne-eqb _ _ (λ z. p (ea ∙ ap (λ (k : ℕ). getD l k 0) ei ∙ z))) refl
 
-empty-zero : (l : List ℕ) → eqb (length l) 0 ≡ isEmpty l
+pub empty-zero : (l : List ℕ) → eqb (length l) 0 ≡ isEmpty l
 empty-zero [] = refl
 empty-zero (b ∷ l) = ne-eqb (length (b ∷ l)) 0 (λ e. omega arith)
 

@@ -1,6 +1,6 @@
 -- Numbers of at most 99: by computation.
 use mathlib.Core.Path.{_≡_, refl}
-use mathlib.Core.List.{List, [], _∷_, map}
+use mathlib.Core.List.{[], _∷_, map}
 use Rattle.spec_base.specs.base.Ascii.{ascii}
 use Rattle.spec_text.specs.text.Number.{digit, digits, valueFrom, natural, unsigned, number, numberFault, numberValues}
 

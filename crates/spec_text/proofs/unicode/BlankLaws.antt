@@ -5,7 +5,7 @@ use mathlib.Core.List.{List, [], _∷_, _++_, append-nil}
 use Prim.Native.Nat.{ℕ, zero, suc, _-_, _≤_, _<_}
 use native.Mathlib.Omega.{arith}
 use borrow.Author.Tests.{leb-true, leb-false, eqb-true}
-use lib.Dec.{leb, eqb}
+use lib.Dec.{leb}
 use lib.ListN.{length, take, drop, take-append-drop, drop-of-length-le}
 use lib.Seq.{take-nil, length-take-le}
 use Rattle.spec_base.specs.base.Width.{byWidth}
@@ -13,7 +13,7 @@ use Rattle.spec_base.specs.base.Part.{last}
 use Rattle.spec_text.specs.utf8.Utf8.{charWidth, codeHead}
 use Rattle.spec_text.specs.whitespace.White.{white, whiteHead, endsWhite, whiteTail, headFrom, keepFrom, trimHead, trimTail, trim}
 use Rattle.spec_text.specs.text.Line.{isEmpty, blank}
-use Rattle.spec_text.specs.unicode.Encode.{encode, Scalar}
+use Rattle.spec_text.specs.unicode.Encode.{encode}
 use Rattle.spec_text.proofs.unicode.Encoding.{white-encoded, encode-long}
 use Rattle.spec_text.proofs.unicode.Decoding.{decoded}
 

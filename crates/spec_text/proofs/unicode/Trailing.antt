@@ -2,21 +2,20 @@
 use mathlib.Core.Path.{_≡_, refl, sym, ap, subst, _∙_, fun-ext}
 use mathlib.Core.Bool.{Bool, true, false}
 use mathlib.Core.List.{List, [], _∷_, _++_}
-use Prim.Native.Nat.{ℕ, zero, suc, _+_, _*_, _-_, _/_, _%_, _≤_, _<_}
-use native.Mathlib.Nat.{le-trans, le-refl, not-suc-le-zero}
+use Prim.Native.Nat.{ℕ, zero, suc, _+_, _-_, _/_, _%_, _≤_, _<_}
+use native.Mathlib.Nat.{le-trans, le-refl}
 use native.Mathlib.Omega.{arith}
-use borrow.Author.Tests.{lt-ltb, le-ltb, le-leb, lt-leb, eq-eqb, ne-eqb, ltb-true, ltb-false, eqb-true, eqb-false}
-use lib.Dec.{eqb, ltb, leb}
-use lib.ListN.{length, take, drop, getD, length-append, length-drop}
-use lib.Seq.{take-suc, getD-drop, getD-append-add, drop-append-add, take-append-le, take-append-seam, take-length}
+use borrow.Author.Tests.{lt-ltb, le-ltb, ltb-true, ltb-false}
+use lib.Dec.{ltb}
+use lib.ListN.{length, take, length-append}
+use lib.Seq.{take-append-le, take-length}
 use mathlib.Core.Bool.{cond}
 use Rattle.spec_base.specs.base.Width.{byWidth}
-use Rattle.spec_text.specs.utf8.Utf8.{leadLen, secondLow, secondHigh, tail, widthBy, charWidth, codeBy, codeHead}
-use Rattle.spec_base.specs.base.Part.{last}
-use Rattle.spec_text.specs.whitespace.White.{white, whiteHigh, whiteHead, endsWhite, whiteTail, keepFrom, trimTail}
+use Rattle.spec_text.specs.utf8.Utf8.{charWidth}
+use Rattle.spec_text.specs.whitespace.White.{white, whiteHead, whiteTail, keepFrom, trimTail}
 use Rattle.spec_text.specs.unicode.Encode.{encode, Scalar}
 use Rattle.spec_base.proofs.base.Laws.{yes!, no! }
-use Rattle.spec_text.proofs.whitespace.Laws.{keep-step, keep-none, white-ascii}
+use Rattle.spec_text.proofs.whitespace.Laws.{keep-step, keep-none}
 use Rattle.spec_text.proofs.unicode.Encoding.{encoded, encode-long, white-encoded}
 use Rattle.spec_text.proofs.whitespace.LastBytes.{case-1, case-2, case-3, case-4, white-far}
 

@@ -1,8 +1,7 @@
 -- Worked examples as theorems, by computation.
 use mathlib.Core.Path.{_≡_, refl}
-use mathlib.Core.Bool.{Bool, true, false}
-use mathlib.Core.List.{List, [], _∷_}
-use Prim.Native.Nat.{ℕ}
+use mathlib.Core.Bool.{true, false}
+use mathlib.Core.List.{[], _∷_}
 use Rattle.spec_text.specs.utf8.Utf8.{leadLen, secondLow, secondHigh, tail, widthBy, charWidth, utf8From, utf8, codeBy, codeHead}
 use Rattle.spec_base.specs.base.Part.{last}
 use Rattle.spec_text.specs.whitespace.White.{whiteHigh, white, whiteHead, endsWhite, whiteTail, headFrom, keepFrom, trimHead, trimTail, trim}

@@ -1,21 +1,20 @@
 -- The last bytes of a text: how white space at the end is told from the last one, two or three bytes.
-use mathlib.Core.Path.{_≡_, refl, sym, ap, subst, _∙_, fun-ext}
+use mathlib.Core.Path.{_≡_, refl, sym, ap, subst, _∙_}
 use mathlib.Core.Bool.{Bool, true, false}
 use mathlib.Core.List.{List, [], _∷_, _++_}
-use Prim.Native.Nat.{ℕ, zero, suc, _+_, _*_, _-_, _/_, _%_, _≤_, _<_}
-use native.Mathlib.Nat.{le-trans, le-refl, not-suc-le-zero}
+use Prim.Native.Nat.{ℕ, _+_, _-_, _≤_, _<_}
+use native.Mathlib.Nat.{le-refl}
 use native.Mathlib.Omega.{arith}
-use borrow.Author.Tests.{lt-ltb, le-ltb, le-leb, lt-leb, eq-eqb, ne-eqb, ltb-true, ltb-false, eqb-true, eqb-false}
-use lib.Dec.{eqb, ltb, leb}
-use lib.ListN.{length, take, drop, getD, length-append, length-drop}
-use lib.Seq.{take-suc, getD-drop, getD-append-add, drop-append-add, take-append-le, take-append-seam, take-length}
+use borrow.Author.Tests.{lt-ltb, le-ltb, lt-leb, ne-eqb, ltb-true}
+use lib.Dec.{eqb, ltb}
+use lib.ListN.{length, take, drop, getD, length-append}
+use lib.Seq.{take-suc, getD-drop, getD-append-add, drop-append-add, take-length}
 use mathlib.Core.Bool.{cond}
-use Rattle.spec_base.specs.base.Width.{byWidth}
 use Rattle.spec_text.specs.utf8.Utf8.{leadLen, secondLow, secondHigh, tail, widthBy, charWidth, codeBy, codeHead}
 use Rattle.spec_base.specs.base.Part.{last}
-use Rattle.spec_text.specs.whitespace.White.{white, whiteHigh, whiteHead, endsWhite, whiteTail, keepFrom, trimTail}
+use Rattle.spec_text.specs.whitespace.White.{white, whiteHigh, whiteHead, endsWhite, whiteTail}
 use Rattle.spec_base.proofs.base.Laws.{yes!, no! }
-use Rattle.spec_text.proofs.whitespace.Laws.{keep-step, keep-none, white-ascii}
+use Rattle.spec_text.proofs.whitespace.Laws.{white-ascii}
 
 -- ---- bounds on a character's width
 -- no character begins with a continuation byte

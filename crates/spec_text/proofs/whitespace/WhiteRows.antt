@@ -1,7 +1,7 @@
 -- Document 01's list of White_Space, and the code points beside it: by computation.
 use mathlib.Core.Path.{_≡_, refl}
-use mathlib.Core.Bool.{Bool, true, false}
-use mathlib.Core.List.{List, [], _∷_, map}
+use mathlib.Core.Bool.{true, false}
+use mathlib.Core.List.{[], _∷_, map}
 use lib.ListN.{replicate}
 use Rattle.spec_text.specs.whitespace.White.{whiteHigh, white}
 

@@ -1,8 +1,7 @@
 -- Decimal numbers: an optional `+` and one or more digits, the value at most a given one.
-use Prim.Native.Nat.{ℕ, zero, suc, _+_, _*_, _-_}
-use mathlib.Core.Bool.{Bool, true, false, _&&_}
+use Prim.Native.Nat.{ℕ, _+_, _*_, _-_}
+use mathlib.Core.Bool.{Bool, true, false}
 use mathlib.Core.List.{List, [], _∷_}
-use lib.ListN.{length, drop}
 use lib.Dec.{eqb, ltb, leb}
 use Rattle.spec_text.specs.declared.text.Number.{Number}
 use Rattle.spec_text.specs.declared.text.Number.the-variants.{Value, Bad}

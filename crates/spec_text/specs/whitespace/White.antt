@@ -1,8 +1,8 @@
 -- Unicode White_Space, and a text stripped of it at both ends.
-use Prim.Native.Nat.{ℕ, zero, suc, _-_}
+use Prim.Native.Nat.{ℕ, zero, suc}
 use mathlib.Core.Bool.{Bool, true, false}
 use mathlib.Core.List.{List, [], _∷_}
-use lib.ListN.{getD, length, take, drop}
+use lib.ListN.{length, take}
 use lib.Dec.{ltb, leb, eqb}
 use mathlib.Core.Bool.{cond}
 use Rattle.spec_base.specs.base.Width.{byWidth}

@@ -1,5 +1,5 @@
 use lib.ListN.{length}
-use Rattle.spec_caption.specs.caption_time.Kind.{unitsOf}
+use Rattle.spec_time.specs.caption_time.Kind.{unitsOf}
 use Rattle.spec_map.proofs.segment.SegmentLaws.{six-less}
 use Rattle.spec_ask.proofs.ask_census.Turns.{Going, going-start, going-again, room-kept, room-whole, end-kept, end-whole}
 use borrow.Author.Needs.{needs}

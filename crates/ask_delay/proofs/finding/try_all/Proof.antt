@@ -1,8 +1,8 @@
-use Rattle.ask_delay.proofs.AnswerLaws.{zeros-new}
 use Rattle.ask_delay.proofs.ChoiceLaws.{chosen-same}
 use borrow.Author.Needs.{needs}
 use Rattle.ask_delay.proofs.finding.try_all.Statement.{statement}
 use Rattle.ask_delay.proofs.finding.try_all.Tie as tie
+use Rattle.spec_base.proofs.base.Laws.{zero-at}
 
 slice-aggregate-count-all : tie.Need-slice-aggregate-count-all
 slice-aggregate-count-all c = search needs
@@ -11,7 +11,7 @@ slice-aggregate-count-all-2 : tie.Need-slice-aggregate-count-all-2
 slice-aggregate-count-all-2 c = search needs
 
 count-all-requires : tie.Need-count-all-requires
-count-all-requires c κs = (search needs, search needs, search needs, search needs, search needs, search needs, search needs, search needs, λ k h. zeros-new 12001 k)
+count-all-requires c κs = (search needs, search needs, search needs, search needs, search needs, search needs, search needs, search needs, λ k h. zero-at 12001 k)
 
 slice-aggregate-choose : tie.Need-slice-aggregate-choose
 slice-aggregate-choose c = search needs

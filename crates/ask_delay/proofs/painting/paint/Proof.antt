@@ -1,7 +1,7 @@
 use Prim.Native.Nat.{_*_, _≤_}
 use lib.ListN.{length, drop}
 use native.Mathlib.Omega.{arith}
-use Rattle.spec_caption.specs.caption_time.Kind.{unitsOf}
+use Rattle.spec_time.specs.caption_time.Kind.{unitsOf}
 use Rattle.spec_map.specs.segment.Segment.{segmentsOf}
 use Rattle.spec_ask.specs.ask_edges.Edge.{edgesOf}
 use Rattle.spec_ask.specs.ask_delay.Paint.{Window}

@@ -1,5 +1,4 @@
 use Rattle.spec_ask.proofs.ask_order.AscendLaws.{ends-1, ends-2}
-use borrow.Author.Needs.{needs}
 use Rattle.ask_order.proofs.ascending.ends_after.Statement.{statement}
 use Rattle.ask_order.proofs.ascending.ends_after.Tie as tie
 use Rattle.ask_order.proofs.ascending.ends_after.Reads as reads

@@ -1,5 +1,4 @@
 use Rattle.spec_ask.proofs.ask_order.AscendLaws.{after-1, after-2}
-use borrow.Author.Needs.{needs}
 use Rattle.ask_order.proofs.ascending.later.Statement.{statement}
 use Rattle.ask_order.proofs.ascending.later.Tie as tie
 use Rattle.ask_order.proofs.ascending.later.Reads as reads

@@ -1,5 +1,4 @@
 use Rattle.spec_ask.proofs.ask_reason.CauseLaws.{ends-1, ends-2}
-use borrow.Author.Needs.{needs}
 use Rattle.ask_reason.proofs.causes.ends_by.Statement.{statement}
 use Rattle.ask_reason.proofs.causes.ends_by.Tie as tie
 use Rattle.ask_reason.proofs.causes.ends_by.Reads as reads

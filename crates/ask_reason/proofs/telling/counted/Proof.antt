@@ -1,6 +1,5 @@
 use Rattle.spec_base.proofs.base.Laws.{chain}
 use Rattle.spec_ask.specs.ask_reason.Reason.{countedCut}
-use borrow.Author.Needs.{needs}
 use Rattle.ask_reason.proofs.telling.counted.Statement.{statement}
 use Rattle.ask_reason.proofs.telling.counted.Tie as tie
 use Rattle.ask_reason.proofs.telling.counted.Reads as reads

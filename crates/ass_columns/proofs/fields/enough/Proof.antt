@@ -1,54 +1,42 @@
-use Prim.Native.Nat.{_≤_}
-use native.Mathlib.Omega.{arith}
-use Rattle.spec_format.proofs.ass_columns.FieldLaws.{rest-part}
+use mathlib.Core.Path.{_≡_, refl}
 use lib.Dec.{leb}
 use lib.ListN.{length}
-use mathlib.Core.Path.{_≡_, refl}
-use Rattle.spec_format.specs.ass_columns.Columns.{fields}
-use Rattle.spec_format.proofs.ass_columns.FieldLaws.{enough-few, enough-again, enough-all}
+use native.Mathlib.Omega.{arith}
 use borrow.Author.Needs.{needs}
+use Rattle.spec_ass.specs.ass_columns.Columns.{fields}
+use Rattle.ass_columns.proofs.CommaLaws.{counted-some, counted-again, counted-rest, behind-less}
 use Rattle.ass_columns.proofs.fields.enough.Statement.{statement}
 use Rattle.ass_columns.proofs.fields.enough.Tie as tie
-use Rattle.ass_columns.proofs.fields.enough.Reads as reads
-use Rattle.ass_columns.proofs.fields.enough.Lts as lts
-use Rattle.base.proofs.rest.Reads as rest-reads
-use Rattle.pattern.proofs.find.Reads as find-reads
 
 abbrev Inv-loop : tie.InvT-loop
-Inv-loop s columns t₀ left₀ t7 t left = (leb left (length (fields left t)) ≡ leb columns (length (fields columns s))) × (length t ≤ length s)
+Inv-loop s columns t₀ left₀ t left = leb left (length (fields left t)) ≡ leb columns (length (fields columns s))
 
 abbrev μ-loop : tie.MeasureT-loop
-μ-loop s columns t₀ left₀ t7 t left = left
+μ-loop s columns t₀ left₀ t left = length t
 
 loop-holds : tie.Need-loop-holds Inv-loop μ-loop
-loop-holds c = (refl, omega arith)
-
-slice-aggregate-find : tie.Need-slice-aggregate-find Inv-loop μ-loop
-slice-aggregate-find c = search needs
-
-find-requires : tie.Need-find-requires Inv-loop μ-loop
-find-requires c κs = search needs
+loop-holds c = refl
 
 returns : tie.Need-returns Inv-loop μ-loop
-returns c = search enough-few
+returns c = search counted-some
 
-add-rest : tie.Need-add-rest Inv-loop μ-loop
-add-rest c = search needs
+left-behind-requires : tie.Need-left-behind-requires Inv-loop μ-loop
+left-behind-requires c κs = search needs
 
 rest-requires : tie.Need-rest-requires Inv-loop μ-loop
 rest-requires c κs = search needs
 
-sub-left : tie.Need-sub-left Inv-loop μ-loop
-sub-left c = search needs
-
 loop-less : tie.Need-loop-less Inv-loop μ-loop
-loop-less c = search needs
+loop-less c = search behind-less
 
 loop-again : tie.Need-loop-again Inv-loop μ-loop
-loop-again c = (search enough-again, search rest-part)
+loop-again c = search counted-again
+
+enough-by-one-requires : tie.Need-enough-by-one-requires Inv-loop μ-loop
+enough-by-one-requires c κs = search needs
 
 returns-2 : tie.Need-returns-2 Inv-loop μ-loop
-returns-2 c = search enough-all
+returns-2 c = search counted-rest
 
 pub enough-spec : {M : Type 1} → statement M
 enough-spec =
@@ -57,12 +45,10 @@ enough-spec =
     Inv-loop
     μ-loop
     loop-holds
-    slice-aggregate-find
-    find-requires
     returns
-    add-rest
+    left-behind-requires
     rest-requires
-    sub-left
     loop-less
     loop-again
+    enough-by-one-requires
     returns-2)

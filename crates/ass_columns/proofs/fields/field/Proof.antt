@@ -1,10 +1,10 @@
-use Rattle.spec_format.proofs.ass_columns.FieldLaws.{rest-part}
+use Rattle.spec_ass.proofs.ass_columns.FieldLaws.{rest-part}
 use lib.ListN.{length}
 use Prim.Native.Nat.{_≤_}
 use mathlib.Core.Path.{_≡_, refl}
 use native.Mathlib.Omega.{arith}
-use Rattle.spec_format.specs.ass_columns.Columns.{fields, fieldAt}
-use Rattle.spec_format.proofs.ass_columns.FieldLaws.{field-absent, field-past, field-short, field-again, field-found}
+use Rattle.spec_ass.specs.ass_columns.Columns.{fields, fieldAt}
+use Rattle.spec_ass.proofs.ass_columns.FieldLaws.{field-absent, field-past, field-short, field-again, field-found}
 use borrow.Author.Needs.{needs}
 use Rattle.ass_columns.proofs.fields.field.Statement.{statement}
 use Rattle.ass_columns.proofs.fields.field.Tie as tie

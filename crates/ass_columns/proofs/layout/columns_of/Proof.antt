@@ -1,7 +1,6 @@
-use Rattle.spec_format.proofs.ass_columns.FieldLaws.{rest-less}
+use Rattle.spec_ass.proofs.ass_columns.FieldLaws.{rest-less}
 use lib.ListN.{length}
-use Rattle.spec_format.proofs.ass_columns.ColumnLaws.{Left, left-all, left-done, left-trims, left-again}
-use native.Mathlib.Omega.{arith}
+use Rattle.spec_ass.proofs.ass_columns.ColumnLaws.{Left, left-all, left-done, left-trims, left-again}
 use borrow.Author.Needs.{needs}
 use Rattle.ass_columns.proofs.layout.columns_of.Statement.{statement}
 use Rattle.ass_columns.proofs.layout.columns_of.Tie as tie

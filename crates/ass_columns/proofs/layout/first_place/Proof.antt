@@ -1,5 +1,4 @@
-use Rattle.spec_format.proofs.ass_columns.ColumnLaws.{place-kept, place-here, column-none}
-use borrow.Author.Needs.{needs}
+use Rattle.spec_ass.proofs.ass_columns.ColumnLaws.{place-kept, place-here, column-none}
 use Rattle.ass_columns.proofs.layout.first_place.Statement.{statement}
 use Rattle.ass_columns.proofs.layout.first_place.Tie as tie
 use Rattle.ass_columns.proofs.layout.first_place.Reads as reads

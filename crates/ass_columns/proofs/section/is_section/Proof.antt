@@ -1,4 +1,4 @@
-use Rattle.spec_format.proofs.ass_columns.SectionLaws.{section-short, section-other, section-last}
+use Rattle.spec_ass.proofs.ass_columns.SectionLaws.{section-short, section-other, section-last}
 use borrow.Author.Needs.{needs}
 use Rattle.ass_columns.proofs.section.is_section.Statement.{statement}
 use Rattle.ass_columns.proofs.section.is_section.Tie as tie

@@ -1,4 +1,4 @@
-use Rattle.spec_format.proofs.ass_columns.SectionLaws.{section-name}
+use Rattle.spec_ass.proofs.ass_columns.SectionLaws.{section-name}
 use borrow.Author.Needs.{needs}
 use Rattle.ass_columns.proofs.section.names_events.Statement.{statement}
 use Rattle.ass_columns.proofs.section.names_events.Tie as tie

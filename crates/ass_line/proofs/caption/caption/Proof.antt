@@ -2,7 +2,7 @@ use mathlib.Core.Path.{refl}
 use lib.ListN.{length, drop}
 use Rattle.spec_text.specs.text.Line.{textOf}
 use Rattle.spec_caption.specs.caption_fate.Grouped.{segmentsBy}
-use Rattle.spec_format.proofs.ass_line.SayLaws.{caption-start, caption-end, told-1, told-2, told-times, rest-is, parts-room}
+use Rattle.spec_ass.proofs.ass_line.SayLaws.{caption-start, caption-end, told-1, told-2, told-times, rest-is, parts-room}
 use borrow.Author.Needs.{needs}
 use Rattle.ass_line.proofs.caption.caption.Statement.{statement}
 use Rattle.ass_line.proofs.caption.caption.Tie as tie

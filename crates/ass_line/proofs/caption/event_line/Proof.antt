@@ -1,8 +1,8 @@
 use mathlib.Core.Path.{refl}
 use native.Mathlib.Omega.{arith}
 use Rattle.spec_caption.specs.caption_fate.Grouped.{segmentsBy}
-use Rattle.spec_format.specs.ass_line.Line.{dialogueWord, commentWord}
-use Rattle.spec_format.proofs.ass_line.SayLaws.{word-1, word-2, word-3, word-4, word-room}
+use Rattle.spec_ass.specs.ass_line.Line.{dialogueWord, commentWord}
+use Rattle.spec_ass.proofs.ass_line.SayLaws.{word-1, word-2, word-3, word-4, word-room}
 use borrow.Author.Needs.{needs}
 use Rattle.ass_line.proofs.caption.event_line.Statement.{statement}
 use Rattle.ass_line.proofs.caption.event_line.Tie as tie

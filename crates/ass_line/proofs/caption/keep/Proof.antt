@@ -1,6 +1,6 @@
 use Prim.Native.Nat.{_^_, _<_}
 use native.Mathlib.Omega.{arith}
-use Rattle.spec_format.proofs.ass_line.TellLaws.{keep-told}
+use Rattle.spec_ass.proofs.ass_line.TellLaws.{keep-told}
 use borrow.Author.Needs.{needs}
 use Rattle.ass_line.proofs.caption.keep.Statement.{statement}
 use Rattle.ass_line.proofs.caption.keep.Tie as tie

@@ -1,8 +1,8 @@
 use mathlib.Core.Path.{refl, sym, ap, _∙_}
 use Rattle.spec_caption.specs.caption_fate.Grouped.{segmentsBy}
-use Rattle.spec_format.specs.ass_columns.Section.{bracketed}
-use Rattle.spec_format.proofs.ass_columns.SectionLaws.{trim-by}
-use Rattle.spec_format.proofs.ass_line.SayLaws.{line-short, line-few, line-section, line-events, line-other}
+use Rattle.spec_ass.specs.ass_columns.Section.{bracketed}
+use Rattle.spec_ass.proofs.ass_columns.SectionLaws.{trim-by}
+use Rattle.spec_ass.proofs.ass_line.SayLaws.{line-short, line-few, line-section, line-events, line-other}
 use borrow.Author.Needs.{needs}
 use Rattle.ass_line.proofs.caption.line.Statement.{statement}
 use Rattle.ass_line.proofs.caption.line.Tie as tie

@@ -2,8 +2,8 @@ use Rattle.spec_caption.specs.declared.caption_fate.Decision.{Decision}
 use Rattle.spec_caption.specs.caption_fate.Says.{Cue}
 use Rattle.spec_caption.specs.caption_fate.Decide.{decideIn}
 use Rattle.spec_caption.specs.caption_fate.Grouped.{segmentsBy}
-use Rattle.spec_format.specs.ass_columns.Columns.{fields}
-use Rattle.spec_format.specs.ass_line.Line.{lineCue}
+use Rattle.spec_ass.specs.ass_columns.Columns.{fields}
+use Rattle.spec_ass.specs.ass_line.Line.{lineCue}
 use Rattle.spec_caption.proofs.caption_fate.TellLaws.{settle-strange, settle-dropped, settle-kept}
 use borrow.Author.Needs.{needs}
 use Rattle.ass_line.proofs.caption.settle.Statement.{statement}

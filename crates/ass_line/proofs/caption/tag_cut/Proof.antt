@@ -1,4 +1,4 @@
-use Rattle.spec_format.proofs.ass_line.TellLaws.{tag-yes, tag-no}
+use Rattle.spec_ass.proofs.ass_line.TellLaws.{tag-yes, tag-no}
 use borrow.Author.Needs.{needs}
 use Rattle.ass_line.proofs.caption.tag_cut.Statement.{statement}
 use Rattle.ass_line.proofs.caption.tag_cut.Tie as tie

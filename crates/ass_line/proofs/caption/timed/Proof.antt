@@ -1,5 +1,5 @@
 use Rattle.spec_caption.specs.caption_fate.Grouped.{segmentsBy}
-use Rattle.spec_format.proofs.ass_line.SayLaws.{times-1, times-2, times-room, times-3}
+use Rattle.spec_ass.proofs.ass_line.SayLaws.{times-1, times-2, times-room, times-3}
 use borrow.Author.Needs.{needs}
 use Rattle.ass_line.proofs.caption.timed.Statement.{statement}
 use Rattle.ass_line.proofs.caption.timed.Tie as tie

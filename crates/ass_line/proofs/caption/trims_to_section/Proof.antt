@@ -1,4 +1,4 @@
-use Rattle.spec_format.proofs.ass_columns.SectionLaws.{section-none}
+use Rattle.spec_ass.proofs.ass_columns.SectionLaws.{section-none}
 use borrow.Author.Needs.{needs}
 use Rattle.ass_line.proofs.caption.trims_to_section.Statement.{statement}
 use Rattle.ass_line.proofs.caption.trims_to_section.Tie as tie

@@ -1,4 +1,4 @@
-use Rattle.spec_format.proofs.ass_line.TellLaws.{warn-both, warn-tag, warn-lost, warn-none}
+use Rattle.spec_ass.proofs.ass_line.TellLaws.{warn-both, warn-tag, warn-lost, warn-none}
 use borrow.Author.Needs.{needs}
 use Rattle.ass_line.proofs.caption.warn.Statement.{statement}
 use Rattle.ass_line.proofs.caption.warn.Tie as tie

@@ -3,8 +3,8 @@ use mathlib.Core.Bool.{false}
 use Prim.Native.Nat.{_-_, _≤_}
 use lib.ListN.{length, drop}
 use native.Mathlib.Omega.{arith}
-use Rattle.spec_format.specs.ass_write.Tags.{tags, tagged}
-use Rattle.spec_format.proofs.ass_write.TagLaws.{startsAny, tag-found, tag-again, tag-miss, tag-none}
+use Rattle.spec_ass.specs.ass_write.Tags.{tags, tagged}
+use Rattle.spec_ass.proofs.ass_write.TagLaws.{startsAny, tag-found, tag-again, tag-miss, tag-none}
 use borrow.Author.Needs.{needs}
 use Rattle.ass_write.proofs.tags.has_tag.Statement.{statement}
 use Rattle.ass_write.proofs.tags.has_tag.Tie as tie

@@ -1,4 +1,4 @@
-use Rattle.spec_format.proofs.ass_write.WriteLaws.{text-new, text-old}
+use Rattle.spec_ass.proofs.ass_write.WriteLaws.{text-new, text-old}
 use borrow.Author.Needs.{needs}
 use Rattle.ass_write.proofs.writing.column_text.Statement.{statement}
 use Rattle.ass_write.proofs.writing.column_text.Tie as tie

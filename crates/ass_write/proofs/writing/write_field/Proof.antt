@@ -1,4 +1,4 @@
-use Rattle.spec_format.proofs.ass_write.WriteLaws.{field-stop, field-other}
+use Rattle.spec_ass.proofs.ass_write.WriteLaws.{field-stop, field-other}
 use borrow.Author.Needs.{needs}
 use Rattle.ass_write.proofs.writing.write_field.Statement.{statement}
 use Rattle.ass_write.proofs.writing.write_field.Tie as tie

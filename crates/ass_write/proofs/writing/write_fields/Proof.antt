@@ -1,8 +1,8 @@
 use mathlib.Core.Path.{refl}
 use native.Mathlib.Omega.{arith}
-use lib.ListN.{length, take}
+use lib.ListN.{take}
 use Rattle.spec_base.proofs.base.PutLaws.{at-back, placed-room}
-use Rattle.spec_format.proofs.ass_write.WriteLaws.{Unwritten, unwritten-all, no-fields, fields-done, fields-again, after-room}
+use Rattle.spec_ass.proofs.ass_write.WriteLaws.{Unwritten, unwritten-all, no-fields, fields-done, fields-again, after-room}
 use borrow.Author.Needs.{needs}
 use Rattle.ass_write.proofs.writing.write_fields.Statement.{statement}
 use Rattle.ass_write.proofs.writing.write_fields.Tie as tie

@@ -1,12 +1,10 @@
 use mathlib.Core.Path.{_≡_}
-use mathlib.Core.List.{List}
-use Prim.Native.Nat.{ℕ, _^_, _<_, _≤_, _+_}
-use lib.ListN.{take, drop, length, replicate}
+use Prim.Native.Nat.{_^_, _<_, _≤_}
+use lib.ListN.{take, length, replicate}
 use native.Mathlib.Omega.{arith}
-use Rattle.spec_base.specs.base.Put.{placed, placedLength}
-use Rattle.spec_caption.specs.caption_stamp.Write.{timeText}
-use Rattle.spec_caption.proofs.caption_stamp.Written.{text-23}
-use Rattle.spec_format.proofs.ass_write.WriteLaws.{text-held}
+use Rattle.spec_time.specs.caption_stamp.Write.{timeText}
+use Rattle.spec_time.proofs.caption_stamp.Written.{text-23}
+use Rattle.spec_ass.proofs.ass_write.WriteLaws.{text-held}
 use borrow.Author.Needs.{needs}
 use Rattle.ass_write.proofs.writing.write_kept.Statement.{statement}
 use Rattle.ass_write.proofs.writing.write_kept.Tie as tie

@@ -1,7 +1,6 @@
 use native.Mathlib.Omega.{arith}
 use Prim.Native.Nat.{ℕ, _-_}
-use native.Mathlib.Nat.{le-of-lt}
-use mathlib.Core.Path.{_≡_, sym, _∙_, ap}
+use mathlib.Core.Path.{_≡_, _∙_, ap}
 use lib.ListN.{drop, length}
 use Rattle.spec_base.specs.base.Part.{last}
 use borrow.Author.Needs.{needs}

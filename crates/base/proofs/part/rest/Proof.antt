@@ -1,6 +1,5 @@
-use Prim.Native.Nat.{_-_, _≤_}
+use Prim.Native.Nat.{_-_}
 use native.Mathlib.Nat.{le-of-eq, le-of-lt}
-use mathlib.Core.Path.{sym, _∙_}
 use lib.ListN.{length, drop, length-drop, drop-of-length-le}
 use lib.Seq.{take-all, drop-length, take-nil}
 use borrow.Author.Needs.{needs}

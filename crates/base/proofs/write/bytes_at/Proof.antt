@@ -1,6 +1,5 @@
 use Rattle.spec_base.proofs.base.PutLaws.{at-past, at-back, placed-room}
 use native.Mathlib.Omega.{arith}
-use mathlib.Core.Path.{sym}
 use borrow.Author.Needs.{needs}
 use Rattle.base.proofs.write.bytes_at.Statement.{statement}
 use Rattle.base.proofs.write.bytes_at.Tie as tie

@@ -3,7 +3,7 @@ use Prim.Native.Nat.{_+_, _≤_}
 use native.Mathlib.Omega.{arith}
 use lib.ListN.{length}
 use Rattle.spec_text.specs.text.Line.{linesOf, lineCount}
-use Rattle.spec_format.proofs.block_cue.CountLaws.{count-more, lines-room, lines-over}
+use Rattle.spec_cue.proofs.block_cue.CountLaws.{count-more, lines-room, lines-over}
 use borrow.Author.Needs.{needs}
 use Rattle.block_cue.proofs.numbering.lines_in.Statement.{statement}
 use Rattle.block_cue.proofs.numbering.lines_in.Tie as tie

@@ -1,6 +1,6 @@
 use mathlib.Core.Path.{refl}
 use Rattle.spec_caption.proofs.caption_fate.TellLaws.{tells-same, tells-refused}
-use Rattle.spec_format.proofs.block_cue.BlockLaws.{answer-1, answer-2, block-3, block-4, block-room}
+use Rattle.spec_cue.proofs.block_cue.BlockLaws.{answer-1, answer-2, block-3, block-4, block-room}
 use borrow.Author.Needs.{needs}
 use Rattle.block_cue.proofs.srt.block.Statement.{statement}
 use Rattle.block_cue.proofs.srt.block.Tie as tie

@@ -1,6 +1,6 @@
-use Rattle.spec_format.specs.block_cue.Block.{blockFrame}
-use Rattle.spec_format.specs.block_cue.BlockThrough.{numberIn}
-use Rattle.spec_format.proofs.block_cue.BlockLaws.{keep-told}
+use Rattle.spec_cue.specs.block_cue.Block.{blockFrame}
+use Rattle.spec_cue.specs.block_cue.BlockThrough.{numberIn}
+use Rattle.spec_cue.proofs.block_cue.BlockLaws.{keep-told}
 use borrow.Author.Needs.{needs}
 use Rattle.block_cue.proofs.srt.keep.Statement.{statement}
 use Rattle.block_cue.proofs.srt.keep.Tie as tie

@@ -1,4 +1,4 @@
-use Rattle.spec_format.proofs.block_cue.BlockLaws.{read-1, read-2, read-3}
+use Rattle.spec_cue.proofs.block_cue.BlockLaws.{read-1, read-2, read-3}
 use borrow.Author.Needs.{needs}
 use Rattle.block_cue.proofs.srt.read_times.Statement.{statement}
 use Rattle.block_cue.proofs.srt.read_times.Tie as tie

@@ -1,6 +1,6 @@
 use Rattle.spec_caption.specs.caption_fate.Grouped.{segmentsBy}
-use Rattle.spec_format.specs.block_cue.BlockThrough.{numberIn}
-use Rattle.spec_format.proofs.block_cue.BlockLaws.{timed-bad, timed-both, timed-room}
+use Rattle.spec_cue.specs.block_cue.BlockThrough.{numberIn}
+use Rattle.spec_cue.proofs.block_cue.BlockLaws.{timed-bad, timed-both, timed-room}
 use borrow.Author.Needs.{needs}
 use Rattle.block_cue.proofs.srt.timed.Statement.{statement}
 use Rattle.block_cue.proofs.srt.timed.Tie as tie

@@ -1,4 +1,4 @@
-use Rattle.spec_format.proofs.block_cue.WriteLaws.{warn-both, warn-tag, warn-lost, warn-none}
+use Rattle.spec_cue.proofs.block_cue.WriteLaws.{warn-both, warn-tag, warn-lost, warn-none}
 use borrow.Author.Needs.{needs}
 use Rattle.block_cue.proofs.srt.warn.Statement.{statement}
 use Rattle.block_cue.proofs.srt.warn.Tie as tie

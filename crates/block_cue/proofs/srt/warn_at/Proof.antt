@@ -1,5 +1,5 @@
-use Rattle.spec_format.specs.block_cue.BlockThrough.{numberIn}
-use Rattle.spec_format.proofs.block_cue.WriteLaws.{warn-none, warn-number}
+use Rattle.spec_cue.specs.block_cue.BlockThrough.{numberIn}
+use Rattle.spec_cue.proofs.block_cue.WriteLaws.{warn-none, warn-number}
 use borrow.Author.Needs.{needs}
 use Rattle.block_cue.proofs.srt.warn_at.Statement.{statement}
 use Rattle.block_cue.proofs.srt.warn_at.Tie as tie

@@ -1,8 +1,8 @@
-use Rattle.spec_caption.specs.caption_stamp.Write.{timeText}
+use Rattle.spec_time.specs.caption_stamp.Write.{timeText}
 use Prim.Native.Nat.{_<_, _^_}
 use native.Mathlib.Omega.{arith}
-use Rattle.spec_caption.proofs.caption_stamp.Written.{text-23}
-use Rattle.spec_format.proofs.block_cue.WriteLaws.{frame-written}
+use Rattle.spec_time.proofs.caption_stamp.Written.{text-23}
+use Rattle.spec_cue.proofs.block_cue.WriteLaws.{frame-written}
 use borrow.Author.Needs.{needs}
 use Rattle.block_cue.proofs.srt.write_kept.Statement.{statement}
 use Rattle.block_cue.proofs.srt.write_kept.Tie as tie

@@ -1,6 +1,6 @@
-use Rattle.spec_format.specs.block_timing.Style.{blankIn}
-use Rattle.spec_base.proofs.base.Laws.{chain, calls}
-use Rattle.spec_format.proofs.block_timing.VttLaws.{blank-two}
+use Rattle.spec_cue.specs.block_timing.Style.{blankIn}
+use Rattle.spec_base.proofs.base.Laws.{chain}
+use Rattle.spec_cue.proofs.block_timing.VttLaws.{blank-two}
 use borrow.Author.Needs.{needs}
 use Rattle.block_timing.proofs.blank.is_blank_in.Statement.{statement}
 use Rattle.block_timing.proofs.blank.is_blank_in.Tie as tie

@@ -1,5 +1,4 @@
-use Rattle.spec_format.proofs.block_timing.VttLaws.{due-kind, due-lines, due-bytes}
-use borrow.Author.Needs.{needs}
+use Rattle.spec_cue.proofs.block_timing.VttLaws.{due-kind, due-lines, due-bytes}
 use Rattle.block_timing.proofs.header.header_due.Statement.{statement}
 use Rattle.block_timing.proofs.header.header_due.Tie as tie
 

@@ -1,4 +1,4 @@
-use Rattle.spec_format.proofs.block_timing.VttLaws.{header-some, header-other}
+use Rattle.spec_cue.proofs.block_timing.VttLaws.{header-some, header-other}
 use borrow.Author.Needs.{needs}
 use Rattle.block_timing.proofs.header.is_header.Statement.{statement}
 use Rattle.block_timing.proofs.header.is_header.Tie as tie

@@ -1,6 +1,5 @@
 use native.Mathlib.Omega.{arith}
-use Rattle.spec_format.proofs.block_timing.VttLaws.{word-none, word-space, word-tab}
-use borrow.Author.Needs.{needs}
+use Rattle.spec_cue.proofs.block_timing.VttLaws.{word-none, word-space, word-tab}
 use Rattle.block_timing.proofs.header.parts_word.Statement.{statement}
 use Rattle.block_timing.proofs.header.parts_word.Tie as tie
 

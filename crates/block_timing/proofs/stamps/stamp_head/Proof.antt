@@ -1,4 +1,4 @@
-use Rattle.spec_format.proofs.block_timing.VttLaws.{head-one, head-none}
+use Rattle.spec_cue.proofs.block_timing.VttLaws.{head-one, head-none}
 use borrow.Author.Needs.{needs}
 use Rattle.block_timing.proofs.stamps.stamp_head.Statement.{statement}
 use Rattle.block_timing.proofs.stamps.stamp_head.Tie as tie

@@ -2,8 +2,8 @@ use mathlib.Core.Path.{_≡_, refl}
 use Prim.Native.Nat.{_≤_, _-_}
 use native.Mathlib.Omega.{arith}
 use lib.ListN.{length, drop}
-use Rattle.spec_format.specs.block_timing.Style.{stampIn}
-use Rattle.spec_format.proofs.block_timing.VttLaws.{in-found, in-again, in-none}
+use Rattle.spec_cue.specs.block_timing.Style.{stampIn}
+use Rattle.spec_cue.proofs.block_timing.VttLaws.{in-found, in-again, in-none}
 use borrow.Author.Needs.{needs}
 use Rattle.block_timing.proofs.stamps.stamp_in.Statement.{statement}
 use Rattle.block_timing.proofs.stamps.stamp_in.Tie as tie

@@ -1,4 +1,4 @@
-use Rattle.spec_format.specs.block_timing.Style.{stampsIn}
+use Rattle.spec_cue.specs.block_timing.Style.{stampsIn}
 use Rattle.spec_base.proofs.base.Laws.{chain, calls}
 use borrow.Author.Needs.{needs}
 use Rattle.block_timing.proofs.stamps.stamps_in.Statement.{statement}

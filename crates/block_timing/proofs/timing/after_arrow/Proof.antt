@@ -1,4 +1,4 @@
-use Rattle.spec_format.proofs.block_timing.PlaceLaws.{after-found}
+use Rattle.spec_cue.proofs.block_timing.PlaceLaws.{after-found}
 use borrow.Author.Needs.{needs}
 use Rattle.block_timing.proofs.timing.after_arrow.Statement.{statement}
 use Rattle.block_timing.proofs.timing.after_arrow.Tie as tie

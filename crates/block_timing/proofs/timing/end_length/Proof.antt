@@ -1,5 +1,5 @@
-use Rattle.spec_format.specs.block_timing.Style.{endIn}
-use Rattle.spec_base.proofs.base.Laws.{chain, calls}
+use Rattle.spec_cue.specs.block_timing.Style.{endIn}
+use Rattle.spec_base.proofs.base.Laws.{calls}
 use borrow.Author.Needs.{needs}
 use Rattle.block_timing.proofs.timing.end_length.Statement.{statement}
 use Rattle.block_timing.proofs.timing.end_length.Tie as tie

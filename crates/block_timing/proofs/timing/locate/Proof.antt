@@ -3,8 +3,8 @@ use Prim.Native.Nat.{_+_, _≤_}
 use lib.ListN.{length}
 use native.Mathlib.Omega.{arith}
 use Rattle.spec_text.specs.text.Line.{linesOf}
-use Rattle.spec_format.specs.block_timing.Place.{timingPlace}
-use Rattle.spec_format.proofs.block_timing.PlaceLaws.{place-found, place-again, place-none, line-inside, rest-sum, lines-few}
+use Rattle.spec_cue.specs.block_timing.Place.{timingPlace}
+use Rattle.spec_cue.proofs.block_timing.PlaceLaws.{place-found, place-again, place-none, line-inside, rest-sum, lines-few}
 use borrow.Author.Needs.{needs}
 use Rattle.block_timing.proofs.timing.locate.Statement.{statement}
 use Rattle.block_timing.proofs.timing.locate.Tie as tie

@@ -1,4 +1,4 @@
-use Rattle.spec_format.proofs.block_timing.PlaceLaws.{end-1, end-2, end-3}
+use Rattle.spec_cue.proofs.block_timing.PlaceLaws.{end-1, end-2, end-3}
 use borrow.Author.Needs.{needs}
 use Rattle.block_timing.proofs.timing.srt_end.Statement.{statement}
 use Rattle.block_timing.proofs.timing.srt_end.Tie as tie

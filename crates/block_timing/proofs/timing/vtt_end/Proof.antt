@@ -1,4 +1,4 @@
-use Rattle.spec_format.proofs.block_timing.VttLaws.{vtt-space, vtt-tab}
+use Rattle.spec_cue.proofs.block_timing.VttLaws.{vtt-space, vtt-tab}
 use borrow.Author.Needs.{needs}
 use Rattle.block_timing.proofs.timing.vtt_end.Statement.{statement}
 use Rattle.block_timing.proofs.timing.vtt_end.Tie as tie

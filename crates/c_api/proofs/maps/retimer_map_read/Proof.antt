@@ -1,4 +1,4 @@
-use Rattle.c_api.proofs.MapTexts.{stays, read-number, read-map, read-path, done-number, done-map, done-path}
+use Rattle.c_api.proofs.MapTexts.{read-number, read-map, read-path, done-number, done-map, done-path}
 use Rattle.c_api.proofs.MapTexts.{done-timescale, done-rate-num, done-rate-den, done-frames, done-numbers, done-length}
 use borrow.Author.Needs.{needs}
 use Rattle.c_api.proofs.maps.retimer_map_read.Statement.{statement}
@@ -6,6 +6,7 @@ use Rattle.c_api.proofs.maps.retimer_map_read.Tie as tie
 use Rattle.c_api.proofs.maps.retimer_map_read.Reads as reads
 use Rattle.c_api.proofs.maps.retimer_map_read.Lts as lts
 use Rattle.map_json_read.proofs.read_map.Reads as read-map-reads
+use Rattle.c_api.proofs.Mapped.{stays}
 
 read-map-requires : tie.Need-read-map-requires
 read-map-requires c κs = search needs

@@ -1,5 +1,4 @@
 use Rattle.caption_fate.proofs.PassLaws.{ended-no, ended-yes}
-use borrow.Author.Needs.{needs}
 use Rattle.caption_fate.proofs.meeting.ended.Statement.{statement}
 use Rattle.caption_fate.proofs.meeting.ended.Tie as tie
 use Rattle.caption_fate.proofs.meeting.ended.Reads as reads

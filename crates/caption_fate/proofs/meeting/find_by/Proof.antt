@@ -1,4 +1,3 @@
-use native.Mathlib.Omega.{arith}
 use Rattle.spec_caption.proofs.caption_fate.GroupedLaws.{by-none, by-some}
 use borrow.Author.Needs.{needs}
 use Rattle.caption_fate.proofs.meeting.find_by.Statement.{statement}

@@ -1,7 +1,6 @@
-use native.Mathlib.Omega.{arith}
 use lib.ListN.{length}
 use Rattle.spec_map.proofs.segment.SegmentLaws.{six-less}
-use Rattle.spec_caption.proofs.caption_fate.GroupedLaws.{Seeking, seeking-start, seeking-add, seeking-group, seeking-again, seeking-found, seeking-none, seeking-less}
+use Rattle.spec_caption.proofs.caption_fate.GroupedLaws.{Seeking, seeking-start, seeking-group, seeking-again, seeking-found, seeking-none, seeking-less}
 use borrow.Author.Needs.{needs}
 use Rattle.caption_fate.proofs.meeting.find_from.Statement.{statement}
 use Rattle.caption_fate.proofs.meeting.find_from.Tie as tie

@@ -1,5 +1,4 @@
 use Rattle.spec_caption.proofs.caption_fate.HitLaws.{meets-1, meets-2, meets-3, meets-4}
-use borrow.Author.Needs.{needs}
 use Rattle.caption_fate.proofs.meeting.meets.Statement.{statement}
 use Rattle.caption_fate.proofs.meeting.meets.Tie as tie
 use Rattle.caption_fate.proofs.meeting.meets.Reads as reads

@@ -1,5 +1,5 @@
 use lib.ListN.{length}
-use Rattle.caption_fate.proofs.PassLaws.{Passing, passing-start, passing-sum, passing-less, passing-again}
+use Rattle.caption_fate.proofs.PassLaws.{Passing, passing-start, passing-less, passing-again}
 use borrow.Author.Needs.{needs}
 use Rattle.caption_fate.proofs.meeting.passed.Statement.{statement}
 use Rattle.caption_fate.proofs.meeting.passed.Tie as tie

@@ -1,5 +1,4 @@
 use Rattle.spec_caption.proofs.caption_fate.GroupedLaws.{within-1, within-2, within-3}
-use borrow.Author.Needs.{needs}
 use Rattle.caption_fate.proofs.meeting.within.Statement.{statement}
 use Rattle.caption_fate.proofs.meeting.within.Tie as tie
 use Rattle.caption_fate.proofs.meeting.within.Reads as reads

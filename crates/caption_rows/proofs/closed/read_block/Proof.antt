@@ -1,4 +1,4 @@
-use Rattle.spec_runs.proofs.caption_rows.BlockLaws.{block-found, block-none}
+use Rattle.spec_rows.proofs.caption_rows.BlockLaws.{block-found, block-none}
 use borrow.Author.Needs.{needs}
 use Rattle.caption_rows.proofs.closed.read_block.Statement.{statement}
 use Rattle.caption_rows.proofs.closed.read_block.Tie as tie

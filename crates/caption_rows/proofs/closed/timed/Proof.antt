@@ -1,4 +1,4 @@
-use Rattle.spec_runs.proofs.caption_rows.BlockLaws.{timed-1, timed-2, timed-3}
+use Rattle.spec_rows.proofs.caption_rows.BlockLaws.{timed-1, timed-2, timed-3}
 use borrow.Author.Needs.{needs}
 use Rattle.caption_rows.proofs.closed.timed.Statement.{statement}
 use Rattle.caption_rows.proofs.closed.timed.Tie as tie

@@ -1,4 +1,4 @@
-use Rattle.spec_runs.proofs.caption_rows.LineLaws.{caption-1, caption-2, caption-3, caption-4, caption-fits, caption-room}
+use Rattle.spec_rows.proofs.caption_rows.LineLaws.{caption-1, caption-2, caption-3, caption-4, caption-fits, caption-room}
 use borrow.Author.Needs.{needs}
 use Rattle.caption_rows.proofs.dialogue.caption.Statement.{statement}
 use Rattle.caption_rows.proofs.dialogue.caption.Tie as tie

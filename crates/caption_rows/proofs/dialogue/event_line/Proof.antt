@@ -1,4 +1,4 @@
-use Rattle.spec_runs.proofs.caption_rows.LineLaws.{word-1s, word-1c, word-2s, word-2c, word-3s, word-3c, word-4s, word-4c}
+use Rattle.spec_rows.proofs.caption_rows.LineLaws.{word-1s, word-1c, word-2s, word-2c, word-3s, word-3c, word-4s, word-4c}
 use borrow.Author.Needs.{needs}
 use Rattle.caption_rows.proofs.dialogue.event_line.Statement.{statement}
 use Rattle.caption_rows.proofs.dialogue.event_line.Tie as tie

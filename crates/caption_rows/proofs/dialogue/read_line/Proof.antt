@@ -1,4 +1,4 @@
-use Rattle.spec_runs.proofs.caption_rows.LineLaws.{section-s, section-c, events-s, events-c, other-s, other-c}
+use Rattle.spec_rows.proofs.caption_rows.LineLaws.{section-s, section-c, events-s, events-c, other-s, other-c}
 use borrow.Author.Needs.{needs}
 use Rattle.caption_rows.proofs.dialogue.read_line.Statement.{statement}
 use Rattle.caption_rows.proofs.dialogue.read_line.Tie as tie

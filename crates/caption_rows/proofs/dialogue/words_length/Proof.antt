@@ -1,4 +1,4 @@
-use Rattle.spec_runs.proofs.caption_rows.LineLaws.{words-end, words-start, words-field}
+use Rattle.spec_rows.proofs.caption_rows.LineLaws.{words-end, words-start, words-field}
 use borrow.Author.Needs.{needs}
 use Rattle.caption_rows.proofs.dialogue.words_length.Statement.{statement}
 use Rattle.caption_rows.proofs.dialogue.words_length.Tie as tie

@@ -1,4 +1,4 @@
-use Rattle.spec_runs.proofs.caption_rows.RowLaws.{counted-yes, counted-no}
+use Rattle.spec_rows.proofs.caption_rows.RowLaws.{counted-yes, counted-no}
 use borrow.Author.Needs.{needs}
 use Rattle.caption_rows.proofs.rows.counted.Statement.{statement}
 use Rattle.caption_rows.proofs.rows.counted.Tie as tie

@@ -1,4 +1,4 @@
-use Rattle.spec_runs.proofs.caption_rows.RowLaws.{some-place, some-rows, none-place, none-rows}
+use Rattle.spec_rows.proofs.caption_rows.RowLaws.{some-place, some-rows, none-place, none-rows}
 use borrow.Author.Needs.{needs}
 use Rattle.caption_rows.proofs.rows.row_at.Statement.{statement}
 use Rattle.caption_rows.proofs.rows.row_at.Tie as tie

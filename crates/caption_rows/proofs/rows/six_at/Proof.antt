@@ -1,5 +1,4 @@
-use native.Mathlib.Omega.{arith}
-use Rattle.spec_runs.proofs.caption_rows.RowLaws.{past-place, past-rows, short-place, short-rows, six-place, six-rows}
+use Rattle.spec_rows.proofs.caption_rows.RowLaws.{past-place, past-rows, short-place, short-rows, six-place, six-rows}
 use borrow.Author.Needs.{needs}
 use Rattle.caption_rows.proofs.rows.six_at.Statement.{statement}
 use Rattle.caption_rows.proofs.rows.six_at.Tie as tie

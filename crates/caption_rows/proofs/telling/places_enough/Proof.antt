@@ -1,4 +1,4 @@
-use Rattle.spec_runs.proofs.caption_rows.EnoughLaws.{places-sure, places-counted}
+use Rattle.spec_rows.proofs.caption_rows.EnoughLaws.{places-sure, places-counted}
 use borrow.Author.Needs.{needs}
 use Rattle.caption_rows.proofs.telling.places_enough.Statement.{statement}
 use Rattle.caption_rows.proofs.telling.places_enough.Tie as tie

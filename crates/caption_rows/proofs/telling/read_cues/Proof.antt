@@ -1,5 +1,5 @@
-use Rattle.spec_runs.proofs.caption_rows.ReadLaws.{read-refused, text-short, told-room}
-use Rattle.spec_runs.proofs.caption_rows.CallLaws.{call-few, call-told}
+use Rattle.spec_rows.proofs.caption_rows.ReadLaws.{read-refused, text-short, told-room}
+use Rattle.spec_rows.proofs.caption_rows.CallLaws.{call-few, call-told}
 use borrow.Author.Needs.{needs}
 use Rattle.caption_rows.proofs.telling.read_cues.Statement.{statement}
 use Rattle.caption_rows.proofs.telling.read_cues.Tie as tie

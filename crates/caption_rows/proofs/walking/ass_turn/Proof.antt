@@ -1,4 +1,4 @@
-use Rattle.spec_runs.proofs.caption_rows.TurnLaws.{fault-s, fault-c, read-s, read-c, ass-room}
+use Rattle.spec_rows.proofs.caption_rows.TurnLaws.{fault-s, fault-c, read-s, read-c, ass-room}
 use borrow.Author.Needs.{needs}
 use Rattle.caption_rows.proofs.walking.ass_turn.Statement.{statement}
 use Rattle.caption_rows.proofs.walking.ass_turn.Tie as tie

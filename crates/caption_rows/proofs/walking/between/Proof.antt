@@ -1,4 +1,4 @@
-use Rattle.spec_runs.proofs.caption_rows.WalkLaws.{between-found}
+use Rattle.spec_rows.proofs.caption_rows.WalkLaws.{between-found}
 use borrow.Author.Needs.{needs}
 use Rattle.caption_rows.proofs.walking.between.Statement.{statement}
 use Rattle.caption_rows.proofs.walking.between.Tie as tie

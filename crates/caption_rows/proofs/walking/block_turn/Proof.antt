@@ -1,4 +1,4 @@
-use Rattle.spec_runs.proofs.caption_rows.TurnLaws.{turn-fault, fault-from, fault-first, turn-blank, blank-from, blank-first, turn-long, turn-more, open-from, open-first}
+use Rattle.spec_rows.proofs.caption_rows.TurnLaws.{turn-fault, fault-from, fault-first, turn-blank, blank-from, blank-first, turn-long, turn-more, open-from, open-first}
 use borrow.Author.Needs.{needs}
 use Rattle.caption_rows.proofs.walking.block_turn.Statement.{statement}
 use Rattle.caption_rows.proofs.walking.block_turn.Tie as tie

@@ -1,4 +1,4 @@
-use Rattle.spec_runs.proofs.caption_rows.WalkLaws.{line-found}
+use Rattle.spec_rows.proofs.caption_rows.WalkLaws.{line-found}
 use borrow.Author.Needs.{needs}
 use Rattle.caption_rows.proofs.walking.line_at.Statement.{statement}
 use Rattle.caption_rows.proofs.walking.line_at.Tie as tie

@@ -1,4 +1,4 @@
-use Rattle.spec_runs.proofs.caption_rows.TurnLaws.{fault-19, fault-20, fault-none}
+use Rattle.spec_rows.proofs.caption_rows.TurnLaws.{fault-19, fault-20, fault-none}
 use borrow.Author.Needs.{needs}
 use Rattle.caption_rows.proofs.walking.line_fault.Statement.{statement}
 use Rattle.caption_rows.proofs.walking.line_fault.Tie as tie

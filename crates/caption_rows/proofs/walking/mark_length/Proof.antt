@@ -1,4 +1,4 @@
-use Rattle.spec_runs.proofs.caption_rows.TurnLaws.{mark-yes, mark-no}
+use Rattle.spec_rows.proofs.caption_rows.TurnLaws.{mark-yes, mark-no}
 use borrow.Author.Needs.{needs}
 use Rattle.caption_rows.proofs.walking.mark_length.Statement.{statement}
 use Rattle.caption_rows.proofs.walking.mark_length.Tie as tie

@@ -1,4 +1,4 @@
-use Rattle.spec_runs.proofs.caption_rows.WalkLaws.{mark-in, mark-small, kind-some, walk-0, walk-1, walk-2}
+use Rattle.spec_rows.proofs.caption_rows.WalkLaws.{mark-in, mark-small, kind-some, walk-0, walk-1, walk-2}
 use borrow.Author.Needs.{needs}
 use Rattle.caption_rows.proofs.walking.walk.Statement.{statement}
 use Rattle.caption_rows.proofs.walking.walk.Tie as tie

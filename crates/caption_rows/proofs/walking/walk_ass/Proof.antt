@@ -1,6 +1,6 @@
 use Prim.Native.Nat.{_-_}
 use lib.ListN.{length}
-use Rattle.spec_runs.proofs.caption_rows.WalkLaws.{AssAt, ass-start, ass-room-1, ass-room-2, ass-room-3, ass-same, ass-stop, ass-count, ass-at, ass-less, ass-again, ass-over}
+use Rattle.spec_rows.proofs.caption_rows.WalkLaws.{AssAt, ass-start, ass-room-1, ass-room-2, ass-room-3, ass-same, ass-stop, ass-count, ass-at, ass-less, ass-again, ass-over}
 use borrow.Author.Needs.{needs}
 use Rattle.caption_rows.proofs.walking.walk_ass.Statement.{statement}
 use Rattle.caption_rows.proofs.walking.walk_ass.Tie as tie

@@ -1,7 +1,7 @@
 use native.Mathlib.Omega.{arith}
 use Prim.Native.Nat.{_-_}
 use lib.ListN.{length}
-use Rattle.spec_runs.proofs.caption_rows.WalkLaws.{BlockAt, block-start, block-known, block-first, block-room-1, block-room-2, block-room-3, block-room-4, block-same, last-same, block-stop, block-count, block-at, block-less, block-again, last-first, last-from, last-stop, last-over}
+use Rattle.spec_rows.proofs.caption_rows.WalkLaws.{BlockAt, block-start, block-known, block-first, block-room-1, block-room-2, block-room-3, block-room-4, block-same, last-same, block-stop, block-count, block-at, block-less, block-again, last-first, last-from, last-stop, last-over}
 use borrow.Author.Needs.{needs}
 use Rattle.caption_rows.proofs.walking.walk_blocks.Statement.{statement}
 use Rattle.caption_rows.proofs.walking.walk_blocks.Tie as tie

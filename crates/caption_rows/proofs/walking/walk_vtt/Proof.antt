@@ -1,4 +1,4 @@
-use Rattle.spec_runs.proofs.caption_rows.WalkLaws.{vtt-none, vtt-fault, vtt-head, vtt-other, header-past, vtt-inside}
+use Rattle.spec_rows.proofs.caption_rows.WalkLaws.{vtt-none, vtt-fault, vtt-head, vtt-other, header-past, vtt-inside}
 use borrow.Author.Needs.{needs}
 use Rattle.caption_rows.proofs.walking.walk_vtt.Statement.{statement}
 use Rattle.caption_rows.proofs.walking.walk_vtt.Tie as tie

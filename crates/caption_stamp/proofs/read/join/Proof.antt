@@ -1,4 +1,4 @@
-use Rattle.spec_caption.proofs.caption_stamp.Reading.{value-le, no-fraction, time-joined}
+use Rattle.spec_time.proofs.caption_stamp.Reading.{value-le, no-fraction, time-joined}
 use borrow.Author.Needs.{needs}
 use Rattle.caption_stamp.proofs.read.join.Statement.{statement}
 use Rattle.caption_stamp.proofs.read.join.Tie as tie

@@ -1,4 +1,4 @@
-use Rattle.spec_caption.proofs.caption_stamp.Reading.{seen-comma, seen-point, seen-own}
+use Rattle.spec_time.proofs.caption_stamp.Reading.{seen-comma, seen-point, seen-own}
 use borrow.Author.Needs.{needs}
 use Rattle.caption_stamp.proofs.read.mark_in.Statement.{statement}
 use Rattle.caption_stamp.proofs.read.mark_in.Tie as tie

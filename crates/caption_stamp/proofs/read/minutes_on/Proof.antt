@@ -1,6 +1,6 @@
 use native.Mathlib.Omega.{arith}
 use Rattle.spec_base.specs.base.Limits.{mostMinutes, mostSeconds}
-use Rattle.spec_caption.proofs.caption_stamp.Reading.{wide-below, minutes-all}
+use Rattle.spec_time.proofs.caption_stamp.Reading.{wide-below, minutes-all}
 use borrow.Author.Needs.{needs}
 use Rattle.caption_stamp.proofs.read.minutes_on.Statement.{statement}
 use Rattle.caption_stamp.proofs.read.minutes_on.Tie as tie

@@ -1,6 +1,6 @@
 use native.Mathlib.Omega.{arith}
 use Rattle.spec_base.specs.base.Limits.{mostHours}
-use Rattle.spec_caption.proofs.caption_stamp.Reading.{from-below, vtt-hours, vtt-none}
+use Rattle.spec_time.proofs.caption_stamp.Reading.{from-below, vtt-hours, vtt-none}
 use borrow.Author.Needs.{needs}
 use Rattle.caption_stamp.proofs.read.read_vtt.Statement.{statement}
 use Rattle.caption_stamp.proofs.read.read_vtt.Tie as tie

@@ -1,7 +1,7 @@
 use Prim.Native.Nat.{_-_}
 use native.Mathlib.Omega.{arith}
 use Rattle.spec_base.specs.base.Limits.{mostHours, mostMinutes, mostSeconds}
-use Rattle.spec_caption.proofs.caption_stamp.Reading.{number-below, read-all}
+use Rattle.spec_time.proofs.caption_stamp.Reading.{number-below, read-all}
 use borrow.Author.Needs.{needs}
 use Rattle.caption_stamp.proofs.read.read_with.Statement.{statement}
 use Rattle.caption_stamp.proofs.read.read_with.Tie as tie

@@ -1,5 +1,5 @@
 use native.Mathlib.Omega.{arith}
-use Rattle.spec_caption.proofs.caption_stamp.Reading.{parts-small}
+use Rattle.spec_time.proofs.caption_stamp.Reading.{parts-small}
 use borrow.Author.Needs.{needs}
 use Rattle.caption_stamp.proofs.read.units_from.Statement.{statement}
 use Rattle.caption_stamp.proofs.read.units_from.Tie as tie

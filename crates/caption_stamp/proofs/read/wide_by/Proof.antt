@@ -1,5 +1,5 @@
 use Rattle.spec_base.proofs.base.Laws.{chain, calls}
-use Rattle.spec_caption.specs.caption_stamp.Read.{wideBy}
+use Rattle.spec_time.specs.caption_stamp.Read.{wideBy}
 use borrow.Author.Needs.{needs}
 use Rattle.caption_stamp.proofs.read.wide_by.Statement.{statement}
 use Rattle.caption_stamp.proofs.read.wide_by.Tie as tie

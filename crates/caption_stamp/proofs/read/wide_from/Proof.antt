@@ -1,5 +1,5 @@
 use Rattle.spec_base.proofs.base.Laws.{chain, calls}
-use Rattle.spec_caption.specs.caption_stamp.Read.{wideFrom}
+use Rattle.spec_time.specs.caption_stamp.Read.{wideFrom}
 use borrow.Author.Needs.{needs}
 use Rattle.caption_stamp.proofs.read.wide_from.Statement.{statement}
 use Rattle.caption_stamp.proofs.read.wide_from.Tie as tie

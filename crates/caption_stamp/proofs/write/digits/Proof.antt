@@ -1,8 +1,8 @@
 use native.Mathlib.Omega.{arith}
-use Prim.Native.Nat.{_+_, _-_, _≤_}
+use Prim.Native.Nat.{_+_, _≤_}
 use mathlib.Core.Path.{_≡_}
-use Rattle.spec_caption.specs.caption_stamp.Write.{width}
-use Rattle.spec_caption.proofs.caption_stamp.Pad.{width-small, width-big}
+use Rattle.spec_time.specs.caption_stamp.Write.{width}
+use Rattle.spec_time.proofs.caption_stamp.Pad.{width-small, width-big}
 use Rattle.caption_stamp.proofs.write.digits.Statement.{statement}
 use Rattle.caption_stamp.proofs.write.digits.Tie as tie
 use Rattle.caption_stamp.proofs.write.digits.Reads as reads

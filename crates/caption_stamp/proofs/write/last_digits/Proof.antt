@@ -1,4 +1,4 @@
-use Rattle.spec_caption.proofs.caption_stamp.Pad.{pad-unfit, pad-fit}
+use Rattle.spec_time.proofs.caption_stamp.Pad.{pad-unfit, pad-fit}
 use borrow.Author.Needs.{needs}
 use Rattle.caption_stamp.proofs.write.last_digits.Statement.{statement}
 use Rattle.caption_stamp.proofs.write.last_digits.Tie as tie

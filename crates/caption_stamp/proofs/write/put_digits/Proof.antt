@@ -1,11 +1,11 @@
-use Prim.Native.Nat.{_+_, _-_, _≤_}
+use Prim.Native.Nat.{_≤_}
 use mathlib.Core.Path.{_≡_, refl, sym, _∙_}
 use mathlib.Core.List.{_++_}
 use native.Mathlib.Omega.{arith}
 use lib.ListN.{length, drop, length-set}
 use Rattle.spec_base.specs.base.Put.{put}
-use Rattle.spec_caption.specs.caption_stamp.Write.{pad}
-use Rattle.spec_caption.proofs.caption_stamp.Pad.{pad-back, pad-none, pad-length}
+use Rattle.spec_time.specs.caption_stamp.Write.{pad}
+use Rattle.spec_time.proofs.caption_stamp.Pad.{pad-back, pad-none, pad-length}
 use Rattle.caption_stamp.proofs.write.put_digits.Statement.{statement}
 use Rattle.caption_stamp.proofs.write.put_digits.Tie as tie
 

@@ -4,7 +4,7 @@ use mathlib.Core.List.{[], _∷_}
 use native.Mathlib.Omega.{arith}
 use lib.ListN.{length, set, length-set}
 use borrow.Rule.Slice.PartMut.{same-len-mid}
-use Rattle.spec_caption.specs.caption_stamp.Write.{pad}
+use Rattle.spec_time.specs.caption_stamp.Write.{pad}
 use Rattle.spec_base.proofs.base.PartLaws.{rest-length}
 use Rattle.spec_base.proofs.base.PutLaws.{put-back, put-one}
 use borrow.Author.Needs.{needs}

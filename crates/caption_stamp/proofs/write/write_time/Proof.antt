@@ -1,4 +1,4 @@
-use Rattle.spec_caption.proofs.caption_stamp.Written.{write-none, write-limits, write-some}
+use Rattle.spec_time.proofs.caption_stamp.Written.{write-none, write-limits, write-some}
 use borrow.Author.Needs.{needs}
 use Rattle.caption_stamp.proofs.write.write_time.Statement.{statement}
 use Rattle.caption_stamp.proofs.write.write_time.Tie as tie

@@ -2,9 +2,9 @@ use Prim.Native.Nat.{_/_}
 use mathlib.Core.Path.{refl, sym, _∙_}
 use native.Mathlib.Omega.{arith}
 use native.Mathlib.Nat.{div-le-self}
-use Rattle.spec_caption.specs.caption_stamp.Write.{textWith}
-use Rattle.spec_caption.proofs.caption_stamp.Pad.{width-le}
-use Rattle.spec_caption.proofs.caption_stamp.Written.{text-length, text-put}
+use Rattle.spec_time.specs.caption_stamp.Write.{textWith}
+use Rattle.spec_time.proofs.caption_stamp.Pad.{width-le}
+use Rattle.spec_time.proofs.caption_stamp.Written.{text-length, text-put}
 use Rattle.spec_base.proofs.base.PutLaws.{placed-yes, placed-no, length-yes, length-no}
 use borrow.Author.Needs.{needs}
 use Rattle.caption_stamp.proofs.write.write_with.Statement.{statement}

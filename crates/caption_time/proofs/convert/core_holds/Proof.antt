@@ -1,5 +1,5 @@
 use Rattle.spec_base.proofs.base.Laws.{calls}
-use Rattle.spec_caption.specs.caption_time.Convert.{coreHolds}
+use Rattle.spec_time.specs.caption_time.Convert.{coreHolds}
 use borrow.Author.Needs.{needs}
 use Rattle.caption_time.proofs.convert.core_holds.Statement.{statement}
 use Rattle.caption_time.proofs.convert.core_holds.Tie as tie

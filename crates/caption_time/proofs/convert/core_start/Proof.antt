@@ -1,6 +1,6 @@
 use Rattle.spec_base.proofs.base.Laws.{calls}
-use Rattle.spec_caption.specs.caption_time.Convert.{startWithin}
-use Rattle.spec_caption.proofs.caption_time.Limits.{ticks-fit, core-start-yes}
+use Rattle.spec_time.specs.caption_time.Convert.{startWithin}
+use Rattle.spec_time.proofs.caption_time.Limits.{ticks-fit, core-start-yes}
 use borrow.Author.Needs.{needs}
 use Rattle.caption_time.proofs.convert.core_start.Statement.{statement}
 use Rattle.caption_time.proofs.convert.core_start.Tie as tie

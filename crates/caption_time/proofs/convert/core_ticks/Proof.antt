@@ -1,6 +1,6 @@
 use Rattle.spec_base.proofs.base.Laws.{calls}
-use Rattle.spec_caption.specs.caption_time.Convert.{ticksWithin}
-use Rattle.spec_caption.proofs.caption_time.Limits.{units-fit, core-ticks-yes}
+use Rattle.spec_time.specs.caption_time.Convert.{ticksWithin}
+use Rattle.spec_time.proofs.caption_time.Limits.{units-fit, core-ticks-yes}
 use borrow.Author.Needs.{needs}
 use Rattle.caption_time.proofs.convert.core_ticks.Statement.{statement}
 use Rattle.caption_time.proofs.convert.core_ticks.Tie as tie

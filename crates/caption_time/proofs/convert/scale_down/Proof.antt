@@ -1,6 +1,6 @@
 use Prim.Native.Nat.{_^_}
 use native.Mathlib.Omega.{arith}
-use Rattle.spec_caption.proofs.caption_time.Scale.{down-split, part-bound}
+use Rattle.spec_time.proofs.caption_time.Scale.{down-split, part-bound}
 use borrow.Author.Needs.{needs}
 use Rattle.caption_time.proofs.convert.scale_down.Statement.{statement}
 use Rattle.caption_time.proofs.convert.scale_down.Tie as tie

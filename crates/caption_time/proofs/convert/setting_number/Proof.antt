@@ -1,4 +1,4 @@
-use Rattle.spec_caption.proofs.caption_time.Limits.{setting-15, setting-16, setting-0}
+use Rattle.spec_time.proofs.caption_time.Limits.{setting-15, setting-16, setting-0}
 use borrow.Author.Needs.{needs}
 use Rattle.caption_time.proofs.convert.setting_number.Statement.{statement}
 use Rattle.caption_time.proofs.convert.setting_number.Tie as tie

@@ -1,5 +1,5 @@
 use Rattle.spec_base.proofs.base.Laws.{chain}
-use Rattle.spec_caption.specs.caption_time.Convert.{timescaleBad}
+use Rattle.spec_time.specs.caption_time.Convert.{timescaleBad}
 use Rattle.caption_time.proofs.convert.timescale_bad.Statement.{statement}
 use Rattle.caption_time.proofs.convert.timescale_bad.Tie as tie
 

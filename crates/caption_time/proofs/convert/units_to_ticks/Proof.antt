@@ -1,4 +1,4 @@
-use Rattle.spec_caption.proofs.caption_time.Limits.{number-refused, ticks-done}
+use Rattle.spec_time.proofs.caption_time.Limits.{number-refused, ticks-done}
 use borrow.Author.Needs.{needs}
 use Rattle.caption_time.proofs.convert.units_to_ticks.Statement.{statement}
 use Rattle.caption_time.proofs.convert.units_to_ticks.Tie as tie

@@ -1,5 +1,5 @@
 use Rattle.spec_base.proofs.base.Laws.{chain}
-use Rattle.spec_caption.specs.caption_time.Kind.{fractionDigits}
+use Rattle.spec_time.specs.caption_time.Kind.{fractionDigits}
 use Rattle.caption_time.proofs.kind.fraction_digits.Statement.{statement}
 use Rattle.caption_time.proofs.kind.fraction_digits.Tie as tie
 

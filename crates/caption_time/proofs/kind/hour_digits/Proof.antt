@@ -1,5 +1,5 @@
 use Rattle.spec_base.proofs.base.Laws.{chain}
-use Rattle.spec_caption.specs.caption_time.Kind.{hourDigits}
+use Rattle.spec_time.specs.caption_time.Kind.{hourDigits}
 use Rattle.caption_time.proofs.kind.hour_digits.Statement.{statement}
 use Rattle.caption_time.proofs.kind.hour_digits.Tie as tie
 

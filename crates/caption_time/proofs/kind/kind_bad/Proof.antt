@@ -1,5 +1,5 @@
 use Rattle.spec_base.proofs.base.Laws.{chain}
-use Rattle.spec_caption.specs.caption_time.Kind.{kindBad}
+use Rattle.spec_time.specs.caption_time.Kind.{kindBad}
 use Rattle.caption_time.proofs.kind.kind_bad.Statement.{statement}
 use Rattle.caption_time.proofs.kind.kind_bad.Tie as tie
 

@@ -1,5 +1,5 @@
 use Rattle.spec_base.proofs.base.Laws.{chain}
-use Rattle.spec_caption.specs.caption_time.Kind.{markOf}
+use Rattle.spec_time.specs.caption_time.Kind.{markOf}
 use Rattle.caption_time.proofs.kind.mark_of.Statement.{statement}
 use Rattle.caption_time.proofs.kind.mark_of.Tie as tie
 

@@ -1,6 +1,5 @@
 use mathlib.Core.Path.{_≡_, refl}
 use lib.ListN.{length}
-use native.Mathlib.Omega.{arith}
 use Rattle.files_retime.proofs.PassLaws.{Onward, piece-fits, onward-start, onward-end, onward-fault, onward-turn}
 use borrow.Author.Needs.{needs}
 use Rattle.files_retime.proofs.pass.pass.Statement.{statement}

@@ -1,7 +1,5 @@
 use borrow.Author.Needs.{needs}
-use Prim.Native.Nat.{_≤_, _-_, _+_}
-use mathlib.Core.Path.{_≡_, sym}
-use lib.ListN.{length, drop}
+use lib.ListN.{length}
 use Rattle.spec_base.proofs.base.Laws.{drop-less}
 use Rattle.spec_json.specs.json.Str.{charsBytes}
 use Rattle.spec_json.proofs.json.CharsLaws.{Into, into-start, into-again, into-stop, into-stop-2, into-end, into-end-2, into-length}

@@ -1,9 +1,9 @@
 use native.Mathlib.Omega.{arith}
 use borrow.Author.Needs.{needs}
-use Prim.Native.Nat.{_≤_, _-_, _+_}
+use Prim.Native.Nat.{_≤_, _+_}
 use mathlib.Core.Path.{_≡_, sym}
 use native.Mathlib.Nat.{zero-add}
-use lib.ListN.{length, drop}
+use lib.ListN.{length}
 use Rattle.spec_base.proofs.base.Laws.{drop-less}
 use Rattle.spec_json.specs.json.Str.{charsBytes}
 use Rattle.spec_json.proofs.json.CharsLaws.{size-stop, size-end, size-again, size-most, size-fits}

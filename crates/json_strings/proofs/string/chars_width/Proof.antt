@@ -1,6 +1,6 @@
 use Rattle.spec_json.proofs.json.CharsLaws.{joined-zero, at-closed, at-stop, at-again, at-in, at-fits, chars-end}
 use native.Mathlib.Omega.{arith}
-use Prim.Native.Nat.{_≤_, _-_, _+_}
+use Prim.Native.Nat.{_≤_, _-_}
 use mathlib.Core.Path.{_≡_, sym}
 use lib.ListN.{length, drop}
 use Rattle.spec_json.specs.json.Space.{joined}

@@ -1,6 +1,6 @@
 use borrow.Author.Needs.{needs}
-use mathlib.Core.Path.{_≡_, sym, refl}
-use lib.ListN.{length, drop}
+use mathlib.Core.Path.{_≡_, refl}
+use lib.ListN.{length}
 use Rattle.spec_base.proofs.base.Laws.{drop-less}
 use Rattle.spec_text.specs.pattern.Find.{equals}
 use Rattle.spec_json.specs.json.Str.{charsBytes}

@@ -1,5 +1,4 @@
 use Rattle.map_json_read.proofs.WalkLaws.{seen-hit, seen-miss}
-use borrow.Author.Needs.{needs}
 use Rattle.map_json_read.proofs.fields.seen_if.Statement.{statement}
 use Rattle.map_json_read.proofs.fields.seen_if.Tie as tie
 use Rattle.map_json_read.proofs.fields.seen_if.Reads as reads

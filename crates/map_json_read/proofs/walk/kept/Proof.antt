@@ -1,5 +1,4 @@
 use Rattle.map_json_read.proofs.WalkLaws.{kept-first, kept-second, kept-miss}
-use borrow.Author.Needs.{needs}
 use Rattle.map_json_read.proofs.walk.kept.Statement.{statement}
 use Rattle.map_json_read.proofs.walk.kept.Tie as tie
 use Rattle.map_json_read.proofs.walk.kept.Reads as reads

@@ -1,5 +1,4 @@
 use native.Mathlib.Omega.{arith}
-use Rattle.map_json_write.proofs.LayoutLaws.{led-written}
 use borrow.Author.Needs.{needs}
 use Rattle.map_json_write.proofs.layout.led_at.Statement.{statement}
 use Rattle.map_json_write.proofs.layout.led_at.Tie as tie
@@ -7,6 +6,7 @@ use Rattle.map_json_write.proofs.layout.led_at.Reads as reads
 use Rattle.map_json_write.proofs.layout.led_at.Lts as lts
 use Rattle.map_json_write.proofs.layout.segment_at.Reads as segment-at-reads
 use Rattle.map_json_write.proofs.pieces.bytes_at.Reads as bytes-at-reads
+use Rattle.map_json_write.proofs.WrittenLaws.{written-then}
 
 bytes-at-requires : tie.Need-bytes-at-requires
 bytes-at-requires c κs = search needs
@@ -18,7 +18,7 @@ same-length : tie.Need-same-length
 same-length c = search needs
 
 returns : tie.Need-returns
-returns c = (search led-written, omega arith)
+returns c = (search written-then, omega arith)
 
 pub led-at-spec : {M : Type 1} → statement M
 led-at-spec = tie.close (tie.spec bytes-at-requires segment-at-requires same-length returns)

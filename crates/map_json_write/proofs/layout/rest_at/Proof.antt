@@ -1,9 +1,9 @@
 use native.Mathlib.Omega.{arith}
 use borrow.Author.Needs.{needs}
-use Prim.Native.Nat.{_≤_, _-_, _+_, _*_}
+use Prim.Native.Nat.{_≤_, _+_, _*_}
 use mathlib.Core.Path.{_≡_, refl}
 use lib.ListN.{length}
-use Rattle.map_json_write.proofs.LayoutLaws.{ListBegun, list-start, list-again, list-end, six-left, six-less, close-most}
+use Rattle.map_json_write.proofs.LayoutLaws.{ListBegun, list-start, list-again, list-end, six-left, close-most}
 use Rattle.map_json_write.proofs.layout.rest_at.Statement.{statement}
 use Rattle.map_json_write.proofs.layout.rest_at.Tie as tie
 use Rattle.map_json_write.proofs.layout.rest_at.Reads as reads
@@ -11,6 +11,7 @@ use Rattle.map_json_write.proofs.layout.rest_at.Lts as lts
 use Rattle.base.proofs.words_rest.Reads as words-rest-reads
 use Rattle.map_json_write.proofs.layout.close_at.Reads as close-at-reads
 use Rattle.map_json_write.proofs.layout.more_at.Reads as more-at-reads
+use Rattle.spec_map.proofs.segment.SegmentLaws.{six-less}
 
 abbrev Inv-loop : tie.InvT-loop
 Inv-loop out₀ at map p₀ t₀ out p t = (6 * p + 540 * length t ≤ 6 * at + 540 * length map) × ListBegun map t at out₀ out p × (length out ≡ length out₀)

@@ -1,8 +1,8 @@
-use Rattle.spec_parking.proofs.parked_blocks.ReadLaws.{hold-start, hold-step, hold-no, hold-all}
+use Rattle.spec_parked_blocks.proofs.parked_blocks.ReadLaws.{hold-start, hold-step, hold-no, hold-all}
 use native.Mathlib.Omega.{arith}
-use mathlib.Core.Path.{_≡_, refl}
+use mathlib.Core.Path.{_≡_}
 use Prim.Native.Nat.{_≤_, _-_}
-use Rattle.spec_parking.specs.parked_blocks.Sealed.{allHold}
+use Rattle.spec_parked_blocks.specs.parked_blocks.Sealed.{allHold}
 use borrow.Author.Needs.{needs}
 use Rattle.parked_blocks.proofs.reading.all_hold.Statement.{statement}
 use Rattle.parked_blocks.proofs.reading.all_hold.Tie as tie

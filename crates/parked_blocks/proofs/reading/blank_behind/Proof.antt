@@ -1,8 +1,8 @@
-use Rattle.spec_parking.proofs.parked_blocks.FirstLaws.{blank-start, blank-step, blank-no, blank-all}
+use Rattle.spec_parked_blocks.proofs.parked_blocks.FirstLaws.{blank-start, blank-step, blank-no, blank-all}
 use native.Mathlib.Omega.{arith}
 use mathlib.Core.Path.{_≡_}
 use Prim.Native.Nat.{_≤_, _+_, _-_}
-use Rattle.spec_parking.specs.parked_blocks.First.{blankAll}
+use Rattle.spec_parked_blocks.specs.parked_blocks.First.{blankAll}
 use borrow.Author.Needs.{needs}
 use Rattle.parked_blocks.proofs.reading.blank_behind.Statement.{statement}
 use Rattle.parked_blocks.proofs.reading.blank_behind.Tie as tie

@@ -1,4 +1,4 @@
-use Rattle.spec_parking.proofs.parked_blocks.FirstLaws.{number-wrong, check-wrong, zeros-tell}
+use Rattle.spec_parked_blocks.proofs.parked_blocks.FirstLaws.{number-wrong, check-wrong, zeros-tell}
 use borrow.Author.Needs.{needs}
 use Rattle.parked_blocks.proofs.reading.blank_block.Statement.{statement}
 use Rattle.parked_blocks.proofs.reading.blank_block.Tie as tie

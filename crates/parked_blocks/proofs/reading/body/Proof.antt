@@ -1,4 +1,4 @@
-use Rattle.spec_parking.proofs.parked_blocks.ReadLaws.{body-is}
+use Rattle.spec_parked_blocks.proofs.parked_blocks.ReadLaws.{body-is}
 use borrow.Author.Needs.{needs}
 use Rattle.parked_blocks.proofs.reading.body.Statement.{statement}
 use Rattle.parked_blocks.proofs.reading.body.Tie as tie

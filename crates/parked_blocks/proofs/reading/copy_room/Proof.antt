@@ -1,10 +1,10 @@
-use Rattle.spec_parking.proofs.parked_blocks.ReadLaws.{room-none, room-more, room-next, room-all}
+use Rattle.spec_parked_blocks.proofs.parked_blocks.ReadLaws.{room-none, room-more, room-next, room-all}
 use native.Mathlib.Omega.{arith}
 use mathlib.Core.Path.{_≡_, refl}
 use Prim.Native.Nat.{_≤_, _-_, _*_}
 use lib.ListN.{length}
 use Rattle.spec_base.specs.base.Put.{put}
-use Rattle.spec_parking.specs.parked_blocks.Sealed.{bodies}
+use Rattle.spec_parked_blocks.specs.parked_blocks.Sealed.{bodies}
 use borrow.Author.Needs.{needs}
 use Rattle.parked_blocks.proofs.reading.copy_room.Statement.{statement}
 use Rattle.parked_blocks.proofs.reading.copy_room.Tie as tie

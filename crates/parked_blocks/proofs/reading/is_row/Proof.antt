@@ -1,4 +1,4 @@
-use Rattle.spec_parking.proofs.parked_blocks.ReadLaws.{row-short, row-holds}
+use Rattle.spec_parked_blocks.proofs.parked_blocks.ReadLaws.{row-short, row-holds}
 use borrow.Author.Needs.{needs}
 use Rattle.parked_blocks.proofs.reading.is_row.Statement.{statement}
 use Rattle.parked_blocks.proofs.reading.is_row.Tie as tie

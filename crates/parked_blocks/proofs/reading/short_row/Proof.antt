@@ -1,4 +1,4 @@
-use Rattle.spec_parking.proofs.parked_blocks.FirstLaws.{short-length, short-first, short-rest}
+use Rattle.spec_parked_blocks.proofs.parked_blocks.FirstLaws.{short-length, short-first, short-rest}
 use borrow.Author.Needs.{needs}
 use Rattle.parked_blocks.proofs.reading.short_row.Statement.{statement}
 use Rattle.parked_blocks.proofs.reading.short_row.Tie as tie

@@ -1,4 +1,4 @@
-use Rattle.spec_parking.proofs.parked_blocks.ReadLaws.{row-length, unseal-short, unseal-no, unseal-yes, none-copied}
+use Rattle.spec_parked_blocks.proofs.parked_blocks.ReadLaws.{row-length, unseal-short, unseal-no, unseal-yes, none-copied}
 use borrow.Author.Needs.{needs}
 use Rattle.parked_blocks.proofs.reading.unseal.Statement.{statement}
 use Rattle.parked_blocks.proofs.reading.unseal.Tie as tie

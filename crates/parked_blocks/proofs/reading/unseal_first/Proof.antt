@@ -1,5 +1,5 @@
-use Rattle.spec_parking.proofs.parked_blocks.WriteLaws.{blocks-few}
-use Rattle.spec_parking.proofs.parked_blocks.FirstLaws.{short-long, first-short, first-no, first-yes, first-copied, first-none}
+use Rattle.spec_parked_blocks.proofs.parked_blocks.WriteLaws.{blocks-few}
+use Rattle.spec_parked_blocks.proofs.parked_blocks.FirstLaws.{short-long, first-short, first-no, first-yes, first-copied, first-none}
 use borrow.Author.Needs.{needs}
 use Rattle.parked_blocks.proofs.reading.unseal_first.Statement.{statement}
 use Rattle.parked_blocks.proofs.reading.unseal_first.Tie as tie

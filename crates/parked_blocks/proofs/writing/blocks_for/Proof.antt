@@ -1,4 +1,4 @@
-use Rattle.spec_parking.proofs.parked_blocks.WriteLaws.{blocks-all, blocks-some}
+use Rattle.spec_parked_blocks.proofs.parked_blocks.WriteLaws.{blocks-all, blocks-some}
 use borrow.Author.Needs.{needs}
 use Rattle.parked_blocks.proofs.writing.blocks_for.Statement.{statement}
 use Rattle.parked_blocks.proofs.writing.blocks_for.Tie as tie

@@ -1,4 +1,4 @@
-use Rattle.spec_parking.proofs.parked_blocks.WriteLaws.{part-is}
+use Rattle.spec_parked_blocks.proofs.parked_blocks.WriteLaws.{part-is}
 use borrow.Author.Needs.{needs}
 use Rattle.parked_blocks.proofs.writing.part.Statement.{statement}
 use Rattle.parked_blocks.proofs.writing.part.Tie as tie

@@ -1,5 +1,5 @@
 use native.Mathlib.Omega.{arith}
-use Rattle.spec_parking.proofs.parked_blocks.WriteLaws.{end-small, end-lies, block-made}
+use Rattle.spec_parked_blocks.proofs.parked_blocks.WriteLaws.{end-small, end-lies, block-made}
 use borrow.Author.Needs.{needs}
 use Rattle.parked_blocks.proofs.writing.put_block.Statement.{statement}
 use Rattle.parked_blocks.proofs.writing.put_block.Tie as tie

@@ -1,4 +1,4 @@
-use Rattle.spec_parking.proofs.parked_blocks.WriteLaws.{first-made}
+use Rattle.spec_parked_blocks.proofs.parked_blocks.WriteLaws.{first-made}
 use borrow.Author.Needs.{needs}
 use Rattle.parked_blocks.proofs.writing.put_first.Statement.{statement}
 use Rattle.parked_blocks.proofs.writing.put_first.Tie as tie

@@ -1,10 +1,10 @@
-use Rattle.spec_parking.proofs.parked_blocks.WriteLaws.{part-small, held-none, held-more, held-all}
+use Rattle.spec_parked_blocks.proofs.parked_blocks.WriteLaws.{part-small, held-none, held-more, held-all}
 use lib.ListN.{length}
 use mathlib.Core.Path.{_≡_, refl}
 use Prim.Native.Nat.{_≤_, _-_}
 use native.Mathlib.Omega.{arith}
 use Rattle.spec_base.specs.base.Put.{put}
-use Rattle.spec_parking.specs.parked_blocks.Sealed.{roomLength, sealedAll, filled}
+use Rattle.spec_parked_blocks.specs.parked_blocks.Sealed.{roomLength, sealedAll, filled}
 use borrow.Author.Needs.{needs}
 use Rattle.parked_blocks.proofs.writing.put_held.Statement.{statement}
 use Rattle.parked_blocks.proofs.writing.put_held.Tie as tie

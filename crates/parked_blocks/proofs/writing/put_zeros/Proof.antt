@@ -1,4 +1,4 @@
-use Rattle.spec_parking.proofs.parked_blocks.WriteLaws.{zeros-none, zeros-more, zeros-all}
+use Rattle.spec_parked_blocks.proofs.parked_blocks.WriteLaws.{zeros-none, zeros-more, zeros-all}
 use lib.ListN.{length, replicate, length-set}
 use mathlib.Core.Path.{_≡_, refl}
 use Prim.Native.Nat.{_≤_, _-_}

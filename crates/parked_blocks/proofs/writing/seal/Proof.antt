@@ -1,4 +1,4 @@
-use Rattle.spec_parking.proofs.parked_blocks.WriteLaws.{seal-row}
+use Rattle.spec_parked_blocks.proofs.parked_blocks.WriteLaws.{seal-row}
 use borrow.Author.Needs.{needs}
 use Rattle.parked_blocks.proofs.writing.seal.Statement.{statement}
 use Rattle.parked_blocks.proofs.writing.seal.Tie as tie

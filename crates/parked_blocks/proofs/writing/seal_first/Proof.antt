@@ -1,4 +1,4 @@
-use Rattle.spec_parking.proofs.parked_blocks.WriteLaws.{seal-short, seal-head, seal-held, seal-all, blocks-few}
+use Rattle.spec_parked_blocks.proofs.parked_blocks.WriteLaws.{seal-short, seal-head, seal-held, seal-all, blocks-few}
 use borrow.Author.Needs.{needs}
 use Rattle.parked_blocks.proofs.writing.seal_first.Statement.{statement}
 use Rattle.parked_blocks.proofs.writing.seal_first.Tie as tie

@@ -1,4 +1,4 @@
-use Rattle.spec_parking.proofs.parked_blocks.WriteLaws.{sum-none, sum-more, sum-all}
+use Rattle.spec_parked_blocks.proofs.parked_blocks.WriteLaws.{sum-none, sum-more, sum-all}
 use mathlib.Core.Path.{_≡_}
 use Prim.Native.Nat.{_≤_, _-_, _%_, _^_}
 use native.Mathlib.Omega.{arith}

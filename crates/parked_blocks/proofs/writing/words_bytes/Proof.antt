@@ -1,4 +1,4 @@
-use Rattle.spec_parking.proofs.parked_blocks.WriteLaws.{sixteen}
+use Rattle.spec_parked_blocks.proofs.parked_blocks.WriteLaws.{sixteen}
 use borrow.Author.Needs.{needs}
 use Rattle.parked_blocks.proofs.writing.words_bytes.Statement.{statement}
 use Rattle.parked_blocks.proofs.writing.words_bytes.Tie as tie

@@ -1,11 +1,11 @@
-use Rattle.spec_parking.proofs.parked_blocks.ReadLaws.{zero-more, zero-all}
+use Rattle.spec_parked_blocks.proofs.parked_blocks.ReadLaws.{zero-more, zero-all}
 use native.Mathlib.Omega.{arith}
 use mathlib.Core.Path.{_≡_, refl}
 use Prim.Native.Nat.{_≤_, _-_}
 use lib.ListN.{length, drop}
 use lib.Dec.{eqb}
 use mathlib.Core.Bool.{_&&_}
-use Rattle.spec_parking.specs.parked_blocks.Sealed.{allZero}
+use Rattle.spec_parked_blocks.specs.parked_blocks.Sealed.{allZero}
 use borrow.Author.Needs.{needs}
 use Rattle.parked_blocks.proofs.zeros.all_zero.Statement.{statement}
 use Rattle.parked_blocks.proofs.zeros.all_zero.Tie as tie

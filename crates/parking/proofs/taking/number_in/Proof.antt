@@ -1,6 +1,6 @@
 use Prim.Native.Nat.{_≤_}
 use native.Mathlib.Omega.{arith}
-use Rattle.spec_parking.proofs.parked_blocks.WriteLaws.{blocks-few}
+use Rattle.spec_parked_blocks.proofs.parked_blocks.WriteLaws.{blocks-few}
 use Rattle.spec_parking.proofs.parking.HeadLaws.{in-16, copied-16, in-27, copied-is, in-row, in-shows, in-rest, in-0, in-unsound}
 use borrow.Author.Needs.{needs}
 use Rattle.parking.proofs.taking.number_in.Statement.{statement}

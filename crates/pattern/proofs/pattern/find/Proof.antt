@@ -1,7 +1,7 @@
 use native.Mathlib.Omega.{arith}
 use borrow.Author.Needs.{needs}
 use Prim.Native.Nat.{_≤_, _-_, _+_}
-use mathlib.Core.Path.{_≡_, refl, sym}
+use mathlib.Core.Path.{_≡_, sym}
 use native.Mathlib.Nat.{zero-add}
 use lib.ListN.{length, drop}
 use Rattle.spec_text.proofs.pattern.Laws.{first-found, first-again, first-none}

@@ -1,11 +1,11 @@
-use Rattle.spec_map.proofs.plan.SnapLaws.{crossing-start}
+use Rattle.spec_trim.proofs.plan.SnapLaws.{crossing-start}
 use native.Mathlib.Omega.{arith}
 use Prim.Native.Nat.{_-_, _*_, _≤_}
 use mathlib.Core.Path.{_≡_}
 use lib.ListN.{length, take}
-use Rattle.spec_map.specs.plan.Snap.{overlapsFault}
-use Rattle.spec_map.proofs.plan.PairLaws.{leftOf}
-use Rattle.spec_map.proofs.plan.SnapLaws.{crossing-short, crossing-done, crossing-here, crossing-next}
+use Rattle.spec_trim.specs.plan.Snap.{overlapsFault}
+use Rattle.spec_trim.proofs.plan.PairLaws.{leftOf}
+use Rattle.spec_trim.proofs.plan.SnapLaws.{crossing-short, crossing-done, crossing-here, crossing-next}
 use borrow.Author.Needs.{needs}
 use Rattle.plan.proofs.crossing.overlap.Statement.{statement}
 use Rattle.plan.proofs.crossing.overlap.Tie as tie

@@ -2,9 +2,9 @@ use native.Mathlib.Omega.{arith}
 use Prim.Native.Nat.{_-_, _*_, _≤_}
 use mathlib.Core.Path.{_≡_, refl}
 use lib.ListN.{length}
-use Rattle.spec_map.proofs.plan.SnapLaws.{Snapping, snapping-start, snapping-short, snapping-done, snapping-next}
-use Rattle.spec_map.specs.plan.Snap.{floorSync, ceilSync}
-use Rattle.spec_map.proofs.plan.KnownLaws.{floor-of-first, ceil-of-end}
+use Rattle.spec_trim.proofs.plan.SnapLaws.{Snapping, snapping-start, snapping-short, snapping-done, snapping-next}
+use Rattle.spec_trim.specs.plan.Snap.{floorSync, ceilSync}
+use Rattle.spec_trim.proofs.plan.KnownLaws.{floor-of-first, ceil-of-end}
 use borrow.Author.Needs.{needs}
 use Rattle.plan.proofs.moves.snap.Statement.{statement}
 use Rattle.plan.proofs.moves.snap.Tie as tie

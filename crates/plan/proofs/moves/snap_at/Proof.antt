@@ -1,7 +1,7 @@
 use native.Mathlib.Omega.{arith}
 use lib.ListN.{length-set}
-use Rattle.spec_map.proofs.plan.SnapLaws.{stored-out, stored-in}
-use Rattle.spec_map.proofs.plan.KnownLaws.{floor-told, ceil-told}
+use Rattle.spec_trim.proofs.plan.SnapLaws.{stored-out, stored-in}
+use Rattle.spec_trim.proofs.plan.KnownLaws.{floor-told, ceil-told}
 use borrow.Author.Needs.{needs}
 use Rattle.plan.proofs.moves.snap_at.Statement.{statement}
 use Rattle.plan.proofs.moves.snap_at.Tie as tie

@@ -1,8 +1,8 @@
 use borrow.Author.Needs.{needs}
 use Prim.Native.Nat.{_-_}
 use mathlib.Core.Path.{_≡_, refl}
-use Rattle.spec_map.specs.plan.Snap.{ceilSync}
-use Rattle.spec_map.proofs.plan.SyncLaws.{ceil-found, ceil-again, ceil-last}
+use Rattle.spec_trim.specs.plan.Snap.{ceilSync}
+use Rattle.spec_trim.proofs.plan.SyncLaws.{ceil-found, ceil-again, ceil-last}
 use Rattle.plan.proofs.scan.ceil_from.Statement.{statement}
 use Rattle.plan.proofs.scan.ceil_from.Tie as tie
 

@@ -1,4 +1,4 @@
-use Rattle.spec_map.proofs.plan.KnownLaws.{ceil-kept}
+use Rattle.spec_trim.proofs.plan.KnownLaws.{ceil-kept}
 use borrow.Author.Needs.{needs}
 use Rattle.plan.proofs.scan.ceil_sync.Statement.{statement}
 use Rattle.plan.proofs.scan.ceil_sync.Tie as tie

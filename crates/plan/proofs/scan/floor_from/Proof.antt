@@ -1,8 +1,8 @@
 use mathlib.Core.Path.{_≡_, refl}
 use native.Mathlib.Omega.{arith}
 use Prim.Native.Nat.{_≤_}
-use Rattle.spec_map.specs.plan.Snap.{lastBelow}
-use Rattle.spec_map.proofs.plan.KnownLaws.{floor-found, floor-again, floor-kept}
+use Rattle.spec_trim.specs.plan.Snap.{lastBelow}
+use Rattle.spec_trim.proofs.plan.KnownLaws.{floor-found, floor-again, floor-kept}
 use borrow.Author.Needs.{needs}
 use Rattle.plan.proofs.scan.floor_from.Statement.{statement}
 use Rattle.plan.proofs.scan.floor_from.Tie as tie

@@ -1,5 +1,5 @@
 use native.Mathlib.Omega.{arith}
-use Rattle.spec_map.proofs.plan.KnownLaws.{floor-of-first}
+use Rattle.spec_trim.proofs.plan.KnownLaws.{floor-of-first}
 use borrow.Author.Needs.{needs}
 use Rattle.plan.proofs.scan.floor_sync.Statement.{statement}
 use Rattle.plan.proofs.scan.floor_sync.Tie as tie

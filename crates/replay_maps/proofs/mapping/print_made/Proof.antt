@@ -1,3 +1,4 @@
+use Rattle.replay_maps.proofs.MadeLaws.{number-printed}
 use mathlib.Core.Path.{sym}
 use lib.Seq.{length-take-le}
 use native.Mathlib.Omega.{arith}
@@ -22,7 +23,7 @@ print-map-of-requires : tie.Need-print-map-of-requires
 print-map-of-requires c κs = search needs
 
 returns : tie.Need-returns
-returns c = search needs
+returns c = search number-printed
 
 pub print-made-spec : {M : Type 1} → statement M
 print-made-spec =

@@ -1,6 +1,3 @@
-use mathlib.Core.Path.{sym}
-use lib.Seq.{length-take-le}
-use native.Mathlib.Omega.{arith}
 use borrow.Author.Needs.{needs}
 use Rattle.replay_maps.proofs.mapping.through_made.Statement.{statement}
 use Rattle.replay_maps.proofs.mapping.through_made.Tie as tie
@@ -8,20 +5,11 @@ use Rattle.replay_maps.proofs.mapping.through_made.Reads as reads
 use Rattle.replay_maps.proofs.mapping.through_made.Lts as lts
 use Rattle.files_map.proofs.print_number.Reads as print-number-reads
 use Rattle.files_map.proofs.first_segments.Reads as first-segments-reads
-use Rattle.replay_maps.proofs.mapping.work_lent.Reads as work-lent-reads
-use Rattle.segmap.proofs.make.Reads as make-reads
-
-work-lent-requires : tie.Need-work-lent-requires
-work-lent-requires c κs = search needs
-
-array-borrow-prefix-work : tie.Need-array-borrow-prefix-work
-array-borrow-prefix-work c = search needs
+use Rattle.replay_maps.proofs.mapping.make.Reads as make-reads
+use Rattle.replay_sessions.proofs.answer.Reads as answer-reads
 
 slice-aggregate-make : tie.Need-slice-aggregate-make
-slice-aggregate-make c = sym (length-take-le _ _ (omega arith))
-
-slice-aggregate-make-2 : tie.Need-slice-aggregate-make-2
-slice-aggregate-make-2 c = search needs
+slice-aggregate-make c = search needs
 
 make-requires : tie.Need-make-requires
 make-requires c κs = search needs
@@ -57,10 +45,7 @@ pub through-made-spec : {M : Type 1} → statement M
 through-made-spec =
     tie.close
     (tie.spec
-    work-lent-requires
-    array-borrow-prefix-work
     slice-aggregate-make
-    slice-aggregate-make-2
     make-requires
     slice-aggregate-print-number
     print-number-requires

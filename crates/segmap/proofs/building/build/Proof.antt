@@ -3,7 +3,7 @@ use mathlib.Core.Path.{_≡_, refl}
 use Prim.Native.Nat.{_-_, _*_, _≤_}
 use lib.ListN.{length}
 use Rattle.spec_base.specs.base.Limits.{mostTicks, mostSegments}
-use Rattle.spec_map.proofs.plan.PairLaws.{leftOf}
+use Rattle.spec_trim.proofs.plan.PairLaws.{leftOf}
 use Rattle.spec_map.specs.segmap.Build.{rangesFault}
 use Rattle.segmap.specs.Milestones.{Carried}
 use Rattle.spec_map.proofs.segmap.BuildLaws.{testing-zero, Building, building-start, building-next, building-done, Adding, adding-start, adding-next, adding-done, free-next, free-ordered, free-within, free-summed}

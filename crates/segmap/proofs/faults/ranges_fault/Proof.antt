@@ -2,7 +2,7 @@ use native.Mathlib.Omega.{arith}
 use mathlib.Core.Path.{_≡_}
 use Prim.Native.Nat.{_-_, _*_, _≤_}
 use lib.ListN.{length, take}
-use Rattle.spec_map.proofs.plan.PairLaws.{leftOf}
+use Rattle.spec_trim.proofs.plan.PairLaws.{leftOf}
 use Rattle.spec_map.specs.segmap.Build.{rangesFault}
 use Rattle.spec_map.proofs.segmap.BuildLaws.{testing-start, testing-short, testing-done, testing-here, testing-next}
 use borrow.Author.Needs.{needs}

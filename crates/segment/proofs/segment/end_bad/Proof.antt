@@ -1,5 +1,4 @@
 use Rattle.spec_map.proofs.segment.SegmentLaws.{end-past, end-tested}
-use borrow.Author.Needs.{needs}
 use Rattle.segment.proofs.segment.end_bad.Statement.{statement}
 use Rattle.segment.proofs.segment.end_bad.Tie as tie
 

@@ -9,7 +9,7 @@ use Rattle.session.proofs.calling.feed.Tie as tie
 use Rattle.session.proofs.calling.feed.Reads as reads
 use Rattle.session.proofs.calling.feed.Lts as lts
 use Rattle.session.proofs.calling.begin.Reads as begin-reads
-use Rattle.session.proofs.calling.clear.Reads as clear-reads
+use Rattle.base.proofs.clear.Reads as clear-reads
 use Rattle.session.proofs.calling.going_on.Reads as going-on-reads
 use Rattle.session.proofs.calling.over.Reads as over-reads
 use Rattle.session.proofs.calling.refusal.Reads as refusal-reads

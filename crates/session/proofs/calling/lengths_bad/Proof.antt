@@ -1,6 +1,5 @@
 use Rattle.spec_base.specs.base.Limits.{mostPiece, leastOutput, leastPlaces}
 use borrow.Author.Tests.{lt-ltb, le-ltb}
-use native.Mathlib.Omega.{arith}
 use borrow.Author.Needs.{needs}
 use Rattle.session.proofs.calling.lengths_bad.Statement.{statement}
 use Rattle.session.proofs.calling.lengths_bad.Tie as tie

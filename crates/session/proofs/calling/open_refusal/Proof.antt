@@ -1,7 +1,7 @@
 use Rattle.spec_session.specs.session.SessionCalls.{openOf}
 use Rattle.spec_map.specs.segment.Segment.{mapBad}
-use Rattle.spec_caption.specs.caption_time.Convert.{timescaleBad}
-use Rattle.spec_caption.specs.caption_time.Kind.{kindBad}
+use Rattle.spec_time.specs.caption_time.Convert.{timescaleBad}
+use Rattle.spec_time.specs.caption_time.Kind.{kindBad}
 use mathlib.Core.Bool.{true, false}
 use mathlib.Core.Path.{_≡_, sym, _∙_}
 use borrow.Author.Needs.{needs}

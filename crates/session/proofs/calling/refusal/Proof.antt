@@ -1,7 +1,6 @@
 use Rattle.spec_session.specs.session.SessionCalls.{refusalOf, lengthsBad}
 use Rattle.spec_session.specs.session_state.View.{foreignOf}
 use Rattle.spec_map.specs.segment.Segment.{mapBad}
-use lib.ListN.{length}
 use mathlib.Core.Bool.{true, false}
 use mathlib.Core.Path.{_≡_, sym, _∙_}
 use borrow.Author.Needs.{needs}

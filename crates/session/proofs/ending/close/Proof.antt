@@ -1,7 +1,7 @@
 use mathlib.Core.Path.{sym}
 use native.Mathlib.Omega.{arith}
 use lib.Seq.{length-take-le}
-use Rattle.spec_session.specs.kinds.Takes.{machineOf, ends}
+use Rattle.spec_machine.specs.kinds.Takes.{machineOf, ends}
 use Rattle.spec_session.proofs.session.EndLaws.{finish-ass, block-done, block-sums, close-none, close-block}
 use borrow.Author.Needs.{needs}
 use Rattle.session.proofs.ending.close.Statement.{statement}

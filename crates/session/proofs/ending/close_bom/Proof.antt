@@ -2,7 +2,7 @@ use mathlib.Core.Path.{sym, ap}
 use native.Mathlib.Omega.{arith}
 use lib.ListN.{length}
 use lib.Seq.{length-take-le}
-use Rattle.spec_session.specs.kinds.Takes.{machineOf, ends}
+use Rattle.spec_machine.specs.kinds.Takes.{machineOf, ends}
 use Rattle.spec_session.specs.declared.session.Going.{Going}
 use Rattle.spec_session.proofs.session.RunLaws.{begin-sizes}
 use Rattle.spec_session.proofs.session.EndLaws.{finish-ass, bom-only, bom-ends, bom-sums, bom-stops, bom-closes}

@@ -3,7 +3,7 @@ use Prim.Native.Nat.{_≤_, _<_, _+_, _-_, _^_}
 use native.Mathlib.Omega.{arith}
 use lib.Seq.{length-take-le}
 use borrow.Author.Tests.{not-true, not-false}
-use Rattle.spec_session.specs.kinds.Takes.{machineOf}
+use Rattle.spec_machine.specs.kinds.Takes.{machineOf}
 use Rattle.spec_session.proofs.session.StandLaws.{held-block, line-done, line-skip, skip-held, line-sums, end-stop, end-empty, end-added}
 use borrow.Author.Needs.{needs}
 use Rattle.session.proofs.running.end_line.Statement.{statement}

@@ -1,10 +1,9 @@
-use mathlib.Core.Path.{_≡_, refl, sym, subst, _∙_}
+use mathlib.Core.Path.{_≡_, refl, _∙_}
 use Prim.Native.Nat.{_-_, _<_}
 use native.Mathlib.Omega.{arith}
 use lib.ListN.{length, take}
 use lib.Seq.{take-length}
-use Rattle.spec_session.specs.kinds.Takes.{machineOf}
-use Rattle.spec_session.specs.declared.session.Going.{Going}
+use Rattle.spec_machine.specs.kinds.Takes.{machineOf}
 use Rattle.spec_session.specs.session.Stand.{resumeAt, holdingTo}
 use Rattle.spec_session.proofs.session.RunLaws.{Turn, begin-shows, turn-byte, turn-held, turn-place, turn-join, run-parsed, run-more}
 use borrow.Author.Needs.{needs}

@@ -2,7 +2,7 @@ use mathlib.Core.Path.{_∙_}
 use native.Mathlib.Omega.{arith}
 use lib.Dec.{eqb}
 use lib.ListN.{length, length-set}
-use Rattle.spec_session.specs.kinds.Takes.{machineOf}
+use Rattle.spec_machine.specs.kinds.Takes.{machineOf}
 use Rattle.spec_session.proofs.session.StandLaws.{byte-idle, byte-long, byte-more, byte-line, more-room}
 use borrow.Author.Needs.{needs}
 use Rattle.session.proofs.running.step.Statement.{statement}

@@ -1,4 +1,4 @@
-use Rattle.spec_session.proofs.session_counts.CountLaws.{above-shifted, above-clipped, above-dropped, above-passed}
+use Rattle.spec_machine.proofs.session_counts.CountLaws.{above-shifted, above-clipped, above-dropped, above-passed}
 use Rattle.session_counts.proofs.counting.counts_above.Statement.{statement}
 use Rattle.session_counts.proofs.counting.counts_above.Tie as tie
 

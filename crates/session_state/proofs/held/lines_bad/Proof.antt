@@ -1,7 +1,7 @@
 use mathlib.Core.Path.{_≡_, refl}
 use lib.ListN.{length}
 use Rattle.spec_text.specs.text.Line.{linesOf}
-use Rattle.spec_session.specs.kinds.Kit.{linesBad}
+use Rattle.spec_machine.specs.kinds.Kit.{linesBad}
 use Rattle.spec_session.proofs.session_state.HeldLaws.{lines-hit, lines-again, lines-empty}
 use borrow.Author.Needs.{needs}
 use Rattle.session_state.proofs.held.lines_bad.Statement.{statement}

@@ -1,4 +1,4 @@
-use Rattle.spec_session.proofs.session_counts.GoodLines.{good-front, good-not}
+use Rattle.spec_machine.proofs.session_counts.GoodLines.{good-front, good-not}
 use borrow.Author.Needs.{needs}
 use Rattle.session_text.proofs.lining.lines_good.Statement.{statement}
 use Rattle.session_text.proofs.lining.lines_good.Tie as tie

@@ -2,7 +2,7 @@ use mathlib.Core.Path.{_≡_}
 use mathlib.Core.Bool.{true}
 use Rattle.spec_text.specs.utf8.Utf8.{utf8}
 use Rattle.spec_text.specs.text.Line.{concat}
-use Rattle.spec_session.specs.session_counts.Cut.{closedLines}
+use Rattle.spec_machine.specs.session_counts.Cut.{closedLines}
 use Prim.Native.Nat.{_≤_, _+_, _-_}
 use native.Mathlib.Omega.{arith}
 use lib.ListN.{length, drop}

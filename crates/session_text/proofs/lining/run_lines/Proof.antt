@@ -2,8 +2,8 @@ use mathlib.Core.Path.{_≡_, refl}
 use mathlib.Core.Bool.{true}
 use Rattle.spec_text.specs.utf8.Utf8.{utf8}
 use Rattle.spec_text.specs.text.Line.{concat}
-use Rattle.spec_session.specs.session_counts.Cut.{closedLines}
-use Rattle.spec_session.proofs.session_counts.GoodLines.{good-rest}
+use Rattle.spec_machine.specs.session_counts.Cut.{closedLines}
+use Rattle.spec_machine.proofs.session_counts.GoodLines.{good-rest}
 use Prim.Native.Nat.{_-_}
 use native.Mathlib.Omega.{arith}
 use lib.ListN.{length, drop}

@@ -4,7 +4,7 @@ use Prim.Native.Nat.{ℕ}
 use native.Mathlib.Omega.{arith}
 use lib.ListN.{length, take}
 use Rattle.spec_text.specs.text.Line.{concat}
-use Rattle.spec_session.specs.session_counts.Cut.{closedLines}
+use Rattle.spec_machine.specs.session_counts.Cut.{closedLines}
 use Rattle.spec_session.specs.declared.session_state.Head.{Head}
 use Rattle.spec_session.specs.session_text.Lined.{lineStart}
 use Rattle.spec_session.proofs.session_text.TextLaws.{text-refused, text-starts, text-ended, text-goes, begin-within}

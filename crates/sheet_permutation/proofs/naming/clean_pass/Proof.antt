@@ -5,7 +5,7 @@ use Rattle.sheet_permutation.proofs.naming.clean_pass.Statement.{statem
 use Rattle.sheet_permutation.proofs.naming.clean_pass.Tie as tie
 use Rattle.sheet_permutation.proofs.naming.clean_pass.Reads as reads
 use Rattle.sheet_permutation.proofs.naming.clean_pass.Lts as lts
-use Rattle.sheet_permutation.proofs.bits.clear.Reads as clear-reads
+use Rattle.base.proofs.clear.Reads as clear-reads
 use Rattle.sheet_permutation.proofs.naming.pass_by_layout.Reads as pass-by-layout-reads
 
 clear-requires : tie.Need-clear-requires

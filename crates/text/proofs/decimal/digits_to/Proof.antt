@@ -1,7 +1,7 @@
 use native.Mathlib.Omega.{arith}
 use borrow.Author.Needs.{needs}
-use Prim.Native.Nat.{_≤_, _<_, _-_, _+_}
-use mathlib.Core.Path.{_≡_, refl, sym}
+use Prim.Native.Nat.{_≤_, _-_}
+use mathlib.Core.Path.{_≡_, refl}
 use lib.ListN.{length, drop}
 use Rattle.spec_text.proofs.text.Laws.{natural-empty, digits-refused, digit-low, digit-high, digit-some, value-refused, digits-again, value-again, natural-passed}
 use Rattle.spec_text.specs.text.Number.{digits, valueFrom}

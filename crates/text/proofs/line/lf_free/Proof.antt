@@ -1,8 +1,8 @@
 use native.Mathlib.Omega.{arith}
 use borrow.Author.Needs.{needs}
-use Prim.Native.Nat.{_≤_, _<_, _-_, _+_}
+use Prim.Native.Nat.{_≤_, _-_, _+_}
 use mathlib.Core.Path.{_≡_}
-use lib.ListN.{length, drop}
+use lib.ListN.{drop}
 use Rattle.spec_text.proofs.text.LineLaws.{free-none, free-more, free-all}
 use Rattle.spec_text.specs.text.Line.{lineLength}
 use Rattle.text.proofs.line.lf_free.Statement.{statement}

@@ -1,4 +1,4 @@
-use Rattle.spec_map.proofs.trim.ReadLaws.{check-told}
+use Rattle.spec_trim.proofs.trim.ReadLaws.{check-told}
 use borrow.Author.Needs.{needs}
 use Rattle.trim.proofs.list.check.Statement.{statement}
 use Rattle.trim.proofs.list.check.Tie as tie

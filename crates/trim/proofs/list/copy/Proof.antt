@@ -1,8 +1,6 @@
-use Rattle.spec_map.proofs.trim.ReadLaws.{copy-again, copy-done}
-use native.Mathlib.Omega.{arith}
+use Rattle.spec_trim.proofs.trim.ReadLaws.{copy-again, copy-done}
 use Prim.Native.Nat.{_≤_, _-_}
-use mathlib.Core.Path.{_≡_, refl, sym, ap, _∙_}
-use native.Mathlib.Nat.{zero-add}
+use mathlib.Core.Path.{_≡_, refl, sym}
 use lib.ListN.{length, take}
 use Rattle.spec_base.specs.base.Put.{put}
 use Rattle.spec_base.proofs.base.PutLaws.{put-nil}

@@ -1,4 +1,4 @@
-use Rattle.spec_map.proofs.trim.ReadLaws.{head-long, head-bytes, head-passed}
+use Rattle.spec_trim.proofs.trim.ReadLaws.{head-long, head-bytes, head-passed}
 use borrow.Author.Needs.{needs}
 use Rattle.trim.proofs.list.head_number.Statement.{statement}
 use Rattle.trim.proofs.list.head_number.Tie as tie

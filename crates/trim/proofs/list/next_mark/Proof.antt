@@ -4,8 +4,8 @@ use mathlib.Core.Path.{_≡_, sym}
 use native.Mathlib.Nat.{zero-add}
 use lib.ListN.{length, drop}
 use Rattle.spec_text.specs.pattern.Find.{first}
-use Rattle.spec_map.specs.trim.Token.{mark}
-use Rattle.spec_map.proofs.trim.MarkLaws.{mark-found, mark-one, mark-two, mark-none}
+use Rattle.spec_trim.specs.trim.Token.{mark}
+use Rattle.spec_trim.proofs.trim.MarkLaws.{mark-found, mark-one, mark-two, mark-none}
 use borrow.Author.Needs.{needs}
 use Rattle.trim.proofs.list.next_mark.Statement.{statement}
 use Rattle.trim.proofs.list.next_mark.Tie as tie

@@ -1,5 +1,5 @@
 use native.Mathlib.Omega.{arith}
-use Rattle.spec_map.proofs.trim.ReadLaws.{short-told, short-kept, parse-told, parse-kept, parse-filled}
+use Rattle.spec_trim.proofs.trim.ReadLaws.{short-told, short-kept, parse-told, parse-kept, parse-filled}
 use borrow.Author.Needs.{needs}
 use Rattle.trim.proofs.list.parse.Statement.{statement}
 use Rattle.trim.proofs.list.parse.Tie as tie

@@ -1,4 +1,4 @@
-use Rattle.spec_map.proofs.trim.ReadLaws.{read-head, head-count, head-unread, read-rest, rest-count, not-blank, read-blank, blank-count, blank-filled}
+use Rattle.spec_trim.proofs.trim.ReadLaws.{read-head, head-count, head-unread, read-rest, rest-count, not-blank, read-blank, blank-count, blank-filled}
 use borrow.Author.Needs.{needs}
 use Rattle.trim.proofs.list.read.Statement.{statement}
 use Rattle.trim.proofs.list.read.Tie as tie

@@ -1,12 +1,12 @@
 use native.Mathlib.Omega.{arith}
-use Prim.Native.Nat.{_≤_, _<_, _+_, _-_, _*_}
-use mathlib.Core.Path.{_≡_, refl, sym, _∙_}
+use Prim.Native.Nat.{_≤_, _+_, _-_, _*_}
+use mathlib.Core.Path.{_≡_, refl, sym}
 use native.Mathlib.Nat.{zero-add}
 use lib.ListN.{length}
 use lib.Seq.{sets}
 use Rattle.spec_base.specs.base.Limits.{mostTrims}
-use Rattle.spec_map.specs.trim.TrimList.{tokensOf, tokensNumber, rangesIn}
-use Rattle.spec_map.proofs.trim.ReadLaws.{read-fault, fault-unread, read-last, read-filled, read-many, many-unread, number-again, count-again, places-again, drop-shorter}
+use Rattle.spec_trim.specs.trim.TrimList.{tokensOf, tokensNumber, rangesIn}
+use Rattle.spec_trim.proofs.trim.ReadLaws.{read-fault, fault-unread, read-last, read-filled, read-many, many-unread, number-again, count-again, places-again, drop-shorter}
 use borrow.Author.Needs.{needs}
 use Rattle.trim.proofs.list.read_tokens.Statement.{statement}
 use Rattle.trim.proofs.list.read_tokens.Tie as tie

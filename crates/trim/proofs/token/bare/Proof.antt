@@ -1,4 +1,4 @@
-use Rattle.spec_map.proofs.trim.MarkLaws.{trim-plain}
+use Rattle.spec_trim.proofs.trim.MarkLaws.{trim-plain}
 use borrow.Author.Needs.{needs}
 use Rattle.trim.proofs.token.bare.Statement.{statement}
 use Rattle.trim.proofs.token.bare.Tie as tie

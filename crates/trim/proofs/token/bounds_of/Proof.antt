@@ -1,4 +1,4 @@
-use Rattle.spec_map.proofs.trim.TokenLaws.{bounds-none, bounds-none-2, bounds-both}
+use Rattle.spec_trim.proofs.trim.TokenLaws.{bounds-none, bounds-none-2, bounds-both}
 use borrow.Author.Needs.{needs}
 use Rattle.trim.proofs.token.bounds_of.Statement.{statement}
 use Rattle.trim.proofs.token.bounds_of.Tie as tie

@@ -1,4 +1,4 @@
-use Rattle.spec_map.proofs.trim.TokenLaws.{closed-some, closed-none}
+use Rattle.spec_trim.proofs.trim.TokenLaws.{closed-some, closed-none}
 use borrow.Author.Needs.{needs}
 use Rattle.trim.proofs.token.closed_of.Statement.{statement}
 use Rattle.trim.proofs.token.closed_of.Tie as tie

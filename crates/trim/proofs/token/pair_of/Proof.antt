@@ -1,4 +1,4 @@
-use Rattle.spec_map.proofs.trim.TokenLaws.{pair-none, pair-more, pair-some}
+use Rattle.spec_trim.proofs.trim.TokenLaws.{pair-none, pair-more, pair-some}
 use borrow.Author.Needs.{needs}
 use Rattle.trim.proofs.token.pair_of.Statement.{statement}
 use Rattle.trim.proofs.token.pair_of.Tie as tie

@@ -1,5 +1,5 @@
 use Rattle.spec_base.proofs.base.Laws.{chain}
-use Rattle.spec_map.specs.trim.Token.{rangeOf}
+use Rattle.spec_trim.specs.trim.Token.{rangeOf}
 use borrow.Author.Needs.{needs}
 use Rattle.trim.proofs.token.range_of.Statement.{statement}
 use Rattle.trim.proofs.token.range_of.Tie as tie

@@ -1,4 +1,4 @@
-use Rattle.spec_map.proofs.trim.TokenLaws.{step-fault, step-crossing, step-range}
+use Rattle.spec_trim.proofs.trim.TokenLaws.{step-fault, step-crossing, step-range}
 use borrow.Author.Needs.{needs}
 use Rattle.trim.proofs.token.step_of.Statement.{statement}
 use Rattle.trim.proofs.token.step_of.Tie as tie

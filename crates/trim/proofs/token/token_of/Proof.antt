@@ -1,4 +1,4 @@
-use Rattle.spec_map.proofs.trim.TokenLaws.{token-some, token-none}
+use Rattle.spec_trim.proofs.trim.TokenLaws.{token-some, token-none}
 use borrow.Author.Needs.{needs}
 use Rattle.trim.proofs.token.token_of.Statement.{statement}
 use Rattle.trim.proofs.token.token_of.Tie as tie

@@ -2,7 +2,7 @@ use native.Mathlib.Omega.{arith}
 use borrow.Author.Needs.{needs}
 use Prim.Native.Nat.{_≤_, _<_, _-_, _+_}
 use mathlib.Core.Path.{_≡_}
-use lib.ListN.{length, drop}
+use lib.ListN.{drop}
 use Rattle.spec_text.proofs.utf8.Laws.{plain-none, plain-more, plain-all}
 use Rattle.spec_text.specs.utf8.Utf8.{asciiRun}
 use Rattle.utf8.proofs.utf8.plain.Statement.{statement}

@@ -1,2 +1,0 @@
--- What the functions for measurements answer.
-pub mod Fed

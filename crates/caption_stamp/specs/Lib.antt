@@ -1,0 +1,2 @@
+-- Times as text.
+pub mod Plain

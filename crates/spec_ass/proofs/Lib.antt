@@ -1,0 +1,2 @@
+pub mod ass_write
+pub mod ass_line

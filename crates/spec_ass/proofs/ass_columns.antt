@@ -1,0 +1,5 @@
+pub mod ColumnLaws
+pub mod SectionLaws
+pub mod FieldLaws
+pub mod Vectors
+pub mod SectionRows

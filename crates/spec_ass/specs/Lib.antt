@@ -1,0 +1,3 @@
+pub mod ass_columns
+pub mod ass_write
+pub mod ass_line

@@ -1,0 +1,2 @@
+pub mod block_timing
+pub mod block_cue

@@ -1,4 +1,0 @@
-pub mod ColumnLaws
-pub mod SectionLaws
-pub mod FieldLaws
-pub mod Vectors

@@ -1,6 +1,0 @@
-pub mod Examples
-pub mod Back
-pub mod Clean
-pub mod Whole
-pub mod Limits
-pub mod ReadRows

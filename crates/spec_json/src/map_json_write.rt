@@ -1,7 +1,0 @@
-// Types that the definitions of mapjson name.
-
-// The number, 0 where all is written, and how many bytes were.
-pub struct Wrote {
-    pub number: u32,
-    pub written: usize,
-}

@@ -1,0 +1,2 @@
+pub mod session_counts
+pub mod kinds

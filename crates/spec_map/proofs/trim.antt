@@ -1,8 +1,0 @@
-pub mod MarkLaws
-pub mod TokenLaws
-pub mod TokensLaws
-pub mod RangeLaws
-pub mod ReadLaws
-pub mod Bounds
-pub mod Edges
-pub mod Vectors

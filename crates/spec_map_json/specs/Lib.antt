@@ -1,0 +1,2 @@
+pub mod map_json_write
+pub mod map_json_read

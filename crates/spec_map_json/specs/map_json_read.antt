@@ -1,0 +1,2 @@
+-- What the reader of a map's JSON answers: its number, and what stands in the lent places.
+pub mod MapRead

@@ -1,0 +1,5 @@
+pub mod Bytes
+pub mod Again
+pub mod WriteLaws
+pub mod ReadLaws
+pub mod FirstLaws

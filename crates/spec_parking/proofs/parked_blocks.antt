@@ -1,6 +1,0 @@
-pub mod Bytes
-pub mod Again
-pub mod WriteLaws
-pub mod ReadLaws
-pub mod FirstLaws
-pub mod Rows

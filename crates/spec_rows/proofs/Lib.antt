@@ -1,0 +1,2 @@
+pub mod cueplaces
+pub mod cuefates

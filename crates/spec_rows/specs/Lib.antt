@@ -1,0 +1,3 @@
+pub mod caption_rows
+pub mod cueplaces
+pub mod cuefates

@@ -1,8 +1,0 @@
-// Types that the definitions of machine name.
-
-pub struct Counts {
-    pub shifted: u32,
-    pub clipped: u32,
-    pub dropped: u32,
-    pub passed: u32,
-}

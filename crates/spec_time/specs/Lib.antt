@@ -1,0 +1,2 @@
+pub mod caption_time
+pub mod caption_stamp

@@ -1,0 +1,2 @@
+pub mod trim
+pub mod plan
