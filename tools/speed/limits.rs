@@ -84,7 +84,7 @@ fn checks(table: &mut Table) {
 }
 
 /// The number of the map of a sheet and a list, both checked.
-fn number(sheet: &[u8], list: &str, direction: u32) -> u32 {
+fn map_number(sheet: &[u8], list: &str, direction: u32) -> u32 {
     let (mut work, mut map, mut timescale, mut count) = (vec![0; 131_072], vec![0; 6144], 0, 0);
     unsafe { retimer_map(sheet.as_ptr(), sheet.len(), list.as_ptr(), list.len(), direction, work.as_mut_ptr(), work.len(), map.as_mut_ptr(), map.len(), &mut timescale, &mut count) }
 }
@@ -98,7 +98,7 @@ fn beside_rust(table: &mut Table) {
     };
     let (sheet, list) = (sheet(decode, |i| i % 15 == 0), trims(30, 930));
     let f = frames(&sheet);
-    let here = &mut || assert_eq!(number(black_box(&sheet), &list, OUTWARD), 0);
+    let here = &mut || assert_eq!(map_number(black_box(&sheet), &list, OUTWARD), 0);
     let t = medians(3, &mut [here, &mut || assert_eq!(map_rust(black_box(&f), &list).segments.len(), 1024)]);
     table.row("map, 1,048,576 frames and 1,024 ranges, both checked", t[0] / t[1], "", None);
 }
@@ -130,7 +130,7 @@ fn maps(table: &mut Table) {
         ("long trims, decode order zigzag", sheet(zigzag, |_| true), &long, OUTWARD, 0),
     ];
     for (what, s, list, direction, number) in &cases {
-        let t = medians(11, &mut [&mut || assert_eq!(number(black_box(s), list, *direction), *number)]);
+        let t = medians(11, &mut [&mut || assert_eq!(map_number(black_box(s), list, *direction), *number)]);
         table.row(&format!("the same, {what}"), t[0] * 1e3, " ms", None);
     }
 }
