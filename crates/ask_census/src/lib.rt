@@ -1,4 +1,6 @@
 // How many starts survive a cut (request 2.13).
+#![tactic(auto)]
+
 mod counting;
 mod tally;
 

@@ -1,4 +1,6 @@
 // The delay that loses least (request 2.14).
+#![tactic(auto)]
+
 mod choosing;
 mod counting;
 mod finding;

@@ -1,4 +1,6 @@
 // A map in units.
+#![tactic(auto)]
+
 mod edge;
 
 pub use edge::edge_at;

@@ -1,4 +1,6 @@
 // Why a caption is kept or dropped (request 2.8).
+#![tactic(auto)]
+
 mod causes;
 mod places;
 mod telling;

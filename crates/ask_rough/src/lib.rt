@@ -1,4 +1,6 @@
 // Times known only roughly (request 2.11).
+#![tactic(auto)]
+
 mod judging;
 
 pub use judging::{number, rough, told};

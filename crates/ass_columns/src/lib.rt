@@ -1,4 +1,6 @@
 // The columns of a `Format:` line, the lines that name a section, and the fields of a caption line.
+#![tactic(auto)]
+
 mod fields;
 mod layout;
 mod section;

@@ -1,4 +1,6 @@
 // ASS captions: one line, put through the map.
+#![tactic(auto)]
+
 mod caption;
 
 pub use caption::{LineTold, line};

@@ -1,4 +1,6 @@
 // ASS lines: the tags of a caption, and its new line.
+#![tactic(auto)]
+
 mod tags;
 mod writing;
 

@@ -1,4 +1,5 @@
 // What every crate shares. No function here has a `requires`.
+#![tactic(auto)]
 mod amount;
 mod limits;
 mod part;

@@ -1,4 +1,6 @@
 // Where the times of a block stand: the timing line, its parts about the arrow, and the lines that end a block.
+#![tactic(auto)]
+
 mod blank;
 mod header;
 mod stamps;

@@ -1,4 +1,6 @@
 // The C functions for the Rust cutter: thin wrappers with the contracts of what they call. include/retimer.h declares them.
+#![tactic(auto)]
+
 mod captions;
 mod maps;
 mod questions;

@@ -1,5 +1,7 @@
 // The C functions over texts, called as a caller from C does, over document 01's worked map and texts worked out by hand. `stdout` pins each number, each code and
 // each place: every place holds a number of its own before the call, so that what is not written is seen too. `c_api_questions` and `c_api_maps` call the others.
+#![tactic(auto)]
+
 mod rows;
 mod sessions;
 mod texts;

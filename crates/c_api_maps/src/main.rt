@@ -1,5 +1,7 @@
 // The C functions over maps as the Rust cutter stores them, called as a caller from C does. `stdout` pins each number, each code and each place: every place holds
 // a number of its own before the call, so that what is not written is seen too.
+#![tactic(auto)]
+
 mod maptexts;
 
 fn main() {

@@ -1,5 +1,7 @@
 // The C functions over a sheet, and those that ask about a map, called as a caller from C does, over document 01's worked sheet and map. `stdout` pins each number,
 // each code and each place: every place holds a number of its own before the call, so that what is not written is seen too.
+#![tactic(auto)]
+
 mod conversions;
 mod questions;
 mod sheets;

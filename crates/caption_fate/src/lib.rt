@@ -1,4 +1,6 @@
 // One caption against the map (the Rust's map_event).
+#![tactic(auto)]
+
 mod meeting;
 mod retiming;
 mod setting;

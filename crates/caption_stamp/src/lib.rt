@@ -1,4 +1,6 @@
 // A caption's time as text: read and written, by kind.
+#![tactic(auto)]
+
 mod read;
 mod write;
 

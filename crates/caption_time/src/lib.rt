@@ -1,4 +1,6 @@
 // Caption times of each kind: conversions between units (U to the second) and ticks (T to the second).
+#![tactic(auto)]
+
 mod convert;
 mod kind;
 

@@ -1,4 +1,6 @@
 // What the programs over files share: a file's bytes, the map of a sheet and a list printed, the segments of a map.
+#![tactic(auto)]
+
 mod file;
 mod print;
 mod segments;

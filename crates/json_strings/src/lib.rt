@@ -1,4 +1,6 @@
 // Strings of JSON texts: escapes, what a string says, and names compared.
+#![tactic(auto)]
+
 mod escape;
 mod piece;
 mod string;

@@ -36,7 +36,7 @@ pub fn head_named(key: &[u8]) -> u64
 fn is_value(depth: usize, s: &[u8]) -> bool
     ensures { result ≡ is_value depth s.now }
 {
-    let w = json::value_width(depth, s);
+    let w = json_values::value_width(depth, s);
     if w == 0 {
         return false;
     }

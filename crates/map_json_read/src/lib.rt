@@ -1,4 +1,6 @@
 // A segment map read from the JSON of the Rust cutter.
+#![tactic(auto)]
+
 mod fields;
 mod reading;
 mod walk;

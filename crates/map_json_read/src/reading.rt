@@ -57,7 +57,7 @@ fn gather(x: HeadSlots, input: &[u8], list: &[u8], room: &mut [u64], said: &mut 
 fn row_of(text: &[u8]) -> &[u8]
     ensures { result.now ≡ drop 1 (drop (spaces text.now) text.now) }
 {
-    base::rest(base::rest(text, json::spaces(text)), 1)
+    base::rest(base::rest(text, json_values::spaces(text)), 1)
 }
 
 // The `width` bytes from the place `at` on.

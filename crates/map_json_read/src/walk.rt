@@ -68,12 +68,12 @@ fn head_in(x: Walk, s: &[u8], at: usize) -> Walk
     ensures { HeadIn x s.now at result }
 {
     let t = base::rest(s, at);
-    let p = json::item_parts(10, 0x7B, t);
+    let p = json_values::item_parts(10, 0x7B, t);
     if p.whole == 0 {
         return no_walk();
     }
     let v = base::front(base::rest(t, p.lead), p.width);
-    let n = head_named(base::rest(t, json::spaces(t)));
+    let n = head_named(base::rest(t, json_values::spaces(t)));
     let place = at + p.lead;
     walk_after(x, n, v, place, p.width, p.whole)
 }
@@ -125,7 +125,7 @@ fn begins(text: &[u8]) -> bool
     if !utf8::is_utf8(text) {
         return false;
     }
-    opens(base::rest(text, json::spaces(text)), 0x7B)
+    opens(base::rest(text, json_values::spaces(text)), 0x7B)
 }
 
 // Whether nothing but white space stands from the place `at` on.
@@ -133,7 +133,7 @@ fn ends(s: &[u8], at: usize) -> bool
     ensures { result ≡ eqb (spaces (drop at s.now)) (length (drop at s.now)) }
 {
     let u = base::rest(s, at);
-    if json::spaces(u) == u.len() {
+    if json_values::spaces(u) == u.len() {
         return true;
     }
     false

@@ -47,7 +47,7 @@ fn segments_into(s: &[u8], map: &mut [u64]) -> Listed
     requires { length map.old ≡ 6 * most_segments }
     ensures { ListRead (segments_said (elements_of 9 s.now)) (elements_of 9 s.now) result.good result.count map.old map.new }
 {
-    let mut t = json::row_in(0x5B, s);
+    let mut t = json_values::row_in(0x5B, s);
     let mut n: usize = 0;
     while 0 < t.len() {
         let x = segment_in(t);
@@ -59,7 +59,7 @@ fn segments_into(s: &[u8], map: &mut [u64]) -> Listed
         }
         segment_at(map, n, x);
         n += 1;
-        let u = json::next_row(t, x.whole);
+        let u = json_values::next_row(t, x.whole);
         t = u;
     }
     answer(true, n)

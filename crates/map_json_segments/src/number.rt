@@ -4,7 +4,7 @@ ghost use Rattle.spec_json.specs.json.Str.{string_bytes};
 ghost use Rattle.map_json_segments.specs.Slots.{no_slot, no_slots, slot_with, field_named, slots_after, numbers_in, no_numbers, widened_by};
 ghost use Rattle.map_json_segments.specs.Fields.{MemberIn, SlotsIn, SixIn, SegmentIn};
 
-use json::Plain;
+use json_values::Plain;
 
 // The largest number of 64 bits.
 pub const MOST_WORD: u64 = 18446744073709551615;
@@ -55,7 +55,7 @@ fn slot_with(x: Slot, v: &[u8], most: u64) -> Slot
     if x.state != 0 {
         return Slot { state: 2, value: 0 };
     }
-    match json::plain_value(v, most) {
+    match json_values::plain_value(v, most) {
         Plain::Value(n) => Slot { state: 1, value: n },
         Plain::Bad => Slot { state: 2, value: 0 },
     }
@@ -152,12 +152,12 @@ pub struct Found {
 fn member_in(x: Slots, t: &[u8]) -> Found
     ensures { MemberIn x t.now result }
 {
-    let p = json::item_parts(8, 0x7B, t);
+    let p = json_values::item_parts(8, 0x7B, t);
     if p.whole == 0 {
         return Found { slots: x, width: 0 };
     }
     let v = base::front(base::rest(t, p.lead), p.width);
-    let y = slots_after(x, base::rest(t, json::spaces(t)), v);
+    let y = slots_after(x, base::rest(t, json_values::spaces(t)), v);
     Found {
         slots: y,
         width: p.whole,
@@ -272,16 +272,16 @@ fn widened(x: Numbers, whole: usize) -> Numbers
 pub fn segment_in(t: &[u8]) -> Numbers
     ensures { SegmentIn t.now result }
 {
-    let p = json::spaces(t);
+    let p = json_values::spaces(t);
     let u = base::rest(t, p);
     if !opens(u, 0x7B) {
-        return no_numbers(json::item_width(9, 0x5B, t));
+        return no_numbers(json_values::item_width(9, 0x5B, t));
     }
     let x = six_in(base::rest(u, 1));
     if x.whole == 0 {
-        return no_numbers(json::item_width(9, 0x5B, t));
+        return no_numbers(json_values::item_width(9, 0x5B, t));
     }
     let e = p + x.whole + 1;
-    let whole = e + json::spaces(base::rest(t, e));
+    let whole = e + json_values::spaces(base::rest(t, e));
     widened(x, whole)
 }

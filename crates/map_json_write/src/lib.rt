@@ -1,4 +1,6 @@
 // A segment map as the JSON of the Rust cutter.
+#![tactic(auto)]
+
 mod layout;
 mod pieces;
 mod quoting;

@@ -1,4 +1,6 @@
 // A map as a lent list of records: built, searched, and handed to the functions over flat numbers. No exported function has a `requires`.
+#![tactic(auto)]
+
 mod building;
 mod flattening;
 mod meeting;

@@ -1,4 +1,6 @@
 // The map of a sheet and a trim list by way of records: built, searched for a caption, and handed over as flat numbers. No exported function has a `requires`.
+#![tactic(auto)]
+
 mod own;
 
 pub use own::through_records;

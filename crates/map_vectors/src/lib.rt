@@ -1,1 +1,2 @@
 // Worked examples of snapping and of segments, in specs/ and proofs/. No function.
+#![tactic(auto)]

@@ -1,4 +1,5 @@
 // Reads `sheet.bin` and `trim.txt` and prints the map, or `refused` and the number.
+#![tactic(auto)]
 
 fn main() {
     let sheet = files_map::load(b"", b"sheet.bin");

@@ -1,4 +1,6 @@
 // Runs `mapper` over the folders that `cases.txt` names, a line each, and prints each answer under the folder's name.
+#![tactic(auto)]
+
 use libc::STDOUT_FILENO;
 
 fn run_case(name: &[u8]) {

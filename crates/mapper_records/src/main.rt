@@ -1,6 +1,8 @@
 // Reads `sheet.bin` and `trim.txt` and goes through the map as records: prints it as `mapper` does, then for ticks of captions the place of the
 // segment that they meet, or `none`; last a list that is refused. `stdout` was worked out by hand from document 01: the map stands in its
 // "Small proofs", a hit is its rule (duration above 0, start before the segment's end, end after its start) on that map.
+#![tactic(auto)]
+
 ghost use Rattle.io.specs.Counts.{IsPrefixLen};
 
 use caption_fate::Hit;

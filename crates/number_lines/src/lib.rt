@@ -1,4 +1,6 @@
 // Lines of numbers as the programs print them.
+#![tactic(auto)]
+
 mod printing;
 mod writing;
 

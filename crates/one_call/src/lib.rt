@@ -1,4 +1,6 @@
 // A whole text retimed at once. No exported function has a `requires`.
+#![tactic(auto)]
+
 mod running;
 mod telling;
 

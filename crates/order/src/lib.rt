@@ -1,4 +1,6 @@
 // Two counts of frames, which are never used for one another.
+#![tactic(auto)]
+
 mod index;
 
 pub use index::frame_count;

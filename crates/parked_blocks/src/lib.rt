@@ -1,4 +1,6 @@
 // 18 blocks with a number and a sum each: written, and read again. No exported function has a `requires`.
+#![tactic(auto)]
+
 mod reading;
 mod writing;
 mod zeros;

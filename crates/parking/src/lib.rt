@@ -1,4 +1,6 @@
 // A session parked, and taken up again. No exported function has a `requires`.
+#![tactic(auto)]
+
 mod reading;
 mod storing;
 mod taking;

@@ -1,4 +1,6 @@
 // Ranges moved to sync frames. No exported function has a `requires`.
+#![tactic(auto)]
+
 mod crossing;
 mod moves;
 mod scan;

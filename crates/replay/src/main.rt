@@ -5,6 +5,8 @@
 // retimed with parkings, 14 a session taken up, 15 a session parked; and (crate `replay_rows`) 16 the captions of the text Z of the kind b as rows, c places being
 // lent for them, 0 as many as it needs. The answers to 1 to 7 have the form of the program that this one is compared with. Word c of
 // ops 2 and 3 is the number of work bytes lent, 0 being 131,072. Word d of ops 3 and 5 says how the text is cut into pieces; the answer is the same for each.
+#![tactic(auto)]
+
 mod answer;
 mod input;
 

@@ -1,4 +1,6 @@
 // Maps as JSON texts, written and read, each answer printed: what `replay` asks of request 2.1.
+#![tactic(auto)]
+
 mod asking;
 mod printing;
 

@@ -1,4 +1,6 @@
 // A session taken up, as `replay` prints it.
+#![tactic(auto)]
+
 mod taken;
 
 pub use taken::print_taken;

@@ -1,4 +1,5 @@
 // Reads `sheet.bin`, `trim.txt` and `subs.ass`, else `subs.srt`, else `subs.vtt`, and prints the retimed text, or `refused` and the number.
+#![tactic(auto)]
 
 fn main() {
     let sheet = files_map::load(b"", b"sheet.bin");

@@ -1,4 +1,6 @@
 // The segment map: what a sheet and a trim list keep, and where it goes. No exported function has a `requires`.
+#![tactic(auto)]
+
 mod building;
 mod faults;
 mod sums;

@@ -1,4 +1,6 @@
 // A segment of a map, and the limits of a map given as flat numbers.
+#![tactic(auto)]
+
 mod grouping;
 mod segment;
 

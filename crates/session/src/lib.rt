@@ -1,4 +1,6 @@
 // The session: takes a caption text in pieces and writes it back retimed.
+#![tactic(auto)]
+
 mod calling;
 mod ending;
 mod running;

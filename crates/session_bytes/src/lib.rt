@@ -1,4 +1,6 @@
 // A session kept as its 18 blocks: opened, fed and finished over bytes. No exported function has a `requires`.
+#![tactic(auto)]
+
 mod calling;
 mod opening;
 

@@ -1,4 +1,6 @@
 // One line of a text taken: retimed, or held for its block; and the end of a block.
+#![tactic(auto)]
+
 mod closing;
 mod taking;
 mod telling;

@@ -1,4 +1,6 @@
 // The session that a caller keeps between two calls, and the test for a foreign one (17).
+#![tactic(auto)]
+
 mod amounts;
 mod held;
 mod whole;

@@ -1,4 +1,6 @@
 // A feed whose new bytes stand behind the held ones in one text. No exported function has a `requires`.
+#![tactic(auto)]
+
 mod lining;
 mod taking;
 

@@ -1,4 +1,6 @@
 // The frame sheet, checked whole. No exported function has a `requires`.
+#![tactic(auto)]
+
 mod answer;
 mod faults;
 mod heads;

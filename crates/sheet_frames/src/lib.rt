@@ -1,4 +1,6 @@
 // The frames of a sheet, read place by place. No exported function has a `requires`.
+#![tactic(auto)]
+
 mod access;
 
 pub use access::{

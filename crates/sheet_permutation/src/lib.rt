@@ -1,4 +1,6 @@
 // Each sample named once. No exported function has a `requires`.
+#![tactic(auto)]
+
 mod bits;
 mod naming;
 

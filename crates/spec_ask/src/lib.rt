@@ -1,4 +1,6 @@
 // No function: requests 2.8 and 2.11 to 2.14: questions about a map, as definitions in specs/ and laws in proofs/, and the types that they name.
+#![tactic(auto)]
+
 pub mod ask_census;
 pub mod ask_delay;
 pub mod ask_edges;

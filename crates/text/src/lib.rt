@@ -1,4 +1,6 @@
 // Decimal numbers and lines of a text.
+#![tactic(auto)]
+
 mod decimal;
 mod line;
 

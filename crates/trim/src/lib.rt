@@ -1,4 +1,6 @@
 // The trim list: read into ranges, or checked alone. No exported function has a `requires`.
+#![tactic(auto)]
+
 mod list;
 mod token;
 

@@ -1,4 +1,5 @@
 // Reads `sheet.bin`, `trim.txt` and `times.txt`, and prints what becomes of a caption with the times of each line, and why; or `refused` and the number.
+#![tactic(auto)]
 
 fn main() {
     let sheet = files_map::load(b"", b"sheet.bin");

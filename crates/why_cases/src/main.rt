@@ -1,4 +1,6 @@
 // Runs `why` over the folders that `cases.txt` names, a line each, and prints each page under the folder's name, with an empty line behind it.
+#![tactic(auto)]
+
 use libc::STDOUT_FILENO;
 
 fn run_case(name: &[u8]) {

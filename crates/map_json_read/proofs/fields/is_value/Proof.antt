@@ -5,7 +5,7 @@ use Rattle.map_json_read.proofs.fields.is_value.Statement.{statement}
 use Rattle.map_json_read.proofs.fields.is_value.Tie as tie
 use Rattle.map_json_read.proofs.fields.is_value.Reads as reads
 use Rattle.map_json_read.proofs.fields.is_value.Lts as lts
-use Rattle.json.proofs.value_width.Reads as value-width-reads
+use Rattle.json_values.proofs.value_width.Reads as value-width-reads
 
 value-width-requires : tie.Need-value-width-requires
 value-width-requires c κs = search rules

@@ -5,7 +5,7 @@ use Rattle.map_json_read.proofs.reading.row_of.Tie as tie
 use Rattle.map_json_read.proofs.reading.row_of.Reads as reads
 use Rattle.map_json_read.proofs.reading.row_of.Lts as lts
 use Rattle.base.proofs.rest.Reads as rest-reads
-use Rattle.json.proofs.spaces.Reads as spaces-reads
+use Rattle.json_values.proofs.spaces.Reads as spaces-reads
 
 spaces-requires : tie.Need-spaces-requires
 spaces-requires c κs = search rules

@@ -5,7 +5,7 @@ use Rattle.map_json_read.proofs.walk.begins.Tie as tie
 use Rattle.map_json_read.proofs.walk.begins.Reads as reads
 use Rattle.map_json_read.proofs.walk.begins.Lts as lts
 use Rattle.base.proofs.rest.Reads as rest-reads
-use Rattle.json.proofs.spaces.Reads as spaces-reads
+use Rattle.json_values.proofs.spaces.Reads as spaces-reads
 use Rattle.map_json_segments.proofs.number.opens.Reads as opens-reads
 use Rattle.utf8.proofs.is_utf8.Reads as is-utf8-reads
 

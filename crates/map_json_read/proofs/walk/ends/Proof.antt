@@ -5,7 +5,7 @@ use Rattle.map_json_read.proofs.walk.ends.Tie as tie
 use Rattle.map_json_read.proofs.walk.ends.Reads as reads
 use Rattle.map_json_read.proofs.walk.ends.Lts as lts
 use Rattle.base.proofs.rest.Reads as rest-reads
-use Rattle.json.proofs.spaces.Reads as spaces-reads
+use Rattle.json_values.proofs.spaces.Reads as spaces-reads
 
 rest-requires : tie.Need-rest-requires
 rest-requires c κs = search rules

@@ -6,8 +6,8 @@ use Rattle.map_json_read.proofs.walk.head_in.Reads as reads
 use Rattle.map_json_read.proofs.walk.head_in.Lts as lts
 use Rattle.base.proofs.front.Reads as front_reads
 use Rattle.base.proofs.rest.Reads as rest-reads
-use Rattle.json.proofs.item_parts.Reads as item-parts-reads
-use Rattle.json.proofs.spaces.Reads as spaces-reads
+use Rattle.json_values.proofs.item_parts.Reads as item-parts-reads
+use Rattle.json_values.proofs.spaces.Reads as spaces-reads
 use Rattle.map_json_read.proofs.fields.head_named.Reads as head-named-reads
 use Rattle.map_json_read.proofs.walk.no_walk.Reads as no-walk-reads
 use Rattle.map_json_read.proofs.walk.walk_after.Reads as walk-after-reads

@@ -8,8 +8,8 @@ use Rattle.map_json_segments.proofs.list.segments_into.Statement.{statement}
 use Rattle.map_json_segments.proofs.list.segments_into.Tie as tie
 use Rattle.map_json_segments.proofs.list.segments_into.Reads as reads
 use Rattle.map_json_segments.proofs.list.segments_into.Lts as lts
-use Rattle.json.proofs.next_row.Reads as next-row-reads
-use Rattle.json.proofs.row_in.Reads as row-in-reads
+use Rattle.json_values.proofs.next_row.Reads as next-row-reads
+use Rattle.json_values.proofs.row_in.Reads as row-in-reads
 use Rattle.map_json_segments.proofs.list.answer.Reads as answer-reads
 use Rattle.map_json_segments.proofs.list.segment_at.Reads as segment-at-reads
 use Rattle.map_json_segments.proofs.number.segment_in.Reads as segment-in-reads

@@ -5,8 +5,8 @@ use Rattle.map_json_segments.proofs.number.segment_in.Tie as tie
 use Rattle.map_json_segments.proofs.number.segment_in.Reads as reads
 use Rattle.map_json_segments.proofs.number.segment_in.Lts as lts
 use Rattle.base.proofs.rest.Reads as rest-reads
-use Rattle.json.proofs.item_width.Reads as item-width-reads
-use Rattle.json.proofs.spaces.Reads as spaces-reads
+use Rattle.json_values.proofs.item_width.Reads as item-width-reads
+use Rattle.json_values.proofs.spaces.Reads as spaces-reads
 use Rattle.map_json_segments.proofs.number.no_numbers.Reads as no-numbers-reads
 use Rattle.map_json_segments.proofs.number.opens.Reads as opens-reads
 use Rattle.map_json_segments.proofs.number.six_in.Reads as six-in-reads

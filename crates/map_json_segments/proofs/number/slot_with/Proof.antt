@@ -4,7 +4,7 @@ use Rattle.map_json_segments.proofs.number.slot_with.Statement.{statement}
 use Rattle.map_json_segments.proofs.number.slot_with.Tie as tie
 use Rattle.map_json_segments.proofs.number.slot_with.Reads as reads
 use Rattle.map_json_segments.proofs.number.slot_with.Lts as lts
-use Rattle.json.proofs.plain_value.Reads as plain-value-reads
+use Rattle.json_values.proofs.plain_value.Reads as plain-value-reads
 
 returns : tie.Need-returns
 returns c = search slot_over
