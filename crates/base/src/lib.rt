@@ -1,5 +1,6 @@
 // What every crate shares. No function here has a `requires`.
 #![tactic(auto)]
+
 mod amount;
 mod limits;
 mod part;
