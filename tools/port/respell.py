@@ -133,8 +133,10 @@ def turn(text, path, to, of_fields, own, called):
                         return of_fields[w]
                     before = re.search(r"[\w.·]*\.$", m.string[: m.start()])
                     qualified = before and before.group(0)[0].isupper()
+                    if rust or m.string[m.end():m.end() + 1] == ".":
+                        return w
                     return to.get(w, w) if qualified or (w in to and not proof and w not in of_fields) else w
-                if w in to:
+                if w in to and not (rust and to[w].endswith("_lem")):
                     return to[w]
                 if w in of_fields:
                     return of_fields[w]

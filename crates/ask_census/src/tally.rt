@@ -9,7 +9,7 @@ ghost use Rattle.spec_ask.specs.ask_edges.Count.{starts_in, kept_fast, whole_fas
 ghost use Rattle.spec_ask.specs.ask_census.Census.{most_starts};
 
 // Starts that are kept, and starts that are kept whole.
-#[derive(Drop)]
+#[derive(Clone, Copy)]
 pub struct Tally {
     pub kept: u64,
     pub whole: u64,

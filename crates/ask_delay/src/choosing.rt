@@ -3,7 +3,7 @@ ghost use Rattle.std.specs.Prelude.{◌≡◌, ◌≤◌, length};
 ghost use Rattle.ask_delay.specs.Choice.{chosen_in, better_of};
 
 // The place of the best try, what it loses, and how many were tried.
-#[derive(Drop)]
+#[derive(Clone, Copy)]
 pub struct Chosen {
     pub place: u32,
     pub loss: u32,

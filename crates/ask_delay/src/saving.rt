@@ -24,7 +24,7 @@ fn exceeds_all(map: &[u64], n: u64) -> bool
 }
 
 // Whether a caption is longer than every segment.
-fn too_long_lem(map: &[u64], timescale: u32, kind: u32, start: u64, stop: u64) -> bool
+fn too_long(map: &[u64], timescale: u32, kind: u32, start: u64, stop: u64) -> bool
     requires { (timescale_bad timescale ≡ false) × (kind_bad kind ≡ false) × (stop ≤ 68719476736) }
     ensures { result ≡ too_long (config_with kind timescale) (segments_of map.now) start stop }
 {
@@ -41,7 +41,7 @@ pub fn floor_of(map: &[u64], timescale: u32, kind: u32, captions: &[u64]) -> u32
     let mut t = captions;
     let mut n = 0;
     while 2 <= t.len() {
-        let long = too_long_lem(map, timescale, kind, base::word(t, 0), base::word(t, 1));
+        let long = too_long(map, timescale, kind, base::word(t, 0), base::word(t, 1));
         n = more(n, long);
         let u = base::words_rest(t, 2);
         t = u;

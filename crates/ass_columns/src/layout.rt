@@ -6,7 +6,7 @@ ghost use Rattle.spec_ass.specs.ass_columns.Columns.{start_name, end_name, names
 use spec_ass::ass_columns::Columns;
 
 // What a `Format:` line sets, and how many trimmings of a column it took to find that.
-#[derive(Drop)]
+#[derive(Clone, Copy)]
 pub struct Format {
     pub columns: Columns,
     pub trimmed: usize,

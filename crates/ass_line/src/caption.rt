@@ -22,7 +22,7 @@ use caption_fate::{Config, Counted, Decision, Retimed, Told, counted_by, refused
 use caption_stamp::Time;
 
 // What a line tells, and the columns for the next one.
-#[derive(Drop)]
+#[derive(Clone, Copy)]
 pub struct LineTold {
     pub told: Told,
     pub columns: Columns,

@@ -9,7 +9,7 @@ ghost use Rattle.spec_text.specs.pattern.Piece.{comma};
 use ass_columns::{Columns, field_length};
 
 // Two times in units, each with the mark before its fraction.
-#[derive(Drop)]
+#[derive(Clone, Copy)]
 pub struct Times {
     pub start: u64,
     pub start_mark: u8,
@@ -18,7 +18,7 @@ pub struct Times {
 }
 
 // The lengths of two times in the buffers that hold their texts.
-#[derive(Drop)]
+#[derive(Clone, Copy)]
 struct Lengths {
     start: usize,
     stop: usize,

@@ -13,7 +13,7 @@ use caption_stamp::Time;
 use spec_rows::caption_rows::Said;
 
 // What a line gives, and the columns for the next one.
-#[derive(Drop)]
+#[derive(Clone, Copy)]
 pub struct LineRead {
     pub said: Said,
     pub columns: Columns,

@@ -14,7 +14,7 @@ use ass_columns::Columns;
 use spec_rows::caption_rows::{Said, Walked};
 
 // The open block after a line: where it begins, and how many lines came before it.
-#[derive(Drop)]
+#[derive(Clone, Copy)]
 struct Turn {
     said: Said,
     from: usize,

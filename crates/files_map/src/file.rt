@@ -4,7 +4,7 @@ ghost use Rattle.spec_base.specs.base.Put.{placed, placed_length};
 ghost use Rattle.files_map.specs.Folder.{path_below, Held};
 
 // The bytes of a file, as many as a program looks at: one more than a sheet or a list may have.
-#[derive(Drop)]
+#[derive(Clone, Copy)]
 pub struct File {
     pub bytes: [u8; 65537],
     pub length: usize,

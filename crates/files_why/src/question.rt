@@ -5,7 +5,7 @@ ghost use Rattle.files_why.specs.Question.{kind_of, word_of, behind_word, unread
 use caption_stamp::Time;
 
 // 0, 16 where the line names no kind, or 22 where a time does not read; the caption's kind and times in units, and the mark of its start.
-#[derive(Drop)]
+#[derive(Clone, Copy)]
 pub struct Question {
     pub number: u32,
     pub kind: u32,

@@ -6,4 +6,4 @@ mod piece;
 mod string;
 
 pub use spec_json::json::Piece;
-pub use string::{name_is, string_bytes_lem, string_size, string_width};
+pub use string::{name_is, string_bytes, string_size, string_width};

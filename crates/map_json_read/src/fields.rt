@@ -67,7 +67,7 @@ pub fn path_good(v: &[u8]) -> bool
 }
 
 // The slots of a map's numbers, whether its path and its list were seen (0: not), and whether the members so far are known or at most 8 deep.
-#[derive(Drop)]
+#[derive(Clone, Copy)]
 pub struct HeadSlots {
     pub timescale: Slot,
     pub rate_num: Slot,
@@ -118,7 +118,7 @@ pub fn heads_after(x: HeadSlots, n: u64, v: &[u8]) -> HeadSlots
 }
 
 // The numbers of a map that are no segment's, and whether all are good and no other member is too deep.
-#[derive(Drop)]
+#[derive(Clone, Copy)]
 pub struct Heads {
     pub good: bool,
     pub timescale: u32,

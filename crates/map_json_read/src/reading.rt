@@ -29,7 +29,7 @@ fn refused(number: u32) -> Taken
 }
 
 // What the object of a map says: whether it is one, the numbers that are no segment's, how many segments it has and how long its path is.
-#[derive(Drop)]
+#[derive(Clone, Copy)]
 pub struct Parts {
     pub good: bool,
     pub heads: Heads,

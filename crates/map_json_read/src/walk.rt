@@ -12,7 +12,7 @@ use crate::fields::{HeadSlots, head_named, heads_after, no_heads};
 use map_json_segments::number::opens;
 
 // What the members so far say: the slots, where the path's value and the list stand in the row, and how wide the members are; 0: they are none.
-#[derive(Drop)]
+#[derive(Clone, Copy)]
 pub struct Walk {
     pub heads: HeadSlots,
     pub path_at: usize,

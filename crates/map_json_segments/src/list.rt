@@ -30,7 +30,7 @@ fn segment_at(map: &mut [u64], n: usize, x: Numbers)
 }
 
 // A list read: whether it is one of segments, and how many it has.
-#[derive(Drop)]
+#[derive(Clone, Copy)]
 pub struct Listed {
     pub good: bool,
     pub count: usize,

@@ -10,7 +10,7 @@ use json_values::Plain;
 pub const MOST_WORD: u64 = 18446744073709551615;
 
 // The numbers of a segment, where all are good, and the width of its item; 0: none.
-#[derive(Drop)]
+#[derive(Clone, Copy)]
 pub struct Numbers {
     pub good: bool,
     pub first: u64,
@@ -42,7 +42,7 @@ pub fn opens(s: &[u8], b: u8) -> bool
 }
 
 // What stands of a field so far: 0 nothing, 1 a number, 2 no number or more than one value.
-#[derive(Drop)]
+#[derive(Clone, Copy)]
 pub struct Slot {
     pub state: u64,
     pub value: u64,
@@ -72,7 +72,7 @@ pub fn slot_if(x: Slot, n: u64, k: u64, v: &[u8], most: u64) -> Slot
 }
 
 // The slots of a segment's fields.
-#[derive(Drop)]
+#[derive(Clone, Copy)]
 pub struct Slots {
     pub first: Slot,
     pub last: Slot,
@@ -142,7 +142,7 @@ fn slots_after(x: Slots, key: &[u8], v: &[u8]) -> Slots
 }
 
 // The slots behind members, and how wide these are; 0: they are none.
-#[derive(Drop)]
+#[derive(Clone, Copy)]
 pub struct Found {
     pub slots: Slots,
     pub width: usize,

@@ -7,7 +7,7 @@ ghost use Rattle.map_json_write.specs.Escape.{low_letter, low_escape, EscapeOf};
 use crate::pieces::bytes_at;
 
 // What a byte of a string is written as.
-#[derive(Drop)]
+#[derive(Clone, Copy)]
 pub struct Escape {
     pub bytes: [u8; 6],
     pub len: usize,

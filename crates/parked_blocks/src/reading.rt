@@ -9,7 +9,7 @@ use crate::writing::blocks_for;
 use crate::zeros::all_zero;
 
 // Whether the first n blocks hold.
-fn all_hold_lem(s: &[u8], n: usize) -> bool
+fn all_hold(s: &[u8], n: usize) -> bool
     ensures { result ≡ all_hold s.now 0 n }
 {
     let mut b: usize = 0;
@@ -51,7 +51,7 @@ fn is_row(s: &[u8]) -> bool
     if s.len() != 9216 {
         return false;
     }
-    all_hold_lem(s, 18)
+    all_hold(s, 18)
 }
 
 // Whether there are 18 blocks that hold, and a place for the bytes of blocks 1 to 17; if so, they are copied to the start of `room`.
@@ -109,7 +109,7 @@ fn short_row(s: &[u8], k: usize) -> bool
     if s.len() != 9216 {
         return false;
     }
-    if all_hold_lem(s, k + 1) {
+    if all_hold(s, k + 1) {
         return blank_behind(s, k);
     }
     false

@@ -148,7 +148,7 @@ fn numbers(session: Session) -> Head
 }
 
 // The bytes of words 1 to 16 of a session.
-fn head_bytes_lem(session: Session) -> [u8; 64]
+fn head_bytes(session: Session) -> [u8; 64]
     ensures { result ≡ words_bytes (head_words 2 session) }
 {
     number_bytes(numbers(session))
@@ -159,7 +159,7 @@ fn store(session: Session, out: &mut [u8])
     requires { sealed_length ≤ length out.old }
     ensures { out.new ≡ put (parked_of 2 session) out.old }
 {
-    let head = head_bytes_lem(session);
+    let head = head_bytes(session);
     let n = kept_length(session);
     let held = session.held;
     parked_blocks::seal(out, &head, base::front(&held, n));

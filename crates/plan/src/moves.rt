@@ -7,7 +7,7 @@ use crate::scan::{Known, ceil_first, ceil_sync, floor_first, floor_sync};
 use order::DisplayIdx;
 
 // What the range before found: its boundary that moved down, and the one that moved up.
-#[derive(Drop)]
+#[derive(Clone, Copy)]
 struct Found {
     low: Known,
     high: Known,

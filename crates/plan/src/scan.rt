@@ -5,7 +5,7 @@ ghost use Rattle.spec_trim.specs.plan.Snap.{floor_sync, ceil_sync};
 use order::DisplayIdx;
 
 // A boundary, and the sync frame found for it.
-#[derive(Drop)]
+#[derive(Clone, Copy)]
 pub struct Known {
     pub at: DisplayIdx,
     pub sync: DisplayIdx,

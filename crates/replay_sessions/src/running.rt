@@ -20,7 +20,7 @@ fn place_after(at: usize, n: usize, most: usize) -> usize
 }
 
 // What the calls so far came to: the first number that is not 0, the places after the new text and after the warnings, the session, how many calls.
-#[derive(Drop)]
+#[derive(Clone, Copy)]
 pub struct Step {
     pub number: u32,
     pub written: usize,

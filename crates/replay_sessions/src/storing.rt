@@ -3,7 +3,7 @@ use parking::TakenUp;
 use session_state::Session;
 
 // How a text is fed: the plan by which it is cut, and a parking after every so many calls, 0 being none, with this mark.
-#[derive(Drop)]
+#[derive(Clone, Copy)]
 pub struct Plan {
     pub cut: u32,
     pub every: u32,

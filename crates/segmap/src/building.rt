@@ -13,7 +13,7 @@ use order::{DecodeIdx, DisplayIdx};
 use segment::Segment;
 
 // A segment, and how far the sum has come with it.
-#[derive(Drop)]
+#[derive(Clone, Copy)]
 struct Step {
     segment: Segment,
     reached: Reached,

@@ -8,14 +8,14 @@ ghost use Rattle.segmap.specs.Milestones.{Noted, Carried};
 use order::DecodeIdx;
 
 // How far a sum has come: `ticks` of all samples before `decode`.
-#[derive(Drop)]
+#[derive(Clone, Copy)]
 pub struct Reached {
     pub decode: DecodeIdx,
     pub ticks: u64,
 }
 
 // A sum that was asked for, and how far the one that writes milestones has come.
-#[derive(Drop)]
+#[derive(Clone, Copy)]
 pub struct Sum {
     pub ticks: u64,
     pub far: Reached,

@@ -9,7 +9,7 @@ use spec_map::segment::Surveyed;
 const GROUP_PLACES: usize = 128;
 
 // What 16 segments give: the bounds, and 0 where all numbers are small.
-#[derive(Drop)]
+#[derive(Clone, Copy)]
 struct Group {
     low: u64,
     high: u64,

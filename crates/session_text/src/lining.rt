@@ -87,7 +87,7 @@ fn lines_good(kind: u32, rest: &[u8]) -> bool
 }
 
 // Lines passed over: how many lines there are before the next one, where that begins and ends.
-#[derive(Drop)]
+#[derive(Clone, Copy)]
 struct Passed {
     lines: u32,
     place: usize,

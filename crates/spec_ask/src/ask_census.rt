@@ -1,7 +1,7 @@
 // Types that the definitions of ask_census name.
 
 // How many starts are shifted, clipped and dropped; where the number is not 0, three zeros.
-#[derive(Drop)]
+#[derive(Clone, Copy)]
 pub struct StartCounts {
     pub number: u32,
     pub shifted: u64,

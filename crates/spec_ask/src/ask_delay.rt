@@ -2,7 +2,7 @@
 
 // The delay, how many captions it loses, how many delays were tried, and by how many captions another can do better at most; where the number is not
 // 0, four zeros.
-#[derive(Drop)]
+#[derive(Clone, Copy)]
 pub struct Delay {
     pub number: u32,
     pub delay: i64,
@@ -11,7 +11,7 @@ pub struct Delay {
     pub off: u32,
 }
 
-#[derive(Drop)]
+#[derive(Clone, Copy)]
 pub enum Moved {
     At(u64),
     Below,

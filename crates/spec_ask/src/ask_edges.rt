@@ -1,7 +1,7 @@
 // Types that the definitions of ask_edges name.
 
 // A caption read as s to e meets the segment where s < till and from <= e, and lies in it whole where low <= s and e < high.
-#[derive(Drop)]
+#[derive(Clone, Copy)]
 pub struct Edge {
     pub till: u64,
     pub from: u64,

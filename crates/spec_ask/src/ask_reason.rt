@@ -2,7 +2,7 @@
 use spec_caption::caption_fate::Counted;
 
 // The number; the fate (Dropped, Shifted or Clipped); the place of the segment that is met, from 0; how many ticks were cut off at each end.
-#[derive(Drop)]
+#[derive(Clone, Copy)]
 pub struct Why {
     pub number: u32,
     pub fate: Counted,

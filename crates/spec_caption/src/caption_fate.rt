@@ -1,7 +1,7 @@
 // Types that the definitions of caption_fate name.
 
 // A segment that is met, and its place in the list from 0.
-#[derive(Drop)]
+#[derive(Clone, Copy)]
 pub struct Met {
     pub place: usize,
     pub source: u64,
@@ -9,14 +9,14 @@ pub struct Met {
     pub duration: u64,
 }
 
-#[derive(Drop)]
+#[derive(Clone, Copy)]
 pub enum Hit {
     Miss,
     At(Met),
 }
 
 // A caption that is kept: its new times in units, which of them was cut, whether a part was lost (warning 4).
-#[derive(Drop)]
+#[derive(Clone, Copy)]
 pub struct Retimed {
     pub start: u64,
     pub stop: u64,
@@ -26,7 +26,7 @@ pub struct Retimed {
 }
 
 // Strange: the segment that is met ends past the tick limit, so that the map is a bad one.
-#[derive(Drop)]
+#[derive(Clone, Copy)]
 pub enum Decision {
     Strange,
     Dropped,
@@ -34,14 +34,14 @@ pub enum Decision {
 }
 
 // The kind (0 ASS, 1 SRT, 2 WebVTT) and the ticks a second.
-#[derive(Drop)]
+#[derive(Clone, Copy)]
 pub struct Config {
     pub kind: u32,
     pub timescale: u32,
 }
 
 // How a caption is counted; Nothing: there is none.
-#[derive(Drop)]
+#[derive(Clone, Copy)]
 pub enum Counted {
     Nothing,
     Passed,
@@ -51,7 +51,7 @@ pub enum Counted {
 }
 
 // The number, how it is counted, and how many bytes and warning places were written.
-#[derive(Drop)]
+#[derive(Clone, Copy)]
 pub struct Told {
     pub number: u32,
     pub counted: Counted,

@@ -1,7 +1,7 @@
 // Types that the definitions of block_cue name.
 
 // The times of a timing line, each with its mark.
-#[derive(Drop)]
+#[derive(Clone, Copy)]
 pub struct Times {
     pub start: u64,
     pub start_mark: u8,
@@ -10,7 +10,7 @@ pub struct Times {
 }
 
 // What was read of them: a bad time, or both.
-#[derive(Drop)]
+#[derive(Clone, Copy)]
 pub enum Reading {
     Bad,
     Both(Times),

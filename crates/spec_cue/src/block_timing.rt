@@ -1,7 +1,7 @@
 // Types that the definitions of block_timing name.
 
 // Where the timing line stands in a block: its first byte, its length, and how many lines are before it.
-#[derive(Drop)]
+#[derive(Clone, Copy)]
 pub struct Place {
     pub found: bool,
     pub at: usize,

@@ -1,21 +1,21 @@
 // Types that the definitions of json name.
 
 // What the digits of a known field say.
-#[derive(Drop)]
+#[derive(Clone, Copy)]
 pub enum Plain {
     Value(u64),
     Bad,
 }
 
 // Up to four bytes.
-#[derive(Drop)]
+#[derive(Clone, Copy)]
 pub struct Piece {
     pub bytes: [u8; 4],
     pub len: usize,
 }
 
 // An item of a row: the width of what stands before its value, of the value, and of all with the white space behind it; the last two 0: none.
-#[derive(Drop)]
+#[derive(Clone, Copy)]
 pub struct Item {
     pub lead: usize,
     pub width: usize,

@@ -1,6 +1,6 @@
 // Types that the definitions of session_counts name.
 
-#[derive(Drop)]
+#[derive(Clone, Copy)]
 pub struct Counts {
     pub shifted: u32,
     pub clipped: u32,

@@ -1,7 +1,7 @@
 // Types that the definitions of segment name.
 
 // A stretch of the source that is kept (document 01's stretch), with its place in the output. The fields are the Rust's.
-#[derive(Drop)]
+#[derive(Clone, Copy)]
 pub struct Segment {
     pub source_start_frame: u32,
     pub source_end_frame: u32,
@@ -12,7 +12,7 @@ pub struct Segment {
 }
 
 // What a survey of a map tells: how many numbers its groups take, and whether all of its numbers are small.
-#[derive(Drop)]
+#[derive(Clone, Copy)]
 pub struct Surveyed {
     pub count: usize,
     pub small: bool,

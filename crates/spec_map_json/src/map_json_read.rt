@@ -1,7 +1,7 @@
 // Types that the definitions of map_json_read name.
 
 // A map read: `places` are the numbers written, six to a segment.
-#[derive(Drop)]
+#[derive(Clone, Copy)]
 pub struct Taken {
     pub number: u32,
     pub timescale: u32,

@@ -2,7 +2,7 @@
 use spec_session::session_state::Head;
 
 // What feed and finish answer: both lengths are those written to the lent output and places, 0 where the call is refused.
-#[derive(Drop)]
+#[derive(Clone, Copy)]
 pub struct Told {
     pub number: u32,
     pub written: usize,
@@ -10,7 +10,7 @@ pub struct Told {
 }
 
 // The text of a feed: its length, and the numbers of the session.
-#[derive(Drop)]
+#[derive(Clone, Copy)]
 pub struct TextIn {
     pub number: u32,
     pub length: usize,

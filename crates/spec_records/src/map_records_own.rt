@@ -3,7 +3,7 @@ use spec_caption::caption_fate::Hit;
 use spec_map::segmap::Made;
 
 // What the map call answers, and the segment that a caption meets.
-#[derive(Drop)]
+#[derive(Clone, Copy)]
 pub struct Through {
     pub made: Made,
     pub hit: Hit,

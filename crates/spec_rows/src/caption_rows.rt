@@ -1,7 +1,7 @@
 // Types that the definitions of caption_rows name.
 
 // A fault's number and line; else whether there is a caption: line, warning (0, 1, 2), start, end, and where its words stand.
-#[derive(Drop)]
+#[derive(Clone, Copy)]
 pub struct Said {
     pub number: u32,
     pub caption: bool,
@@ -14,7 +14,7 @@ pub struct Said {
 }
 
 // The first fault's number and line, and how many captions stand before it.
-#[derive(Drop)]
+#[derive(Clone, Copy)]
 pub struct Walked {
     pub number: u32,
     pub line: u64,

@@ -2,7 +2,7 @@
 use spec_machine::session_counts::Counts;
 
 // What the calls told together.
-#[derive(Drop)]
+#[derive(Clone, Copy)]
 pub struct Ran {
     pub number: u32,
     pub written: usize,

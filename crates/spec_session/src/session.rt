@@ -4,7 +4,7 @@ use spec_ass::ass_columns::Columns;
 use spec_machine::session_counts::Counts;
 
 // What feed and finish hand back: both lengths are those written to the lent output and places.
-#[derive(Drop)]
+#[derive(Clone, Copy)]
 pub struct Fed {
     pub number: u32,
     pub written: usize,
@@ -12,14 +12,14 @@ pub struct Fed {
     pub session: Session,
 }
 
-#[derive(Drop)]
+#[derive(Clone, Copy)]
 pub struct Opened {
     pub number: u32,
     pub session: Session,
 }
 
 // What the loop carries: the open block's bytes end at `start`, those of the unfinished line at `held`.
-#[derive(Drop)]
+#[derive(Clone, Copy)]
 pub struct Going {
     pub number: u32,
     pub lines: u32,

@@ -3,7 +3,7 @@ use spec_ass::ass_columns::Columns;
 use spec_machine::session_counts::Counts;
 
 // What a line told. `skip`: the bytes of a BOM before it; `added`: it joins the open block.
-#[derive(Drop)]
+#[derive(Clone, Copy)]
 pub struct Taken {
     pub number: u32,
     pub skip: usize,
@@ -15,7 +15,7 @@ pub struct Taken {
 }
 
 // What the end of a block told.
-#[derive(Drop)]
+#[derive(Clone, Copy)]
 pub struct Ended {
     pub number: u32,
     pub counts: Counts,

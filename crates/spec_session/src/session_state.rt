@@ -5,7 +5,7 @@ use spec_machine::session_counts::Counts;
 
 // `held` has the bytes that no line or block has taken yet: in ASS the unfinished line; in SRT and WebVTT the open block's lines, then the unfinished line.
 // The first `held_len` bytes count. Behind them our calls leave zeros.
-#[derive(Drop)]
+#[derive(Clone, Copy)]
 pub struct Session {
     pub config: Config,
     pub ended: bool,
@@ -19,7 +19,7 @@ pub struct Session {
 }
 
 // The numbers of a session, apart from the bytes that it holds; `held_len` tells how many there are.
-#[derive(Drop)]
+#[derive(Clone, Copy)]
 pub struct Head {
     pub config: Config,
     pub ended: bool,

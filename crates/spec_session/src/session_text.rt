@@ -4,7 +4,7 @@ use spec_ass::ass_columns::Columns;
 use spec_machine::session_counts::Counts;
 
 // What take_text hands back: both lengths are those written to the lent output and places; what is held afterwards stands in the text from `begin` on.
-#[derive(Drop)]
+#[derive(Clone, Copy)]
 pub struct TextFed {
     pub number: u32,
     pub written: usize,
@@ -14,7 +14,7 @@ pub struct TextFed {
 }
 
 // How far the lines have led: `place` bytes are taken, the open block begins at `begin`. Stopped by a fault, `number` has it.
-#[derive(Drop)]
+#[derive(Clone, Copy)]
 pub struct Lined {
     pub number: u32,
     pub lines: u32,

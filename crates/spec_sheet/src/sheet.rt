@@ -1,7 +1,7 @@
 // Types that the definitions of sheet name.
 
 // Block 0's values.
-#[derive(Drop)]
+#[derive(Clone, Copy)]
 pub struct Head {
     pub timescale: u32,
     pub frames: u32,
@@ -10,7 +10,7 @@ pub struct Head {
 }
 
 // What the check finds: the head, or the number of the refusal.
-#[derive(Drop)]
+#[derive(Clone, Copy)]
 pub enum Sheet {
     Sound(Head),
     Refused(u32),

@@ -1,7 +1,7 @@
 // Types that the definitions of text name.
 
 // What a decimal number reads as.
-#[derive(Drop)]
+#[derive(Clone, Copy)]
 pub enum Number {
     Value(u32),
     Bad,
