@@ -1,0 +1,8 @@
+use Rattle.spec_sheet.proofs.checked_blocks.WordLaws.{word_past, word_at_lem}
+use Rattle.checked_blocks.proofs.words.word.Goals as goal
+
+pub returns-then-whole-i : goal.returns-then-whole-i
+returns-then-whole-i c = search word_past
+
+pub returns : goal.returns
+returns c = search word_at_lem
