@@ -1,0 +1,12 @@
+use Prim.Native.Nat.{◌≤◌, ◌-◌}
+use mathlib.Core.Path.{◌≡◌}
+use lib.ListN.{length, drop}
+use Rattle.spec_json.specs.json.Space.{joined}
+use Rattle.spec_json.specs.json.Str.{chars_width}
+use Rattle.json_strings.proofs.string.chars_width.Given as goal
+
+abbrev pub invariant-loop-at : goal.invariant-loop-at
+invariant-loop-at l = (l.at ≤ length l.s) × (chars_width l.s 0 ≡ joined l.at (chars_width (drop l.at l.s) 0))
+
+abbrev pub decreases-loop-at : goal.decreases-loop-at
+decreases-loop-at l = length l.s - l.at

@@ -1,0 +1,11 @@
+use mathlib.Core.Path.{◌≡◌}
+use lib.ListN.{length}
+use Rattle.spec_text.specs.pattern.Find.{equals}
+use Rattle.spec_json.specs.json.Str.{chars_bytes}
+use Rattle.json_strings.proofs.string.decoded_are.Given as goal
+
+abbrev pub invariant-loop-t : goal.invariant-loop-t
+invariant-loop-t l = equals l.name (chars_bytes l.s 0) ≡ equals l.v (chars_bytes l.t 0)
+
+abbrev pub decreases-loop-t : goal.decreases-loop-t
+decreases-loop-t l = length l.t

@@ -1,0 +1,5 @@
+use Rattle.spec_sheet.proofs.sheet_frames.FrameLaws.{decode_by_is}
+use Rattle.sheet_frames.proofs.access.decode_by.Goals as goal
+
+pub returns : goal.returns
+returns c = search decode_by_is
