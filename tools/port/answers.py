@@ -63,7 +63,27 @@ def split_pair(t):
     return [t[a + 1:b].strip() for a, b in zip(at, at[1:])]
 
 
+def lets(t):
+    """The `let .. in` lines at the head of a term, and the rest."""
+    depth, cut = 0, 0
+    if not t.lstrip().startswith("let "):
+        return "", t
+    for i, ch in enumerate(t):
+        if ch in "([{":
+            depth += 1
+        elif ch in ")]}":
+            depth -= 1
+        elif depth == 0 and re.match(r"\sin\s", t[i:i + 4]):
+            cut = i + 4
+    # a `let` in the value of another one is in parentheses, or its end is the end of the row
+    return t[:cut], t[cut:]
+
+
 def as_record(body, labels):
+    head, tail = lets(body)
+    if head and split_pair(tail):
+        rec = as_record(tail, labels)
+        return rec and [(l, head + t if isinstance(t, str) else t) for l, t in rec]
     n = len(labels)
     parts, rest = [], body
     while len(parts) < n - 1:
