@@ -30,6 +30,8 @@ def labels_of(root, path, kind="ensures"):
     parts = path.split("::")
     crate, mods, fn = parts[0], parts[1:-1], parts[-1]
     src = os.path.join(root, "crates", crate, "src")
+    if not os.path.exists(src):
+        src = os.path.join("/opt/rattle/rattle", crate, "src")
     for cut in range(len(mods), -1, -1):
         for f in ([os.path.join(src, *mods[:cut]) + ".rt"] if cut else [os.path.join(src, "lib.rt"), os.path.join(src, "main.rt")]):
             if not os.path.exists(f):
@@ -40,6 +42,34 @@ def labels_of(root, path, kind="ensures"):
                 head = re.split(r"(?m)^\s*\{\s*$", body, 1)[0]
                 return re.findall(rf"(?m)^\s*{kind} (\w+) \{{", head)
     return []
+
+
+def muts_of(root, path):
+    """The names of the &mut parameters of a function."""
+    parts = path.split("::")
+    src = os.path.join(root, "crates", parts[0], "src")
+    if not os.path.exists(src):
+        src = os.path.join("/opt/rattle/rattle", parts[0], "src")
+    mods, fn = parts[1:-1], parts[-1]
+    for cut in range(len(mods), -1, -1):
+        for f in ([os.path.join(src, *mods[:cut]) + ".rt"] if cut else [os.path.join(src, "lib.rt"), os.path.join(src, "main.rt")]):
+            if not os.path.exists(f):
+                continue
+            m = re.search(rf"(?m)^\s*(?:pub )?(?:unsafe )?(?:extern \"C\" )?fn {re.escape(fn)}\b(?:<[^>]*>)?\(([^)]*)\)", read(f))
+            if m:
+                return re.findall(r"(\w+): &(?:'\w+ )?mut ", m.group(1)) or (["self"] if "&mut self" in m.group(1) else [])
+    return []
+
+
+def by_label(digits, lab):
+    """Old digits of a row of clauses as the label and what is left."""
+    n = len(lab)
+    k = len(digits) - len(digits.lstrip("1"))
+    if digits and (digits[k:k + 1] == "0" and k < n - 1):
+        return "." + lab[k] + "".join("." + d for d in digits[k + 1:])
+    if k >= n - 1:
+        return "." + lab[n - 1] + "".join("." + d for d in digits[n - 1:])
+    return None
 
 
 def split_pair(t):
@@ -141,10 +171,24 @@ class Turn:
                 return "c"
             f = first.group(1)
             rest = fields[first.end():]
+            at_index = {p[0]: i for i, p in enumerate(it["places"])}
+            for p in self.chain(it, at):
+                arm = it["arms"][at_index[p[0]]] if at_index[p[0]] < len(it["arms"]) else None
+                if not arm:
+                    continue
+                for nf, step, path in arm[2]:
+                    tail = "".join("." + x for x in path)
+                    if path and norm(step) == norm(f) and (rest == tail or rest.startswith(tail + ".")):
+                        return f"c.{arm[0]}.{nf}" + rest[len(tail):]
             for p in self.chain(it, at):
                 old, new = p[2]
                 if norm(old) == norm(f) and f:
                     callee = p[3]
+                    mn = re.match(r"\.(new|auto)\.(\d+)", rest)
+                    if callee and mn:
+                        ms = muts_of(self.root, callee)
+                        if int(mn.group(2)) < len(ms):
+                            rest = f".{mn.group(1)}.{ms[int(mn.group(2))]}" + rest[mn.end():]
                     if callee and rest.startswith(".ensures") or callee and rest.startswith(".requires"):
                         kind = "ensures" if rest.startswith(".ensures") else "requires"
                         lab = labels_of(self.root, callee, kind)
@@ -152,6 +196,9 @@ class Turn:
                             mm = re.match(r"\.(?:ensures|requires)((?:\.[01])*)(?![\w])", rest)
                             digits = mm.group(1).replace(".", "") if mm else ""
                             n = len(lab)
+                            if n == 1 and mm and not rest[mm.end():].startswith("." + lab[0]):
+                                rest = f".{kind}.{lab[0]}" + mm.group(1) + rest[mm.end():]
+                                return "c." + new + rest
                             k = len(digits) - len(digits.lstrip("1"))
                             if digits and (digits[k:k + 1] == "0" and k < n - 1 or k >= n - 1):
                                 use = min(k, n - 1)
@@ -159,7 +206,14 @@ class Turn:
                                 rest = f".{kind}.{lab[use]}" + "".join("." + d for d in more) + rest[mm.end():]
                     return "c." + new + rest
             return "c" + fields
-        return re.sub(r"(?<![^\s(){};,])c((?:\.before)*)((?:\." + NAME + ")*)", one, text)
+        text = re.sub(r"(?<![^\s(){};,])c((?:\.before)*)((?:\." + NAME + ")*)", one, text)
+        for m in list(re.finditer(r"let (" + NAME + r") = c\.(" + NAME + r")\.ensures in", text)):
+            callees = [p[3] for p in it["places"] if p[2][1] == m.group(2) and p[3]]
+            lab = labels_of(self.root, callees[0]) if callees else []
+            if len(lab) < 2:
+                continue
+            text = re.sub(r"(?<![^\s(){};,])" + re.escape(m.group(1)) + r"((?:\.[01])+)", lambda q: m.group(1) + (by_label(q.group(1).replace(".", ""), lab) or q.group(1)), text)
+        return text
 
     def turn(self, path):
         """path: proofs/.../Proof.antt below the crate."""
