@@ -5,7 +5,7 @@ pub returns-in_default-f : goal.returns-in_default-f
 returns-in_default-f c = search no_fraction
 
 pub units_from-units-requires : goal.units_from-units-requires
-units_from-units-requires c = let p = c.requires in (p.0, (value_le p.1.0 c.h-1.given.1, (value_le p.1.1.0 c.m-1.given.1, (value_le p.1.1.1.0 c.s-1.given.1, value_le p.1.1.1.1 c.f-1.given.1))))
+units_from-units-requires c = let p = c.requires in (p.0, (value_le p.1.0 c.in-Value.is, (value_le p.1.1.0 c.in-Value-m.is, (value_le p.1.1.1.0 c.in-Value-s.is, value_le p.1.1.1.1 c.in-Value-f.is))))
 
 pub returns : goal.returns
 returns c = search time_joined

@@ -19,7 +19,7 @@ pub put_digits-requires : goal.put_digits-requires
 put_digits-requires c = let a = c.args in omega (arith, rest_length 1 (set a.out.now 0 a.mark), length-set a.out.now 0 a.mark)
 
 pub shape_of-out : goal.shape_of-out
-shape_of-out c = let a = c.args in let l = set a.out.now 0 a.mark in same_len_mid 1 (length l - 1) l c.put_digits.new.0 c.put_digits.auto.0 ∙ length-set a.out.now 0 a.mark
+shape_of-out c = let a = c.args in let l = set a.out.now 0 a.mark in same_len_mid 1 (length l - 1) l c.put_digits.new.out c.put_digits.auto.out ∙ length-set a.out.now 0 a.mark
 
 pub returns : goal.returns
-returns c = let a = c.args in let l = set a.out.now 0 a.mark in put_back 1 (a.mark ∷ []) (pad a.k a.n) a.out.now l c.put_digits.new.0 (put_one a.out.now a.mark (omega arith)) refl c.put_digits.ensures
+returns c = let a = c.args in let l = set a.out.now 0 a.mark in put_back 1 (a.mark ∷ []) (pad a.k a.n) a.out.now l c.put_digits.new.out (put_one a.out.now a.mark (omega arith)) refl c.put_digits.ensures

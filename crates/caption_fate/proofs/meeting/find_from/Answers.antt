@@ -1,0 +1,24 @@
+use Rattle.spec_map.proofs.segment.SegmentLaws.{six_less}
+use Rattle.spec_caption.proofs.caption_fate.GroupedLaws.{seeking_start, seeking_group, seeking_again, seeking_found, seeking_none, seeking_less}
+use Rattle.caption_fate.proofs.meeting.find_from.Goals as goal
+
+pub loop-t-init : goal.loop-t-init
+loop-t-init c = search seeking_start
+
+pub loop-t-smaller-then-group_passed : goal.loop-t-smaller-then-group_passed
+loop-t-smaller-then-group_passed c = search seeking_less
+
+pub loop-t-preserved-then-group_passed : goal.loop-t-preserved-then-group_passed
+loop-t-preserved-then-group_passed c = search seeking_group depth 12
+
+pub returns-then-meets_within : goal.returns-then-meets_within
+returns-then-meets_within c = search seeking_found depth 14
+
+pub loop-t-smaller : goal.loop-t-smaller
+loop-t-smaller c = search six_less
+
+pub loop-t-preserved : goal.loop-t-preserved
+loop-t-preserved c = let e = c in let b = e.before.before.before.before.before.before in seeking_again _ _ _ _ _ _ _ _ _ _ b.before.loop.invariant b.loop-test.true e.before.before.before.word.ensures e.before.before.word2.ensures e.before.meets-within.ensures _ e.if2.false c.words_rest-u.ensures
+
+pub returns : goal.returns
+returns c = search seeking_none
