@@ -157,6 +157,11 @@ class Turn:
 
     def paths(self, it, place, text, where):
         """Rewrites c.before..step.field paths of an answer at a place."""
+        while True:
+            m = re.search(r"let (" + NAME + r") = (c(?:\.before)*) in\s*", text)
+            if not m:
+                break
+            text = text[:m.start()] + re.sub(r"(?<![^\s(){};,])" + re.escape(m.group(1)) + r"(?![^\s(){}.;,])", m.group(2), text[m.end():])
         def one(m):
             befores = m.group(1).count(".before")
             fields = m.group(2)
@@ -207,6 +212,14 @@ class Turn:
                     return "c." + new + rest
             return "c" + fields
         text = re.sub(r"(?<![^\s(){};,])c((?:\.before)*)((?:\." + NAME + ")*)", one, text)
+        for m in list(re.finditer(r"let (" + NAME + r") = c\.(" + NAME + r") in", text)):
+            callees = [p[3] for p in it["places"] if p[2][1] == m.group(2) and p[3]]
+            for kind in ("ensures", "requires"):
+                lab = labels_of(self.root, callees[0], kind) if callees else []
+                if len(lab) >= 2:
+                    text = re.sub(r"(?<![^\s(){};,])" + re.escape(m.group(1)) + r"\." + kind + r"((?:\.[01])+)", lambda q: m.group(1) + "." + kind + (by_label(q.group(1).replace(".", ""), lab) or q.group(1)), text)
+            ms = muts_of(self.root, callees[0]) if callees else []
+            text = re.sub(r"(?<![^\s(){};,])" + re.escape(m.group(1)) + r"\.(new|auto)\.(\d+)", lambda q: f"{m.group(1)}.{q.group(1)}.{ms[int(q.group(2))]}" if int(q.group(2)) < len(ms) else q.group(0), text)
         for m in list(re.finditer(r"let (" + NAME + r") = c\.(" + NAME + r")\.ensures in", text)):
             callees = [p[3] for p in it["places"] if p[2][1] == m.group(2) and p[3]]
             lab = labels_of(self.root, callees[0]) if callees else []

@@ -18,7 +18,7 @@ pub returns-then-n-eq0-clause-value : goal.returns-then-n-eq0-clause-value
 returns-then-n-eq0-clause-value c = search parse_told
 
 pub returns-then-n-eq0-clause-ranges_after : goal.returns-then-n-eq0-clause-ranges_after
-returns-then-n-eq0-clause-ranges_after c = let r = c.read-r in parse_filled _ _ _ _ _ r.result (omega arith) r.ensures.0 c.if-n-eq0.true r.ensures.1.1 c.copy.ensures
+returns-then-n-eq0-clause-ranges_after c = let r = c.read-r in parse_filled _ _ _ _ _ r.result (omega arith) r.ensures.value c.if-n-eq0.true r.ensures.ranges_after c.copy.ensures
 
 pub returns-clause-value : goal.returns-clause-value
 returns-clause-value c = search parse_told
