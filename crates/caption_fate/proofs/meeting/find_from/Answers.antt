@@ -18,7 +18,7 @@ pub loop-t-smaller : goal.loop-t-smaller
 loop-t-smaller c = search six_less
 
 pub loop-t-preserved : goal.loop-t-preserved
-loop-t-preserved c = let e = c in let b = e.before.before.before.before.before.before in seeking_again _ _ _ _ _ _ _ _ _ _ b.before.loop.invariant b.loop-test.true e.before.before.before.word.ensures e.before.before.word2.ensures e.before.meets-within.ensures _ e.if2.false c.words_rest-u.ensures
+loop-t-preserved c = seeking_again _ _ _ _ _ _ _ _ _ _ c.loop-t.invariant c.loop-t-test.true c.word.ensures c.word-in-loop-t.ensures c.meets_within.ensures _ c.if-meets_within.false c.words_rest-u.ensures
 
 pub returns : goal.returns
 returns c = search seeking_none

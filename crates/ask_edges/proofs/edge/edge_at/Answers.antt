@@ -1,0 +1,26 @@
+use Prim.Native.Nat.{◌+◌, ◌≤◌}
+use native.Mathlib.Omega.{arith}
+use Rattle.spec_base.specs.base.Limits.{most_ticks}
+use Rattle.spec_ask.proofs.ask_edges.Fine.{edge_empty, edge_bad, edge_made, edge_sums}
+use Rattle.ask_edges.proofs.edge.edge_at.Goals as goal
+
+sums : (c : tie.Else2) → let s = c.before.before.before in s.args.source + s.args.duration ≤ most_ticks
+sums c = search edge_sums
+
+pub returns-then-duration-eq0 : goal.returns-then-duration-eq0
+returns-then-duration-eq0 c = search edge_empty
+
+pub returns-then-end_bad : goal.returns-then-end_bad
+returns-then-end_bad c = search edge_bad
+
+pub overflow_add-last : goal.overflow_add-last
+overflow_add-last c = let k = sums c in omega arith
+
+pub overflow_add-source : goal.overflow_add-source
+overflow_add-source c = let k = sums c in omega arith
+
+pub overflow_add-last-2 : goal.overflow_add-last-2
+overflow_add-last-2 c = let k = sums c in omega arith
+
+pub returns : goal.returns
+returns c = search edge_made depth 14
