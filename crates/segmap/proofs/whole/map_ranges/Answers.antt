@@ -12,7 +12,7 @@ pub returns-then-f-ne0-clause-map_after : goal.returns-then-f-ne0-clause-map_aft
 returns-then-f-ne0-clause-map_after c = search list_map
 
 pub keep-g-requires : goal.keep-g-requires
-keep-g-requires c = let few : c.ranges-of.result.count ≤ most_segments = search count_few in (search frames_few, search rules, few, omega arith, omega arith)
+keep-g-requires c = let few : c.ranges_of-parsed.result.count ≤ most_segments = search count_few in (search frames_few, search rules, few, omega arith, omega arith)
 
 pub returns-then-g-ne0-clause-value : goal.returns-then-g-ne0-clause-value
 returns-then-g-ne0-clause-value c = search ranges_made fits 20000

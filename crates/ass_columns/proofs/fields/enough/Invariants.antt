@@ -1,0 +1,11 @@
+use mathlib.Core.Path.{◌≡◌}
+use lib.Dec.{leb}
+use lib.ListN.{length}
+use Rattle.spec_ass.specs.ass_columns.Columns.{fields}
+use Rattle.ass_columns.proofs.fields.enough.Given as goal
+
+abbrev pub invariant-loop-t : goal.invariant-loop-t
+invariant-loop-t l = leb l.left (length (fields l.left l.t)) ≡ leb l.columns (length (fields l.columns l.s))
+
+abbrev pub decreases-loop-t : goal.decreases-loop-t
+decreases-loop-t l = length l.t
