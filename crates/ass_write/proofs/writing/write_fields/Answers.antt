@@ -35,7 +35,7 @@ pub slice_bounds-write_comma-end : goal.slice_bounds-write_comma-end
 slice_bounds-write_comma-end c = omega (arith, placed_room _ _ _ c.write_field-n.ensures.0, c.loop-t.invariant.room)
 
 pub overflow_add-at-in-loop-t : goal.overflow_add-at-in-loop-t
-overflow_add-at-in-loop-t c = omega (arith, placed_room _ _ _ c.write_comma-m.ensures.0, placed_room _ _ _ c.write_field-n.ensures.0, c.loop-t.invariant.room, c.well-formed)
+overflow_add-at-in-loop-t c = omega (arith, placed_room _ _ _ c.write_comma-m.ensures.0, placed_room _ _ _ c.write_field-n.ensures.0, c.loop-t.invariant.room, c.well_formed)
 
 pub loop-t-preserved : goal.loop-t-preserved
 loop-t-preserved c = fields_again _ _ _ _ _ _ _ _ _ _ _ _ _ _ _ _ _ c.loop-t.invariant c.field_length-i.ensures refl (at_back _ _ _ _ _ c.loop-t.invariant.room c.write_field-n.ensures.0 c.write_field-n.ensures.1) _ _ _ c.if-t-i.false (at_back _ _ _ _ _ (after_room _ _ _ _ _ c.loop-t.invariant.room (at_back _ _ _ _ _ c.loop-t.invariant.room c.write_field-n.ensures.0 c.write_field-n.ensures.1)) c.write_comma-m.ensures.0 c.write_comma-m.ensures.1) c.rest-u.ensures

@@ -16,7 +16,7 @@ pub slice_bounds-bytes-end : goal.slice_bounds-bytes-end
 slice_bounds-bytes-end c = omega (arith, frame_room _ _ _ _ _ _ (omega (arith, placed_room _ _ _ c.bytes-first.ensures.0)) c.write_fields-last.ensures.0)
 
 pub overflow_add-result : goal.overflow_add-result
-overflow_add-result c = omega (arith, frame_room _ _ _ _ _ _ (omega (arith, placed_room _ _ _ c.bytes-first.ensures.0)) c.write_fields-last.ensures.0, placed_room _ _ _ c.bytes-n.ensures.0, c.well-formed)
+overflow_add-result c = omega (arith, frame_room _ _ _ _ _ _ (omega (arith, placed_room _ _ _ c.bytes-first.ensures.0)) c.write_fields-last.ensures.0, placed_room _ _ _ c.bytes-n.ensures.0, c.well_formed)
 
 pub returns : goal.returns
 returns c = line_written _ _ _ _ _ _ _ _ _ _ _ _ _ _ _ (at_start _ _ _ _ c.bytes-first.ensures) c.write_fields-last.ensures (at_back _ _ _ _ _ (omega (arith, frame_room _ _ _ _ _ _ (omega (arith, placed_room _ _ _ c.bytes-first.ensures.0)) c.write_fields-last.ensures.0)) c.bytes-n.ensures.0 c.bytes-n.ensures.1)
