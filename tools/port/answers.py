@@ -22,7 +22,7 @@ def read(path):
 
 
 def norm(name):
-    return name.replace("_", "-")
+    return name.replace("_", "-").lower()
 
 
 def labels_of(root, path, kind="ensures"):
@@ -141,7 +141,7 @@ class Turn:
     def paths(self, it, place, text, where):
         """Rewrites c.before..step.field paths of an answer at a place."""
         while True:
-            m = re.search(r"let (" + NAME + r") = (c(?:\.before)*) in\s*", text)
+            m = re.search(r"let (" + NAME + r") = (c(?:\.before(?![\w-]))*) in\s*", text)
             if not m:
                 break
             text = text[:m.start()] + re.sub(r"(?<![^\s(){};,])" + re.escape(m.group(1)) + r"(?![^\s(){}.;,])", m.group(2), text[m.end():])
@@ -197,7 +197,7 @@ class Turn:
                 if again != "c" + fields:
                     return again
             return "c" + re.sub(r"^\.(well|type)-(formed|inv)", r".\1_\2", fields)
-        text = re.sub(r"(?<![^\s(){};,])c((?:\.before)*)((?:\." + NAME + ")*)", one, text)
+        text = re.sub(r"(?<![^\s(){};,])c((?:\.before(?![\w-]))*)((?:\." + NAME + ")*)", one, text)
         for m in list(re.finditer(r"let (" + NAME + r") = c\.(" + NAME + r") in", text)):
             callees = [p[3] for p in it["places"] if p[2][1] == m.group(2) and p[3]]
             for kind in ("ensures", "requires"):
