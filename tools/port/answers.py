@@ -173,7 +173,7 @@ class Turn:
                     break
             first = re.match(r"\.(" + NAME + ")", fields)
             if not first:
-                return "c"
+                return m.group(0)
             f = first.group(1)
             rest = fields[first.end():]
             at_index = {p[0]: i for i, p in enumerate(it["places"])}
@@ -210,6 +210,10 @@ class Turn:
                                 more = digits[use + 1:] if k < n - 1 else digits[n - 1:]
                                 rest = f".{kind}.{lab[use]}" + "".join("." + d for d in more) + rest[mm.end():]
                     return "c." + new + rest
+            if befores and at != place:
+                again = self.paths(it, place, "c" + fields, where)
+                if again != "c" + fields:
+                    return again
             return "c" + fields
         text = re.sub(r"(?<![^\s(){};,])c((?:\.before)*)((?:\." + NAME + ")*)", one, text)
         for m in list(re.finditer(r"let (" + NAME + r") = c\.(" + NAME + r") in", text)):
@@ -273,7 +277,13 @@ class Turn:
                 k += 1
             need = re.search(r"tie\.(Need-|invariant-|decreases-)(" + NAME + ")", sig)
             if not need:
-                helpers.append(b)
+                at = None
+                for q in re.findall(r"tie\.(" + NAME + ")", b):
+                    for p, new in zip(it["places"], it["places_by_name"]):
+                        if norm(p[0]) == norm(q):
+                            at = at or p[0]
+                            b = re.sub(r"tie\." + re.escape(q) + r"(?![^\s(){}.;,])", "goal." + new, b)
+                helpers.append(self.paths(it, at, b, path) if at else b)
                 continue
             body = "\n".join(lines[k:])
             mb = re.match(re.escape(name) + r"((?: [^\s=]+)*) =\s*", body)
@@ -290,6 +300,16 @@ class Turn:
                 got = needs.get(key) or needs.get(alt) or needs.get(re.sub(r"^overflow-", "", key)) or needs.get(norm(name))
                 if term in ("search rules", "search needs") and not unfold:
                     continue
+                if not got and (kind := re.match(r"(?:overflow-)?(add|sub|mul|cast|shl|shr)-", key)):
+                    # by its turn among those of one kind that have other names
+                    mine = [k for k in re.findall(r"tie\.Need-(" + NAME + ")", text) if re.match(rf"(?:overflow-)?{kind.group(1)}-", norm(k))]
+                    theirs = [(old, new, pl[0]) for (old, new), pl in zip(it["needs"], it["asked_at"]) if re.match(rf"{kind.group(1)}-", norm(old))]
+                    taken = {norm(k) for k in mine} | {re.sub("^overflow-", "", norm(k)) for k in mine}
+                    lone = [k for k in mine if norm(k) not in needs and re.sub("^overflow-", "", norm(k)) not in needs]
+                    free = [x for x in theirs if norm(x[0]) not in taken]
+                    if need.group(2) in lone and len(lone) == len(free):
+                        _, a, pl = free[lone.index(need.group(2))]
+                        got = (a, pl)
                 if not got:
                     self.say(path, f"goal {need.group(2)} ({name}) = {term[:100]}")
                     continue
@@ -327,17 +347,15 @@ class Turn:
                     self.say(path, f"loop {need.group(2)}")
                     continue
                 new, vs, changed = loop
-                to, k2 = {}, 0
-                if len(params) != len(vs) + sum(changed):
+                to, now = {}, sum(changed)
+                middle = params[len(vs):len(params) - now]
+                if len(params) < len(vs) + now or any(re.search(r"(?<![^\s(){};,])" + re.escape(x) + r"(?![^\s(){}.;,])", term) for x in middle):
                     self.say(path, f"parameters of {name}: {params} for {vs} {changed}")
                     continue
-                for v, ch in zip(vs, changed):
-                    to[params[k2]] = f"l.initial.{v}" if ch else f"l.{v}"
-                    k2 += 1
-                for v, ch in zip(vs, changed):
-                    if ch:
-                        to[params[k2]] = f"l.{v}"
-                        k2 += 1
+                for v, ch, x in zip(vs, changed, params):
+                    to[x] = f"l.initial.{v}" if ch else f"l.{v}"
+                for v, x in zip([v for v, ch in zip(vs, changed) if ch], params[len(params) - now:]):
+                    to[x] = f"l.{v}"
                 term = re.sub(r"(?<![^\s(){};,])" + NAME, lambda q: to.get(q.group(0), q.group(0)), term)
                 unf = "".join(u + "\n" for u in unfold)
                 inv.append(f"abbrev pub {kind}-{new} : goal.{kind}-{new}\n{unf}{kind}-{new} l = {term}")
