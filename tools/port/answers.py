@@ -22,7 +22,7 @@ def read(path):
 
 
 def norm(name):
-    return name.replace("_", "-")
+    return name.replace("_", "-").lower()
 
 
 def labels_of(root, path, kind="ensures"):
@@ -41,23 +41,6 @@ def labels_of(root, path, kind="ensures"):
                 body = read(f)[m.start():]
                 head = re.split(r"(?m)^\s*\{\s*$", body, 1)[0]
                 return re.findall(rf"(?m)^\s*{kind} (\w+) \{{", head)
-    return []
-
-
-def muts_of(root, path):
-    """The names of the &mut parameters of a function."""
-    parts = path.split("::")
-    src = os.path.join(root, "crates", parts[0], "src")
-    if not os.path.exists(src):
-        src = os.path.join("/opt/rattle/rattle", parts[0], "src")
-    mods, fn = parts[1:-1], parts[-1]
-    for cut in range(len(mods), -1, -1):
-        for f in ([os.path.join(src, *mods[:cut]) + ".rt"] if cut else [os.path.join(src, "lib.rt"), os.path.join(src, "main.rt")]):
-            if not os.path.exists(f):
-                continue
-            m = re.search(rf"(?m)^\s*(?:pub )?(?:unsafe )?(?:extern \"C\" )?fn {re.escape(fn)}\b(?:<[^>]*>)?\(([^)]*)\)", read(f))
-            if m:
-                return re.findall(r"(\w+): &(?:'\w+ )?mut ", m.group(1)) or (["self"] if "&mut self" in m.group(1) else [])
     return []
 
 
@@ -158,7 +141,7 @@ class Turn:
     def paths(self, it, place, text, where):
         """Rewrites c.before..step.field paths of an answer at a place."""
         while True:
-            m = re.search(r"let (" + NAME + r") = (c(?:\.before)*) in\s*", text)
+            m = re.search(r"let (" + NAME + r") = (c(?:\.before(?![\w-]))*) in\s*", text)
             if not m:
                 break
             text = text[:m.start()] + re.sub(r"(?<![^\s(){};,])" + re.escape(m.group(1)) + r"(?![^\s(){}.;,])", m.group(2), text[m.end():])
@@ -189,11 +172,10 @@ class Turn:
                 old, new = p[2]
                 if norm(old) == norm(f) and f:
                     callee = p[3]
-                    mn = re.match(r"\.(new|auto)\.(\d+)", rest)
-                    if callee and mn:
-                        ms = muts_of(self.root, callee)
-                        if int(mn.group(2)) < len(ms):
-                            rest = f".{mn.group(1)}.{ms[int(mn.group(2))]}" + rest[mn.end():]
+                    mn = re.match(r"\.(new|auto)((?:\.1)*)\.0", rest)
+                    ms = it["params"].get(callee) if callee else None
+                    if ms and mn and mn.group(2).count("1") < len(ms):
+                        rest = f".{mn.group(1)}.{ms[mn.group(2).count('1')]}" + rest[mn.end():]
                     if callee and rest.startswith(".ensures") or callee and rest.startswith(".requires"):
                         kind = "ensures" if rest.startswith(".ensures") else "requires"
                         lab = labels_of(self.root, callee, kind)
@@ -214,16 +196,16 @@ class Turn:
                 again = self.paths(it, place, "c" + fields, where)
                 if again != "c" + fields:
                     return again
-            return "c" + fields
-        text = re.sub(r"(?<![^\s(){};,])c((?:\.before)*)((?:\." + NAME + ")*)", one, text)
+            return "c" + re.sub(r"^\.(well|type)-(formed|inv)", r".\1_\2", fields)
+        text = re.sub(r"(?<![^\s(){};,])c((?:\.before(?![\w-]))*)((?:\." + NAME + ")*)", one, text)
         for m in list(re.finditer(r"let (" + NAME + r") = c\.(" + NAME + r") in", text)):
             callees = [p[3] for p in it["places"] if p[2][1] == m.group(2) and p[3]]
             for kind in ("ensures", "requires"):
                 lab = labels_of(self.root, callees[0], kind) if callees else []
                 if len(lab) >= 2:
                     text = re.sub(r"(?<![^\s(){};,])" + re.escape(m.group(1)) + r"\." + kind + r"((?:\.[01])+)", lambda q: m.group(1) + "." + kind + (by_label(q.group(1).replace(".", ""), lab) or q.group(1)), text)
-            ms = muts_of(self.root, callees[0]) if callees else []
-            text = re.sub(r"(?<![^\s(){};,])" + re.escape(m.group(1)) + r"\.(new|auto)\.(\d+)", lambda q: f"{m.group(1)}.{q.group(1)}.{ms[int(q.group(2))]}" if int(q.group(2)) < len(ms) else q.group(0), text)
+            ms = (it["params"].get(callees[0]) if callees else None) or []
+            text = re.sub(r"(?<![^\s(){};,])" + re.escape(m.group(1)) + r"\.(new|auto)((?:\.1)*)\.0", lambda q: f"{m.group(1)}.{q.group(1)}.{ms[q.group(2).count('1')]}" if q.group(2).count("1") < len(ms) else q.group(0), text)
         for m in list(re.finditer(r"let (" + NAME + r") = c\.(" + NAME + r")\.ensures in", text)):
             callees = [p[3] for p in it["places"] if p[2][1] == m.group(2) and p[3]]
             lab = labels_of(self.root, callees[0]) if callees else []
