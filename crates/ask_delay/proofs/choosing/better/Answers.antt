@@ -1,0 +1,8 @@
+use Rattle.ask_delay.proofs.ChoiceLaws.{better_yes, better_no}
+use Rattle.ask_delay.proofs.choosing.better.Goals as goal
+
+pub returns-then-loss-best : goal.returns-then-loss-best
+returns-then-loss-best c = search better_yes
+
+pub returns : goal.returns
+returns c = search better_no
