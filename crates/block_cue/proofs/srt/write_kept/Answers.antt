@@ -5,8 +5,8 @@ use Rattle.spec_time.proofs.caption_stamp.Written.{text_23}
 use Rattle.spec_cue.proofs.block_cue.WriteLaws.{frame_written}
 use Rattle.block_cue.proofs.srt.write_kept.Goals as goal
 
-words : (c : goal.Start) → (c.args.new.start < 2 ^ 64) × (c.args.new.stop < 2 ^ 64)
-words c = (omega arith, omega arith)
-
 pub returns : goal.returns
-returns c = frame_written _ (time_text c.args.kind c.args.new.start_mark c.args.new.start) (time_text c.args.kind c.args.new.stop_mark c.args.new.stop) _ _ _ _ _ _ _ _ _ _ _ _ _ _ _ _ _ _ (text_23 _ _ _ (words c.before.before.before.before.before.before.before.before.before.before.before.before.before.before.before.before.before.before.before.before.before.before.before.before.before.before.before.before.before.before.before.before.before).0) (text_23 _ _ _ (words c.before.before.before.before.before.before.before.before.before.before.before.before.before.before.before.before.before.before.before.before.before.before.before.before.before.before.before.before.before.before.before.before.before).1) c.requires c.bytes_at-a.ensures c.write_time_at-b.ensures c.put_arrow-c.ensures c.write_time_at-d.ensures c.bytes_at-e.ensures c.bytes_at-f.ensures c.bytes_at.ensures
+returns c =
+    let first : c.args.new.start < 2 ^ 64 = omega arith in
+    let last : c.args.new.stop < 2 ^ 64 = omega arith in
+    frame_written _ (time_text c.args.kind c.args.new.start_mark c.args.new.start) (time_text c.args.kind c.args.new.stop_mark c.args.new.stop) _ _ _ _ _ _ _ _ _ _ _ _ _ _ _ _ _ _ (text_23 _ _ _ first) (text_23 _ _ _ last) c.requires c.bytes_at-a.ensures c.write_time_at-b.ensures c.put_arrow-c.ensures c.write_time_at-d.ensures c.bytes_at-e.ensures c.bytes_at-f.ensures c.bytes_at.ensures
