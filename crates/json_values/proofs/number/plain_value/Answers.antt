@@ -1,6 +1,5 @@
 use native.Mathlib.Omega.{arith}
 use borrow.Author.Rules.{rules}
-use Prim.Native.Nat.{◌-◌}
 use mathlib.Core.Path.{refl}
 use Rattle.spec_json.proofs.json.NumberLaws.{plain_none, plain_lead, plain_low, plain_high, plain_small, plain_over, plain_value}
 use Rattle.spec_text.proofs.text.Laws.{digits_again, value_again, digit_some}
