@@ -24,10 +24,10 @@ pub returns-then-trims_to_section-clause-columns : goal.returns-then-trims_to_se
 returns-then-trims_to_section-clause-columns c = let whole = let a = c.args in line_section a.config (segments_by a.groups.now a.map.now) a.columns a.n a.text.now _ a.out.now _ a.warnings.now _ c.if-out-text.false c.if-warnings-lt4.false _ _ _ c.text_of.ensures (trim_by _ _ _ c.trim_head-s.ensures c.trim_tail-t.ensures) (c.trims_to_section.ensures ∙ ap bracketed (sym c.trim_tail-t.ensures)) _ _ c.if-trims_to_section.true c.names_events.ensures c.in_section-next.ensures refl c.stayed-told.ensures in whole.1
 
 pub returns-then-columns-clause-told : goal.returns-then-columns-clause-told
-returns-then-columns-clause-told c = let whole = let a = c.args in line_events a.config (segments_by a.groups.now a.map.now) a.columns a.n a.text.now _ a.out.now _ a.warnings.now _ c.if-out-text.false c.if-warnings-lt4.false _ _ _ c.text_of.ensures (trim_by _ _ _ c.trim_head-s.ensures refl) c.trims_to_section.ensures c.if-trims_to_section.false _ c.if-columns.true c.event_line.ensures in whole.0
+returns-then-columns-clause-told c = let whole = let a = c.args in line_events a.config (segments_by a.groups.now a.map.now) a.columns a.n a.text.now _ a.out.now _ a.warnings.now _ c.if-out-text.false c.if-warnings-lt4.false _ _ _ c.text_of.ensures (trim_by _ _ _ c.trim_head-s.ensures refl) c.trims_to_section.ensures c.if-trims_to_section.false _ c.if-columns.true (c.event_line.ensures.told, c.event_line.ensures.columns) in whole.0
 
 pub returns-then-columns-clause-columns : goal.returns-then-columns-clause-columns
-returns-then-columns-clause-columns c = let whole = let a = c.args in line_events a.config (segments_by a.groups.now a.map.now) a.columns a.n a.text.now _ a.out.now _ a.warnings.now _ c.if-out-text.false c.if-warnings-lt4.false _ _ _ c.text_of.ensures (trim_by _ _ _ c.trim_head-s.ensures refl) c.trims_to_section.ensures c.if-trims_to_section.false _ c.if-columns.true c.event_line.ensures in whole.1
+returns-then-columns-clause-columns c = let whole = let a = c.args in line_events a.config (segments_by a.groups.now a.map.now) a.columns a.n a.text.now _ a.out.now _ a.warnings.now _ c.if-out-text.false c.if-warnings-lt4.false _ _ _ c.text_of.ensures (trim_by _ _ _ c.trim_head-s.ensures refl) c.trims_to_section.ensures c.if-trims_to_section.false _ c.if-columns.true (c.event_line.ensures.told, c.event_line.ensures.columns) in whole.1
 
 pub returns-clause-told : goal.returns-clause-told
 returns-clause-told c = let whole = let a = c.args in line_other a.config (segments_by a.groups.now a.map.now) a.columns a.n a.text.now _ a.out.now _ a.warnings.now _ c.if-out-text.false c.if-warnings-lt4.false _ _ _ c.text_of.ensures (trim_by _ _ _ c.trim_head-s.ensures refl) c.trims_to_section.ensures c.if-trims_to_section.false c.if-columns.false refl c.stayed-told-2.ensures in whole.0
