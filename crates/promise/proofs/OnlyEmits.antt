@@ -54,6 +54,10 @@ module _ (c : Config) (m : List Segment) where
 
 pub one_right : OneRight
 one_right c m [] [] [] Forall₂.nil Forall₂.nil = refl
+one_right c m [] [] (f ∷ fs) _ b = elim b [ ]
+one_right c m [] (e ∷ es) fs a _ = elim a [ ]
+one_right c m (p ∷ ps) [] fs a _ = elim a [ ]
+one_right c m (p ∷ ps) (e ∷ es) [] _ b = elim b [ ]
 one_right c m (p ∷ ps) (e ∷ es) (f ∷ fs) (Forall₂.cons a xs) (Forall₂.cons b ys) =
     ap₂ (λ (x : Emit) (xs : List Emit). x ∷ xs) (part_only c m p e f a b) (one_right c m ps es fs xs ys)
 

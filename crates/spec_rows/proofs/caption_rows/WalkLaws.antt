@@ -63,7 +63,7 @@ pub record AssAt (text : List ℕ) (mark : ℕ) (l₀ l : List ℕ) (c : Columns
   pub few : n ≤ i
   pub fewer : k ≤ n
   pub marked : x ≤ mark
-  pub mark_in_lem : mark ≤ length text
+  pub mark_in : mark ≤ length text
   pub short : length text ≤ most_taken
 
 pub ass_start : (text : List ℕ) (mark : ℕ) (l : List ℕ) → (mark ≤ length text) × (length text ≤ most_taken) → AssAt text mark l l no_columns mark mark 0 0 0
@@ -74,7 +74,7 @@ ass_start text mark l h =
       few = omega arith;
       fewer = omega arith;
       marked = omega arith;
-      mark_in_lem = h.0;
+      mark_in = h.0;
       short = h.1;
     }
 
