@@ -143,7 +143,7 @@ module _ (text : List ℕ) (mark : ℕ) (l₀ l : List ℕ) (c : Columns) (x i n
             few = omega (arith, q.some, a.few);
             fewer = omega (arith, ek, one, a.fewer);
             marked = omega arith;
-            mark_in_lem = a.mark_in;
+            mark_in = a.mark_in;
             short = a.short;
           }
 
