@@ -85,6 +85,6 @@ enums =
       number_to = signed;
       read_time = says_time;
       check = λ s lent r e. record { number = ap number_of e ∙ number_is s lent; values = ap values_of e ∙ sheet_values s lent };
-      find_hit = λ m a b r e. ap hit_case e ∙ hit_case_lem (find_hit m a b);
+      found_hit = λ m a b r e. ap hit_case e ∙ hit_case_lem (find_hit m a b);
       decide = λ c m S E r e. ap decision_case e ∙ decided c (ticks_within c.kind c.timescale S) (ticks_within c.kind c.timescale E) (find_hit m (ticks_within c.kind c.timescale S) (ticks_within c.kind c.timescale E));
     }

@@ -61,7 +61,7 @@ pub record Enums : Type 0 where
   -- sheet::check
   pub check : (s : List ℕ) (lent : ℕ) (r : Sheet) → r ≡ sheet_of s lent → SaysSheet s lent r
   -- event::find_hit, segments::find_hit
-  pub find_hit : (m : List Segment) (a b : ℕ) (r : Hit) → r ≡ hit_of (find_hit m a b) → hit_case r ≡ found_case (find_hit m a b)
+  pub found_hit : (m : List Segment) (a b : ℕ) (r : Hit) → r ≡ hit_of (find_hit m a b) → hit_case r ≡ found_case (find_hit m a b)
   -- event::decide
   pub decide : (c : Config) (m : List Segment) (S E : ℕ) (r : Decision) → r ≡ decide_in c m S E
       → decision_case r
