@@ -1,0 +1,5 @@
+use Rattle.spec_parking.proofs.parking.TakeLaws.{refused_is}
+use Rattle.parking.proofs.taking.refused.Goals as goal
+
+pub returns : goal.returns
+returns c = search refused_is
