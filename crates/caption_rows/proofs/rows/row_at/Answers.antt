@@ -1,0 +1,8 @@
+use Rattle.spec_rows.proofs.caption_rows.RowLaws.{some_place, some_rows, none_place, none_rows}
+use Rattle.caption_rows.proofs.rows.row_at.Goals as goal
+
+pub returns-then-said : goal.returns-then-said
+returns-then-said c = (search some_place, search some_rows)
+
+pub returns : goal.returns
+returns c = (search none_place, search none_rows)
