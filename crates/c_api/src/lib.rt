@@ -16,8 +16,7 @@ pub use maps::{retimer_map, retimer_map_read, retimer_map_write};
 pub use questions::{retimer_best_delay, retimer_census, retimer_rough, retimer_why};
 
 // The frame sheet's number: 0, 11 to 14, 16, 25 or 26. The work bytes are n / 8, rounded up, or more; 131,072 are always enough. Those needed end zero.
-#[unsafe(no_mangle)]
-pub extern "C" fn retimer_sheet_check(sheet: &[u8], work: &mut [u8]) -> u32
+pub fn retimer_sheet_check(sheet: &[u8], work: &mut [u8]) -> u32
     ensures value { result ≡ number_of (sheet_of sheet.now (length work.old)) }
     ensures work_after { work.new ≡ work_after sheet.now work.old }
 {
@@ -25,16 +24,14 @@ pub extern "C" fn retimer_sheet_check(sheet: &[u8], work: &mut [u8]) -> u32
 }
 
 // The trim list's number: 0, 2 to 7, or 20.
-#[unsafe(no_mangle)]
-pub extern "C" fn retimer_list_check(list: &[u8]) -> u32
+pub fn retimer_list_check(list: &[u8]) -> u32
     ensures { result ≡ list_number list.now }
 {
     trim::check(list)
 }
 
 // Units to ticks, down; 0 when refused.
-#[unsafe(no_mangle)]
-pub extern "C" fn retimer_units_to_ticks(value: u64, timescale: u32, kind: u32) -> u64
+pub fn retimer_units_to_ticks(value: u64, timescale: u32, kind: u32) -> u64
     ensures { result ≡ (converted_to (units_number kind timescale value) (ticks_of timescale (units_of kind) value)).value }
 {
     let c = caption_time::units_to_ticks(value, timescale, kind);
@@ -42,8 +39,7 @@ pub extern "C" fn retimer_units_to_ticks(value: u64, timescale: u32, kind: u32) 
 }
 
 // Ticks to units, down; 0 when refused.
-#[unsafe(no_mangle)]
-pub extern "C" fn retimer_ticks_to_units_floor(value: u64, timescale: u32, kind: u32) -> u64
+pub fn retimer_ticks_to_units_floor(value: u64, timescale: u32, kind: u32) -> u64
     ensures { result ≡ (converted_to (ticks_number kind timescale value) (start_units timescale (units_of kind) value)).value }
 {
     let c = caption_time::ticks_to_units_floor(value, timescale, kind);
@@ -51,8 +47,7 @@ pub extern "C" fn retimer_ticks_to_units_floor(value: u64, timescale: u32, kind:
 }
 
 // Ticks to units, up; 0 when refused.
-#[unsafe(no_mangle)]
-pub extern "C" fn retimer_ticks_to_units_ceil(value: u64, timescale: u32, kind: u32) -> u64
+pub fn retimer_ticks_to_units_ceil(value: u64, timescale: u32, kind: u32) -> u64
     ensures { result ≡ (converted_to (ticks_number kind timescale value) (end_units timescale (units_of kind) value)).value }
 {
     let c = caption_time::ticks_to_units_ceil(value, timescale, kind);
@@ -60,16 +55,14 @@ pub extern "C" fn retimer_ticks_to_units_ceil(value: u64, timescale: u32, kind: 
 }
 
 // The number of a conversion from units: 0, 15 or 16.
-#[unsafe(no_mangle)]
-pub extern "C" fn retimer_units_number(value: u64, timescale: u32, kind: u32) -> u32
+pub fn retimer_units_number(value: u64, timescale: u32, kind: u32) -> u32
     ensures { result ≡ units_number kind timescale value }
 {
     caption_time::units_number(value, timescale, kind)
 }
 
 // The number of a conversion from ticks: 0, 15 or 16.
-#[unsafe(no_mangle)]
-pub extern "C" fn retimer_ticks_number(value: u64, timescale: u32, kind: u32) -> u32
+pub fn retimer_ticks_number(value: u64, timescale: u32, kind: u32) -> u32
     ensures { result ≡ ticks_number kind timescale value }
 {
     caption_time::ticks_number(value, timescale, kind)

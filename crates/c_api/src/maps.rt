@@ -11,8 +11,7 @@ ghost use Rattle.spec_map_json.specs.map_json_read.MapRead.{read_number};
 
 // 0, or 2 to 14, 16, 20, 25 or 26. With 0 the map stands at the start of `map`, six numbers to a segment, and the two places tell the sheet's timescale and
 // how many segments there are; else these stay as they were. The work bytes are for the sheet's check.
-#[unsafe(no_mangle)]
-pub extern "C" fn retimer_map(
+pub fn retimer_map(
     sheet: &[u8],
     list: &[u8],
     direction: u32,
@@ -38,8 +37,7 @@ pub extern "C" fn retimer_map(
 }
 
 // 0, 15, 16 or 20. With 0 the JSON text stands at the start of `text`, and `written` is its length; else both stay as they were.
-#[unsafe(no_mangle)]
-pub extern "C" fn retimer_map_write(
+pub fn retimer_map_write(
     map: &[u64],
     timescale: u32,
     rate_num: u32,
@@ -60,8 +58,7 @@ pub extern "C" fn retimer_map_write(
 
 // 0, 23, 15 or 16. With 0 the map's numbers stand at the start of `map`, six to a segment, and the input path at the start of `path`, and the six places tell
 // the timescale, the frame rate, the frame count and how many numbers and bytes were written; else all stay as they were.
-#[unsafe(no_mangle)]
-pub extern "C" fn retimer_map_read(
+pub fn retimer_map_read(
     text: &[u8],
     map: &mut [u64],
     path: &mut [u8],

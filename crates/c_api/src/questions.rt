@@ -9,8 +9,7 @@ ghost use Rattle.spec_ask.specs.ask_delay.BestDelay.{delay_answer};
 
 // 0, 15 or 16. With 0 the four places tell the fate (0 dropped, 1 shifted, 2 clipped), the place of the segment that is met, from 0, and the ticks cut off at each
 // end; of a dropped caption the causes stand at the start of `causes`. Else all stay as they were.
-#[unsafe(no_mangle)]
-pub extern "C" fn retimer_why(
+pub fn retimer_why(
     map: &[u64],
     timescale: u32,
     kind: u32,
@@ -40,8 +39,7 @@ pub extern "C" fn retimer_why(
 }
 
 // 0, 15 or 16. With 0 the judgement is 0 surely dropped, 1 surely kept, 2 unsure; else it stays as it was.
-#[unsafe(no_mangle)]
-pub extern "C" fn retimer_rough(
+pub fn retimer_rough(
     map: &[u64],
     start_low: u64,
     start_high: u64,
@@ -58,8 +56,7 @@ pub extern "C" fn retimer_rough(
 }
 
 // The number of a count of starts: 0, 15, 16 or 28; the three counts go to the lent places, which stay as they were where it is refused.
-#[unsafe(no_mangle)]
-pub extern "C" fn retimer_census(
+pub fn retimer_census(
     map: &[u64],
     timescale: u32,
     kind: u32,
@@ -83,8 +80,7 @@ pub extern "C" fn retimer_census(
 }
 
 // The number of a search for the best delay: 0, 15, 16 or 29; the delay, its loss, the tries and how far off it can be go to the lent places, which stay as they were where it is refused.
-#[unsafe(no_mangle)]
-pub extern "C" fn retimer_best_delay(
+pub fn retimer_best_delay(
     map: &[u64],
     timescale: u32,
     kind: u32,
