@@ -24,7 +24,7 @@ pub loop-i-smaller : goal.loop-i-smaller
 loop-i-smaller c = omega arith
 
 pub loop-i-preserved : goal.loop-i-preserved
-loop-i-preserved c = let l = c.loop-i in ( rw length-set (omega arith), ( rw length-set l.invariant.1.0, pad_back l.i l.rest l.out (omega arith) (omega arith) ∙ l.invariant.1.1, ), )
+loop-i-preserved c = let l = c.loop-i in (rw length-set (omega arith), (rw length-set l.invariant.1.0, pad_back l.i l.rest l.out (omega arith) (omega arith) ∙ l.invariant.1.1))
 
 pub shape_of-out : goal.shape_of-out
 shape_of-out c = c.loop-i.invariant.1.0

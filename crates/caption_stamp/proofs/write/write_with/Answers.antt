@@ -18,4 +18,4 @@ pub returns-then-out-size : goal.returns-then-out-size
 returns-then-out-size c = let a = c.args in let t = text_with a.unit a.frac a.least a.mark a.units in let o = a.out.now in let n = text_length a.unit a.frac a.least a.mark a.units in let w = c.digits_of-w.ensures in (sym (length_no t o (omega arith)), sym (placed_no t o (omega arith)))
 
 pub returns : goal.returns
-returns c = let a = c.args in let t = text_with a.unit a.frac a.least a.mark a.units in let o = a.out.now in let n = text_length a.unit a.frac a.least a.mark a.units in let w = c.digits_of-w.ensures in let room = c.if-out-size.false in ( sym (length_yes t o (omega arith) ∙ omega arith), text_put a.unit a.frac a.least a.mark a.units c.digits_of-w.result o c.put_digits.new.out c.put_part.new.out c.put_part-2.new.out c.put_part-3.new.out w _ _ c.put_digits.ensures c.put_part.ensures refl c.put_part-2.ensures refl c.put_part-3.ensures ∙ sym (placed_yes t o (omega arith)), )
+returns c = let a = c.args in let t = text_with a.unit a.frac a.least a.mark a.units in let o = a.out.now in let n = text_length a.unit a.frac a.least a.mark a.units in let w = c.digits_of-w.ensures in let room = c.if-out-size.false in (sym (length_yes t o (omega arith) ∙ omega arith), text_put a.unit a.frac a.least a.mark a.units c.digits_of-w.result o c.put_digits.new.out c.put_part.new.out c.put_part-2.new.out c.put_part-3.new.out w _ _ c.put_digits.ensures c.put_part.ensures refl c.put_part-2.ensures refl c.put_part-3.ensures ∙ sym (placed_yes t o (omega arith)))

@@ -30,7 +30,7 @@ pub loop-i-smaller : goal.loop-i-smaller
 loop-i-smaller c = omega (arith, c.loop-i-test.true)
 
 pub loop-i-preserved : goal.loop-i-preserved
-loop-i-preserved c = let A = c.args in let l = c.loop-i in let lt : l.i < length A.piece.now = omega (arith, c.loop-i-test.true) in let d = c.step-at in let v = turn_held A.config A.map.now A.start A.piece.now A.held.now A.out.now A.warnings.now (holding_to l.at l.m) c.holding.result l.held l.out l.warnings l.i c.holding.ensures l.invariant in record { within = omega (arith, lt); shows = rw (run_more (machine_of A.config.kind) (resume_at A.start A.held.now) A.piece.now l.i lt) (d.ensures _ _ _ _ (run_parsed A.config A.map.now A.start A.held.now (length A.out.now) (length A.warnings.now) c.requires.0 c.requires.1 (take l.i A.piece.now)) v.shows); held_long = d.auto.held ∙ v.held_long; out_long = d.auto.out ∙ v.out_long; places_long = d.auto.warnings ∙ v.places_long; }
+loop-i-preserved c = let A = c.args in let l = c.loop-i in let lt : l.i < length A.piece.now = omega (arith, c.loop-i-test.true) in let d = c.step-at in let v = turn_held A.config A.map.now A.start A.piece.now A.held.now A.out.now A.warnings.now (holding_to l.at l.m) c.holding.result l.held l.out l.warnings l.i c.holding.ensures l.invariant in record { within = omega (arith, lt); shows = rw (run_more (machine_of A.config.kind) (resume_at A.start A.held.now) A.piece.now l.i lt) (d.ensures _ _ _ _ (run_parsed A.config A.map.now A.start A.held.now (length A.out.now) (length A.warnings.now) c.requires.0 c.requires.1 (take l.i A.piece.now)) v.shows); held_long = d.auto.held ∙ v.held_long; out_long = d.auto.out ∙ v.out_long; places_long = d.auto.warnings ∙ v.places_long }
 
 pub returns : goal.returns
 returns c = let A = c.args in let l = c.loop-i in let e : l.i ≡ length A.piece.now = omega (arith, c.loop-i-test.false, l.invariant.within) in let v = turn_held A.config A.map.now A.start A.piece.now A.held.now A.out.now A.warnings.now (holding_to l.at l.m) c.holding-2.result l.held l.out l.warnings l.i c.holding-2.ensures l.invariant in rw (e, take-length) at v.shows

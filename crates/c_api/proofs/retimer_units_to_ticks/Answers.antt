@@ -1,0 +1,6 @@
+use mathlib.Core.Path.{ap}
+use Rattle.spec_time.specs.declared.caption_time.Converted.{Converted}
+use Rattle.c_api.proofs.retimer_units_to_ticks.Goals as goal
+
+pub returns : goal.returns
+returns c = ap (λ (x : Converted). x.value) c.units_to_ticks-c.ensures
