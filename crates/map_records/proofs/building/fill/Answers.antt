@@ -1,4 +1,4 @@
-use Rattle.std.proofs.Common.{◌*◌, ◌≡◌, ◌∙◌, length, take, refl, arith}
+use Rattle.std.proofs.Common.{◌*◌, ◌∙◌, take, refl, arith}
 use Rattle.std.proofs.Math.ListN.{length-set}
 use Rattle.spec_map.specs.segment.Segment.{segments_of}
 use Rattle.spec_records.specs.map_records.Records.{narrowed}

@@ -11,8 +11,8 @@ loop-i-init c = (omega arith, refl, omega arith, flat_start c.args.map.now c.arg
 pub loop-i-preserved : goal.loop-i-preserved
 loop-i-preserved c =
     let l = c.loop-i in
-    let same : length c.numbers_at.new.flat ≡ length c.args.flat.now = ? in
-    let more = flat_turn c.args.map.now c.args.flat.now l.flat c.numbers_at.new.flat l.i c.loop-i-test.true l.invariant.3 ? in
+    let same : length c.numbers_at.new.flat ≡ length c.args.flat.now = omega arith in
+    let more = flat_turn c.args.map.now c.args.flat.now l.flat c.numbers_at.new.flat l.i c.loop-i-test.true l.invariant.3 c.numbers_at.ensures in
     (omega arith, same, l.invariant.2, more)
 
 pub returns : goal.returns

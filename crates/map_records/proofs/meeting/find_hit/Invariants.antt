@@ -1,5 +1,5 @@
 use Rattle.std.proofs.Common.{◌-◌, ◌≡◌, ◌≤◌, length, drop}
-use Rattle.spec_caption.specs.caption_fate.Hit.{find_hit, find_from}
+use Rattle.spec_caption.specs.caption_fate.Hit.{find_from}
 use Rattle.map_records.proofs.meeting.find_hit.Given as goal
 
 abbrev pub invariant-loop-i : goal.invariant-loop-i
