@@ -1,6 +1,5 @@
-use Rattle.std.proofs.Common.{◌≡◌, ◌≤◌, List, ℕ, length, replicate, sym, arith}
+use Rattle.std.proofs.Common.{◌≡◌, ◌≤◌, List, ℕ, length, replicate, arith, length-take}
 use Rattle.std.proofs.Math.ListN.{length-replicate}
-use Rattle.std.proofs.lemmas.List.{length-take-le}
 use Rattle.spec_map.specs.declared.segment.Segment.{Segment}
 use Rattle.spec_map.specs.declared.segmap.Made.{Made}
 use Rattle.spec_map.specs.segmap.Map.{made_of}
@@ -16,38 +15,38 @@ none_long : length none ≡ 1024
 unfolding none
 none_long = length-replicate 1024 no_segment
 
--- as many records as the built map has stand in them
-within : (s list : List ℕ) (d : ℕ) (wk : List ℕ) (z : List Segment) (r : Made) → r ≡ made_of (map_into s list d none (length wk)) → z ≡ recorded (map_into s list d none (length wk)).segments none
-    → length z ≡ 1024 → r.count ≤ length z
-within s list d wk z r e w n = omega (arith, n, in_records s list d wk none z none_long r e w)
+-- the built map has at most as many records as stand in the array
+few : (s list : List ℕ) (d : ℕ) (wk : List ℕ) (z : List Segment) (r : Made) → r ≡ made_of (map_into s list d none (length wk)) → z ≡ recorded (map_into s list d none (length wk)).segments none
+    → r.count ≤ 1024
+few s list d wk z r e w = in_records s list d wk none z none_long r e w
 
 pub slice_bounds-map-end : goal.slice_bounds-map-end
 unfolding none
 slice_bounds-map-end c =
     let a = c.args in
     let b = c.build-made in
-    within a.sheet.now a.list.now a.direction a.work.now b.new.map b.result b.ensures.0 b.ensures.2 b.auto.map
+    omega (arith, b.auto.map, few a.sheet.now a.list.now a.direction a.work.now b.new.map b.result b.ensures.0 b.ensures.2)
 
 pub slice_bounds-find_hit-end : goal.slice_bounds-find_hit-end
 unfolding none
 slice_bounds-find_hit-end c =
     let a = c.args in
     let b = c.build-made in
-    sym (length-take-le b.result.count b.new.map (within a.sheet.now a.list.now a.direction a.work.now b.new.map b.result b.ensures.0 b.ensures.2 b.auto.map))
+    omega (arith, b.auto.map, length-take b.result.count b.new.map, few a.sheet.now a.list.now a.direction a.work.now b.new.map b.result b.ensures.0 b.ensures.2)
 
 pub slice_bounds-map-end-2 : goal.slice_bounds-map-end-2
 unfolding none
 slice_bounds-map-end-2 c =
     let a = c.args in
     let b = c.build-made in
-    within a.sheet.now a.list.now a.direction a.work.now b.new.map b.result b.ensures.0 b.ensures.2 b.auto.map
+    omega (arith, b.auto.map, few a.sheet.now a.list.now a.direction a.work.now b.new.map b.result b.ensures.0 b.ensures.2)
 
 pub slice_bounds-flatten-end : goal.slice_bounds-flatten-end
 unfolding none
 slice_bounds-flatten-end c =
     let a = c.args in
     let b = c.build-made in
-    sym (length-take-le b.result.count b.new.map (within a.sheet.now a.list.now a.direction a.work.now b.new.map b.result b.ensures.0 b.ensures.2 b.auto.map))
+    omega (arith, b.auto.map, length-take b.result.count b.new.map, few a.sheet.now a.list.now a.direction a.work.now b.new.map b.result b.ensures.0 b.ensures.2)
 
 pub returns : goal.returns
 unfolding none
