@@ -73,7 +73,8 @@ def split_pair(t):
     if not cuts:
         return None
     at = [0] + cuts + [len(t) - 1]
-    return [t[a + 1:b].strip() for a, b in zip(at, at[1:])]
+    parts = [t[a + 1:b].strip() for a, b in zip(at, at[1:])]
+    return parts if parts[-1] else parts[:-1]
 
 
 def lets(t):
