@@ -1,4 +1,4 @@
-// Links the static library: that of RETIMER_LIB_DIR, a folder with libretimer.a as tools/install writes it, or the one that `rt staticlib` wrote in this checkout.
+// Links the static library: that of RETIMER_LIB_DIR, a folder with libretimer.a as tools/install writes it, or the one that tools/bindings made in this checkout.
 // Tells the command its commit and the logic that its proofs were checked by.
 use std::path::{Path, PathBuf};
 use std::process::Command;
@@ -19,7 +19,7 @@ fn library(root: &Path, out: &Path) {
         println!("cargo:rerun-if-changed={}", folder.join("libretimer.a").display());
         return;
     }
-    // in a checkout it is named for its crate
+    // in a checkout it has another name
     let made = root.join("target/staticlib");
     println!("cargo:rerun-if-changed={}", made.display());
     println!("cargo:rustc-link-search=native={}", made.display());

@@ -15,9 +15,9 @@ stop() {
     exit 1
 }
 
-# sums FROM..: one sum over names and bytes of all files below FROM
+# sums FROM..: one sum over names and bytes of all files below FROM, without what `rt` makes in out/ of a crate
 sums() {
-    (cd "$root" && find "$@" -type f 2>/dev/null | LC_ALL=C sort | xargs cksum | cksum)
+    (cd "$root" && find "$@" -path 'crates/*/out' -prune -o -type f -print 2>/dev/null | LC_ALL=C sort | xargs cksum | cksum)
 }
 
 # older MADE FROM..: whether a file is missing, or was made from other bytes than those below FROM.
@@ -26,7 +26,7 @@ older() {
     made=$1
     shift
     [ -e "$made" ] && [ -e "$made.sum" ] || return 0
-    [ -n "$(cd "$root" && find "$@" -newer "$made.sum" 2>/dev/null | head -n 1)" ] || return 1
+    [ -n "$(cd "$root" && find "$@" -path 'crates/*/out' -prune -o -newer "$made.sum" -print 2>/dev/null | head -n 1)" ] || return 1
     [ "$(sums "$@")" = "$(cat "$made.sum")" ] || return 0
     touch "$made.sum"
     return 1
@@ -47,16 +47,17 @@ needs() {
 # below CRATE: how many crates are proved for one, itself too
 below() {
     awk -v top="$1" 'function walk(c, k, n, d) { if (seen[c]++) return; count++; n = split(on[c], d, " "); for (k = 1; k <= n; k++) walk(d[k]) }
-        /^[a-z_0-9]+:/ { c = $1; sub(":", "", c); sub("^[^:]*:", ""); on[c] = $0 } END { walk(top); print count }' "$root/crates.txt"
+        /^[a-z_0-9]+( staticlib)?:/ { c = $1; sub(":", "", c); sub("^[^:]*:", ""); on[c] = $0 } END { walk(top); print count }' "$root/crates.txt"
 }
 
-# counted TOTAL: passes lines on to file descriptor 3, and says on standard error how many crates are done: on a terminal in one line, else every ten
+# counted TOTAL: passes lines on to file descriptor 3, and says on standard error how many crates are done: on a terminal in one line, else every ten.
+# A crate that is proved ends with a line `logic=proved ..`. One that an earlier call proved has no line.
 counted() {
     total=$1 done=0 start=$(date +%s)
     while IFS= read -r line; do
         printf '%s\n' "$line" >&3
         case $line in
-            "rt: "*" proved"* | "rt: "*" unchanged"*) done=$((done + 1)) ;;
+            "logic=proved "*) done=$((done + 1)) ;;
             *) continue ;;
         esac
         at="tools/$name: $done of $total crates proved, $(($(date +%s) - start)) s"
@@ -78,14 +79,19 @@ made() {
     return $failed
 }
 
+# copied: the library that `rt lib` made, at its place below target/
+copied() {
+    mkdir -p "${library%/*}" && { cmp -s "$root/crates/c_api_c/out/libc_api_c.a" "$library" || cp "$root/crates/c_api_c/out/libc_api_c.a" "$library"; }
+}
+
 # proved: the static library, with a count of the crates that are done
 proved() {
     log=$(mktemp) && exec 3>"$log" 4<"$log" && rm -f "$log" || return 1
     # the status of rt, not that of the count
-    failed=$({ { (cd "$root" && exec rt staticlib c_api) </dev/null 2>&1 3>&- 4<&- 5>&-; echo $? >&5; } | counted "$(below c_api)" >/dev/null; } 5>&1)
+    failed=$({ { (cd "$root/crates/c_api_c" && exec rt lib) </dev/null 2>&1 3>&- 4<&- 5>&-; echo $? >&5; } | counted "$(below c_api_c)" >/dev/null; } 5>&1)
     [ "$failed" = 0 ] || cat <&4 >&2
     exec 3>&- 4<&-
-    [ "$failed" = 0 ] && kept "$library" crates crates.txt
+    [ "$failed" = 0 ] && copied && kept "$library" crates crates.txt
 }
 
 sources="bindings/rust/src bindings/rust/build.rs bindings/rust/Cargo.toml bindings/rust/Cargo.lock target/staticlib/libc_api.a.sum"
@@ -99,7 +105,7 @@ built() {
     if older "$library" crates crates.txt; then
         needs rt "the toolchain that README.md names proves and builds the library"
         needs cargo "a Rust toolchain builds the command (README.md names the version)"
-        said "proving $(below c_api) crates and building the library: some 10 minutes on 2 cores where nothing is proved yet, and once"
+        said "proving $(below c_api_c) crates and building the library: it takes minutes where nothing is proved yet, and once"
         proved && compiled
     elif older "$program" $sources; then
         needs cargo "a Rust toolchain builds the command (README.md names the version)"

@@ -48,11 +48,12 @@ def module(name):
 
 @functools.cache
 def built(program):
-    """The path of a proved program; what is missing is proved and built."""
-    path = os.path.join(root, 'target/bin', program)
+    """The path of a proved program; what is missing is proved and built. `rt run` then also runs it, in its crate's folder on an empty input."""
+    folder = os.path.join(root, 'crates', program)
+    path = os.path.join(folder, 'out', program)
     if not os.path.exists(path):
-        said(f'rt check {program} (proves and builds what is missing)')
-    run(['rt', 'check', program], cwd=root, stdout=subprocess.DEVNULL, stderr=subprocess.DEVNULL)
+        said(f'rt run in crates/{program} (proves and builds what is missing)')
+    run(['rt', 'run'], cwd=folder, stdin=subprocess.DEVNULL, stdout=subprocess.DEVNULL, stderr=subprocess.DEVNULL)
     return path
 
 

@@ -7,13 +7,13 @@ import tempfile
 
 import lib
 
-FOLDERS = ('tools/lib', 'crates/base/src', 'bindings/rust/src/bin/bobbincrag', 'bin')
+FOLDERS = ('tools/lib', 'crates/base/src', 'crates/c_api_c', 'bindings/rust/src/bin/bobbincrag', 'bin')
 FILES = ('tools/bobbincrag', 'tools/lib/build.sh', 'crates.txt', 'bindings/rust/Cargo.toml', 'bindings/rust/src/bin/bobbincrag/commands.rs',
          'crates/base/src/lib.rt')
 PROGRAM = 'target/bindings/release/bobbincrag'
 FAKES = {
-    'rt': 'for k in $(seq 23); do echo "rt: a$k proved (1 s)"; echo "library x"; done; '
-          'mkdir -p target/staticlib; echo x >target/staticlib/libc_api.a',
+    'rt': 'for k in $(seq 23); do echo "library x$k: modules loaded=1 checked=1"; echo "logic=proved functions=$k"; done; '
+          'mkdir -p out; echo x >out/libc_api_c.a',
     'cargo': f'mkdir -p $(dirname {PROGRAM}); printf "#!/bin/sh\\necho ran \\$*\\n" >{PROGRAM}; chmod +x {PROGRAM}',
 }
 
