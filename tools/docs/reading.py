@@ -23,15 +23,15 @@ def tokens(text):
 
 
 def parts(name):
-    """A name as it stands in a text: `orElse` for `_orElse_`."""
-    return [p for p in name.split('_') if p] if '_' in name.strip('«»') and name.startswith(('_', '[')) or name.endswith('_') else [name]
+    """A name as it stands in a text: `or_else` for `◌or_else◌`."""
+    return [p for p in name.split('◌') if p]
 
 
 class Definitions:
     def __init__(self):
         self.parser, self.text, self.uses, self.names, self.order = lib.module('docs/landing-note'), {}, {}, {}, []
         with open(os.path.join(lib.root, 'crates.txt')) as f:
-            self.crates = re.findall(r'^(\w+)(?= *:|\s*$)', f.read(), re.M)
+            self.crates = re.findall(r'^(\w+)(?= *(?:staticlib *)?(?::|$))', f.read(), re.M)
         files = [(c, f, p) for c in self.crates for f, p in self.files(c, 'specs', '.antt')]
         known = {}
         for crate, file, path in files:
@@ -73,14 +73,15 @@ class Definitions:
                 for p in parts(n):
                     here[p] = (c, f, item)
         for n, path in known.items():
-            m = re.fullmatch(r'Rattle·(\w+)\.specs\.((?:[a-z]\w*\.)?[A-Z]\w*)\.(.+)', path)
+            m = re.fullmatch(r'Rattle\.(\w+)\.specs\.((?:[a-z]\w*\.)?[A-Z]\w*)\.(.+)', path)
             if m and (m[1], m[2], m[3]) in self.names:
                 for p in parts(n):
                     here[p] = (m[1], m[2], self.names[m[1], m[2], m[3]])
-        found = {here[t] for t in tokens(text) if t in here}
+        # a field stands behind its value without a blank: `kit.known` names `kit`
+        found = {here[n] for t in tokens(text) for n in (t, t.split('.')[0]) if n in here}
         for t in tokens(text):
             for bit in t.split('.')[1:]:
-                m = re.fullmatch(r'Rattle·(\w+)\.specs\.((?:[a-z]\w*\.)?[A-Z]\w*)', known.get(t.split('.')[0], ''))
+                m = re.fullmatch(r'Rattle\.(\w+)\.specs\.((?:[a-z]\w*\.)?[A-Z]\w*)', known.get(t.split('.')[0], ''))
                 if m and (m[1], m[2], bit) in self.names:
                     found.add((m[1], m[2], self.names[m[1], m[2], bit]))
         return found
@@ -99,13 +100,15 @@ class Definitions:
         exported, private = set(), set()
         for crate in self.crates:
             modules = {f: open(p).read() for f, p in self.files(crate, 'src', '.rt')}
-            passed = set(re.findall(r'^pub use [\w:]*?(\w+);', modules.get('lib', ''), re.M))
+            passed = {path.rpartition('::')[2] for path in self.parser.exports(modules.get('lib', ''))}
             for file, text in modules.items():
                 text = self.parser.plain(text, '//')
                 known = self.parser.origins(text)
                 for kind, name, item in self.parser.rattle(text):
                     if kind == 'contracts':
                         out = name in passed or file == 'lib' and re.search(r'\bpub\b', item)
+                        # a function and the definition of what it answers may have one name
+                        item = re.sub(r'\bfn \w+', 'fn', item, count=1)
                         (exported if out else private).update(self.reached(item, known, crate, ''))
         return exported, private
 
