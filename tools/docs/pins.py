@@ -22,7 +22,7 @@ def rows_of():
     for crate in pairs.crates():
         for module, path in pairs.proofs_of(crate).items():
             if pairs.ROWS.search(module):
-                for c, file, names in re.findall(r'^use Rattle·(\w+)(?:·specs\.specs|\.specs)\.((?:[a-z]\w*\.)?[A-Z]\w*)\.\{([^}]*)\}', pairs.read(path), re.M):
+                for c, file, names in re.findall(r'^use Rattle\.(\w+)\.specs\.((?:[a-z]\w*\.)?[A-Z]\w*)\.\{([^}]*)\}', pairs.read(path), re.M):
                     for name in names.split(','):
                         found.setdefault((c, file), {}).setdefault(f'{crate}/{module.replace(".", "/")}', set()).add(name.strip())
     return found
