@@ -105,7 +105,7 @@ built() {
     if older "$library" crates crates.txt; then
         needs rt "the toolchain that README.md names proves and builds the library"
         needs cargo "a Rust toolchain builds the command (README.md names the version)"
-        said "proving $(below c_api_c) crates and building the library: it takes minutes where nothing is proved yet, and once"
+        said "proving $(below c_api_c) crates and building the library: it takes many minutes where nothing is proved yet, and once"
         proved && compiled
     elif older "$program" $sources; then
         needs cargo "a Rust toolchain builds the command (README.md names the version)"
