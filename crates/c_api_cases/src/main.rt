@@ -6,9 +6,14 @@ mod rows;
 mod sessions;
 mod texts;
 
-fn main() {
+use std::io;
+use std::io::{BufWriter, Write};
+
+fn main(rt: HostRuntime) -> io::Result<()> {
+    let mut to = BufWriter::new(rt.alloc(), io::writer(&rt))?;
     let map = [0u64, 3, 0, 3, 0, 3003, 6, 10, 6006, 4, 3003, 4004];
-    rows::show();
-    sessions::show(&map);
-    texts::show(&map);
+    rows::show(&mut to)?;
+    sessions::show(&mut to, &map)?;
+    texts::show(&mut to, &map)?;
+    to.flush()
 }

@@ -1,8 +1,10 @@
 // The captions of a text as rows: line, 0 or the warning with which it passes, start, end, where its words stand, how many bytes they are.
 use number_lines::print_line;
+use std::io;
+use std::io::Write;
 
 // Two rows of a text that has at most two captions, the place behind them, and the two told numbers.
-fn two(kind: u32, text: &[u8]) {
+fn two<W: Write>(to: &mut W, kind: u32, text: &[u8]) -> io::Result<()> {
     let mut rows = [7u64; 13];
     let mut told = [7u64; 3];
     let number = c_api::retimer_cues(kind, text, &mut rows, &mut told);
@@ -25,30 +27,35 @@ fn two(kind: u32, text: &[u8]) {
         rows[11],
         rows[12],
     ];
-    print_line(b"cues", &row);
+    print_line(to, b"cues", &row)?;
+    Ok(())
 }
 
 // One place too few for a caption: 16, and nothing is written.
-fn short(text: &[u8]) {
+fn short<W: Write>(to: &mut W, text: &[u8]) -> io::Result<()> {
     let mut rows = [7u64; 5];
     let mut told = [7u64; 2];
     let number = c_api::retimer_cues(1, text, &mut rows, &mut told);
-    print_line(b"cues", &[number as u64, told[0], told[1], rows[0]]);
+    print_line(to, b"cues", &[number as u64, told[0], told[1], rows[0]])?;
+    Ok(())
 }
 
-pub fn show() {
+pub fn show<W: Write>(to: &mut W) -> io::Result<()> {
     two(
+        to,
         0,
         b"[Events]\nFormat:Start,End,Text\nDialogue:0:0:0.05,0:0:0.25,hi\nDialogue:x\n",
-    );
+    )?;
     two(
+        to,
         1,
         b"1\n00:00:00,050 --> 00:00:00,250\na\n\n0:0:0,1-->0:0:0,2\nb\nc",
-    );
+    )?;
     two(
+        to,
         2,
         b"WEBVTT\n\n00:01.000 --> 00:02.000\nhi\n\n00:60.000 --> 00:61.000\n",
-    );
-    two(3, b"");
-    short(b"0:0:0,1-->0:0:0,2");
+    )?;
+    two(to, 3, b"")?;
+    short(to, b"0:0:0,1-->0:0:0,2")
 }

@@ -1,25 +1,40 @@
 // A session that the caller keeps as its bytes: opened, fed in two pieces that part a line, finished, and fed once more.
-use libc::STDOUT_FILENO;
 use number_lines::print_line;
+use std::io;
+use std::io::Write;
 
 // The number, and two bytes of the session: the first, and the lowest of the last block's sum, which is its number, 17.
-fn open(kind: u32, timescale: u32, map: &[u64], session: &mut [u8]) {
+fn open<W: Write>(
+    to: &mut W,
+    kind: u32,
+    timescale: u32,
+    map: &[u64],
+    session: &mut [u8],
+) -> io::Result<()> {
     let number = c_api::retimer_open(kind, timescale, map, session);
     let first = base::byte(session, 0);
     let last = base::byte(session, 9212);
-    print_line(b"open", &[number as u64, first as u64, last as u64]);
+    print_line(to, b"open", &[number as u64, first as u64, last as u64])?;
+    Ok(())
 }
 
 // What a call told: its number, the two places, the first warning, and the bytes written.
-fn told(number: u32, written: u64, warned: u64, warnings: &[u64], out: &[u8]) {
+fn told<W: Write>(
+    to: &mut W,
+    number: u32,
+    written: u64,
+    warned: u64,
+    warnings: &[u64],
+    out: &[u8],
+) -> io::Result<()> {
     let kind = base::word(warnings, 0);
     let line = base::word(warnings, 1);
-    print_line(b"call", &[number as u64, written, warned, kind, line]);
-    io::write_all(STDOUT_FILENO, base::front(out, written as usize));
-    io::write_all(STDOUT_FILENO, b"\n");
+    print_line(to, b"call", &[number as u64, written, warned, kind, line])?;
+    to.write_all(base::front(out, written as usize))?;
+    to.write_all(b"\n")
 }
 
-fn feed(session: &mut [u8], map: &[u64], piece: &[u8]) {
+fn feed<W: Write>(to: &mut W, session: &mut [u8], map: &[u64], piece: &[u8]) -> io::Result<()> {
     let mut out = [46u8; 32768];
     let mut warnings = [7u64; 4096];
     let mut written: u64 = 0;
@@ -33,10 +48,10 @@ fn feed(session: &mut [u8], map: &[u64], piece: &[u8]) {
         &mut written,
         &mut warned,
     );
-    told(number, written, warned, &warnings, &out);
+    told(to, number, written, warned, &warnings, &out)
 }
 
-fn finish(session: &mut [u8], map: &[u64]) {
+fn finish<W: Write>(to: &mut W, session: &mut [u8], map: &[u64]) -> io::Result<()> {
     let mut out = [46u8; 32768];
     let mut warnings = [7u64; 4096];
     let mut written: u64 = 93;
@@ -49,20 +64,21 @@ fn finish(session: &mut [u8], map: &[u64]) {
         &mut written,
         &mut warned,
     );
-    told(number, written, warned, &warnings, &out);
+    told(to, number, written, warned, &warnings, &out)
 }
 
-pub fn show(map: &[u64]) {
+pub fn show<W: Write>(to: &mut W, map: &[u64]) -> io::Result<()> {
     let mut session = [7u8; 9216];
-    open(3, 30000, map, &mut session);
-    open(3, 0, map, &mut session);
-    open(0, 30000, map, &mut session);
+    open(to, 3, 30000, map, &mut session)?;
+    open(to, 3, 0, map, &mut session)?;
+    open(to, 0, 30000, map, &mut session)?;
     feed(
+        to,
         &mut session,
         map,
         b"[Events]\nFormat:Start,End\nDialogue:0:0",
-    );
-    feed(&mut session, map, b":0.05,0:0:0.25\nDialogue:a");
-    finish(&mut session, map);
-    feed(&mut session, map, b"x");
+    )?;
+    feed(to, &mut session, map, b":0.05,0:0:0.25\nDialogue:a")?;
+    finish(to, &mut session, map)?;
+    feed(to, &mut session, map, b"x")
 }

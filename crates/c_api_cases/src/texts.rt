@@ -1,13 +1,15 @@
 // The ASS and the SRT text of the worked lists of calls (crates/example), each in one call; then a call that is lent one told number too few.
-use libc::STDOUT_FILENO;
 use number_lines::print_line;
+use std::io;
+use std::io::Write;
 
-fn text(kind: u32, map: &[u64], text: &[u8]) {
+fn text<W: Write>(to: &mut W, kind: u32, map: &[u64], text: &[u8]) -> io::Result<()> {
     let mut out = [0u8; 33473];
     let mut warnings = [0u64; 4174];
     let mut told = [0u64; 7];
     let number = c_api::retimer_text(kind, 30000, map, text, &mut out, &mut warnings, &mut told);
     print_line(
+        to,
         b"text",
         &[
             number as u64,
@@ -19,8 +21,9 @@ fn text(kind: u32, map: &[u64], text: &[u8]) {
             told[5],
             told[6],
         ],
-    );
+    )?;
     print_line(
+        to,
         b"warned",
         &[
             0,
@@ -31,18 +34,19 @@ fn text(kind: u32, map: &[u64], text: &[u8]) {
             warnings[4],
             warnings[5],
         ],
-    );
-    io::write_all(STDOUT_FILENO, base::front(&out, told[0] as usize));
-    io::write_all(STDOUT_FILENO, b"\n");
+    )?;
+    to.write_all(base::front(&out, told[0] as usize))?;
+    to.write_all(b"\n")
 }
 
 // One told number too few: 16, and nothing is written.
-fn short(map: &[u64], text: &[u8]) {
+fn short<W: Write>(to: &mut W, map: &[u64], text: &[u8]) -> io::Result<()> {
     let mut out = [0u8; 33473];
     let mut warnings = [0u64; 4174];
     let mut told = [7u64; 6];
     let number = c_api::retimer_text(0, 30000, map, text, &mut out, &mut warnings, &mut told);
     print_line(
+        to,
         b"text",
         &[
             number as u64,
@@ -53,19 +57,22 @@ fn short(map: &[u64], text: &[u8]) {
             told[4],
             told[5],
         ],
-    );
+    )?;
+    Ok(())
 }
 
-pub fn show(map: &[u64]) {
+pub fn show<W: Write>(to: &mut W, map: &[u64]) -> io::Result<()> {
     text(
+        to,
         0,
         map,
         b"[Events]\nFormat:Start,End\nDialogue:0:0:0.05,0:0:0.25\nDialogue:0:0:0.12,0:0:0.20\nDialogue:0:0:0.21\nDialogue:0:0:0.21,0:0:0.25\nDialogue:0:0:0.0,0:0:0.0\nDialogue:0:0:0.13,0:0:0.14\nDialogue:a\nDialogue:b\nComment:c\nDialogue:0:0:0.20,0:0:0.21",
-    );
+    )?;
     text(
+        to,
         1,
         map,
         b"1\n00:00:00,050 --> 00:00:00,250\na\n\n2\n00:00:00,120 --> 00:00:00,200\nb\n\n3\n00:00:00,210 --> 00:00:00,250\nc\n\n4\n0:0:0,0-->0:0:0,0\n\n0:0:0,130-->0:0:0,140\n\n0:0:0,200-->0:0:0,210",
-    );
-    short(map, b"[Events]\n");
+    )?;
+    short(to, map, b"[Events]\n")
 }

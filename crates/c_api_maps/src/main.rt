@@ -4,6 +4,11 @@
 
 mod maptexts;
 
-fn main() {
-    maptexts::show();
+use std::io;
+use std::io::{BufWriter, Write};
+
+fn main(rt: HostRuntime) -> io::Result<()> {
+    let mut to = BufWriter::new(rt.alloc(), io::writer(&rt))?;
+    maptexts::show(&mut to)?;
+    to.flush()
 }

@@ -1,6 +1,7 @@
 // A map of one segment as the Rust cutter stores it, written and read again.
-use libc::STDOUT_FILENO;
 use number_lines::print_line;
+use std::io;
+use std::io::Write;
 
 fn small(n: u8) -> u64 {
     n as u64
@@ -41,7 +42,7 @@ fn read_into(
     number
 }
 
-fn read(text: &[u8]) {
+fn read<W: Write>(to: &mut W, text: &[u8]) -> io::Result<()> {
     let mut map = [7u64; 6144];
     let mut path = [7u8; 1024];
     let mut row = [91u32, 92, 93, 94];
@@ -74,11 +75,12 @@ fn read(text: &[u8]) {
         map[5],
         map[6],
     ];
-    print_line(b"read", &line);
+    print_line(to, b"read", &line)?;
+    Ok(())
 }
 
 // Too few places: 16 for 6,143 numbers and for 1,023 path bytes, and nothing is written.
-fn read_short(text: &[u8]) {
+fn read_short<W: Write>(to: &mut W, text: &[u8]) -> io::Result<()> {
     let mut map = [7u64; 6143];
     let mut path = [7u8; 1024];
     let mut row = [7u32; 4];
@@ -92,10 +94,15 @@ fn read_short(text: &[u8]) {
         &mut numbers,
         &mut path_length,
     );
-    print_line(b"short", &[number as u64, map[0], small(path[0]), numbers]);
+    print_line(
+        to,
+        b"short",
+        &[number as u64, map[0], small(path[0]), numbers],
+    )?;
+    Ok(())
 }
 
-fn path_short(text: &[u8]) {
+fn path_short<W: Write>(to: &mut W, text: &[u8]) -> io::Result<()> {
     let mut map = [7u64; 6144];
     let mut path = [7u8; 1023];
     let mut row = [7u32; 4];
@@ -110,12 +117,14 @@ fn path_short(text: &[u8]) {
         &mut path_length,
     );
     print_line(
+        to,
         b"short",
         &[number as u64, map[0], small(path[0]), path_length],
-    );
+    )?;
+    Ok(())
 }
 
-pub fn show() {
+pub fn show<W: Write>(to: &mut W) -> io::Result<()> {
     let map = [3u64, 6, 3003, 3, 0, 3003];
     let mut text = [0u8; 400];
     let mut written: u64 = 91;
@@ -129,13 +138,13 @@ pub fn show() {
         &mut text,
         &mut written,
     );
-    print_line(b"write", &[number as u64, written]);
+    print_line(to, b"write", &[number as u64, written])?;
     let n = written as usize;
-    io::write_all(STDOUT_FILENO, base::front(&text, n));
-    read(base::front(&text, n));
-    read(b"{}");
-    read_short(base::front(&text, n));
-    path_short(base::front(&text, n));
+    to.write_all(base::front(&text, n))?;
+    read(to, base::front(&text, n))?;
+    read(to, b"{}")?;
+    read_short(to, base::front(&text, n))?;
+    path_short(to, base::front(&text, n))?;
     let few = c_api::retimer_map_write(
         &map,
         30000,
@@ -146,5 +155,6 @@ pub fn show() {
         &mut [0u8; 9],
         &mut written,
     );
-    print_line(b"write", &[few as u64, written]);
+    print_line(to, b"write", &[few as u64, written])?;
+    Ok(())
 }

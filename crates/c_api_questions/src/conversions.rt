@@ -1,17 +1,21 @@
 // Units and ticks, and their refusals.
 use number_lines::print_line;
+use std::io;
+use std::io::Write;
 
 // Units to ticks, and the number.
-pub fn ticks(value: u64, timescale: u32, kind: u32) {
+pub fn ticks<W: Write>(to: &mut W, value: u64, timescale: u32, kind: u32) -> io::Result<()> {
     let number = c_api::retimer_units_number(value, timescale, kind);
     let ticks = c_api::retimer_units_to_ticks(value, timescale, kind);
-    print_line(b"ticks", &[number as u64, ticks]);
+    print_line(to, b"ticks", &[number as u64, ticks])?;
+    Ok(())
 }
 
 // Ticks to units, down and up, and the number.
-pub fn units(value: u64, timescale: u32, kind: u32) {
+pub fn units<W: Write>(to: &mut W, value: u64, timescale: u32, kind: u32) -> io::Result<()> {
     let number = c_api::retimer_ticks_number(value, timescale, kind);
     let down = c_api::retimer_ticks_to_units_floor(value, timescale, kind);
     let up = c_api::retimer_ticks_to_units_ceil(value, timescale, kind);
-    print_line(b"units", &[number as u64, down, up]);
+    print_line(to, b"units", &[number as u64, down, up])?;
+    Ok(())
 }

@@ -6,38 +6,43 @@ mod conversions;
 mod questions;
 mod sheets;
 
-fn ask(map: &[u64]) {
-    questions::why(map, 5, 25);
-    questions::why(map, 21, 25);
-    questions::why(map, 20, 21);
-    questions::why(map, 12, 20);
-    questions::why(map, 68719476737, 0);
-    questions::census(map, 30000, 4, 40);
-    questions::census(map, 0, 4, 40);
-    questions::delay(map, &[12, 16, 0, 14], 100);
-    questions::delay(map, &[12, 16, 0, 14], 12);
-    questions::delay(map, &[12, 16], 0);
-    questions::delay(map, &[5u64; 8192], 1);
-    questions::delay(map, &[5u64; 8194], 1);
-    questions::rough(map, 0, 10, 20, 30);
-    questions::rough(map, 3003, 4000, 5000, 6006);
-    questions::rough(map, 3002, 3003, 5000, 5001);
-    questions::rough(map, 2, 1, 5, 6);
+use std::io;
+use std::io::{BufWriter, Write};
+
+fn ask<W: Write>(to: &mut W, map: &[u64]) -> io::Result<()> {
+    questions::why(to, map, 5, 25)?;
+    questions::why(to, map, 21, 25)?;
+    questions::why(to, map, 20, 21)?;
+    questions::why(to, map, 12, 20)?;
+    questions::why(to, map, 68719476737, 0)?;
+    questions::census(to, map, 30000, 4, 40)?;
+    questions::census(to, map, 0, 4, 40)?;
+    questions::delay(to, map, &[12, 16, 0, 14], 100)?;
+    questions::delay(to, map, &[12, 16, 0, 14], 12)?;
+    questions::delay(to, map, &[12, 16], 0)?;
+    questions::delay(to, map, &[5u64; 8192], 1)?;
+    questions::delay(to, map, &[5u64; 8194], 1)?;
+    questions::rough(to, map, 0, 10, 20, 30)?;
+    questions::rough(to, map, 3003, 4000, 5000, 6006)?;
+    questions::rough(to, map, 3002, 3003, 5000, 5001)?;
+    questions::rough(to, map, 2, 1, 5, 6)
 }
 
-fn convert() {
-    conversions::ticks(25, 30000, 0);
-    conversions::ticks(25, 30000, 1);
-    conversions::ticks(68719476737, 30000, 1);
-    conversions::ticks(25, 0, 3);
-    conversions::units(7, 30000, 0);
-    conversions::units(7, 30000, 1);
-    conversions::units(9007199254740993, 30000, 0);
+fn convert<W: Write>(to: &mut W) -> io::Result<()> {
+    conversions::ticks(to, 25, 30000, 0)?;
+    conversions::ticks(to, 25, 30000, 1)?;
+    conversions::ticks(to, 68719476737, 30000, 1)?;
+    conversions::ticks(to, 25, 0, 3)?;
+    conversions::units(to, 7, 30000, 0)?;
+    conversions::units(to, 7, 30000, 1)?;
+    conversions::units(to, 9007199254740993, 30000, 0)
 }
 
-fn main() {
+fn main(rt: HostRuntime) -> io::Result<()> {
+    let mut to = BufWriter::new(rt.alloc(), io::writer(&rt))?;
     let map = [0u64, 3, 0, 3, 0, 3003, 6, 10, 6006, 4, 3003, 4004];
-    sheets::show();
-    convert();
-    ask(&map);
+    sheets::show(&mut to)?;
+    convert(&mut to)?;
+    ask(&mut to, &map)?;
+    to.flush()
 }

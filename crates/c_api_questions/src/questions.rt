@@ -1,9 +1,10 @@
 // Questions about document 01's map: codes and places told to a caller from C. Each place holds a number of its own before.
-use libc::STDOUT_FILENO;
 use number_lines::print_line;
+use std::io;
+use std::io::Write;
 
 // Why a caption of start to stop (ASS) is kept or dropped: number, fate, place, ticks cut off, and two causes.
-pub fn why(map: &[u64], start: u64, stop: u64) {
+pub fn why<W: Write>(to: &mut W, map: &[u64], start: u64, stop: u64) -> io::Result<()> {
     let mut causes = [7u64; 2];
     let mut fate: u64 = 91;
     let mut place: u64 = 92;
@@ -22,6 +23,7 @@ pub fn why(map: &[u64], start: u64, stop: u64) {
         &mut end_cut,
     );
     print_line(
+        to,
         b"why",
         &[
             number as u64,
@@ -32,11 +34,18 @@ pub fn why(map: &[u64], start: u64, stop: u64) {
             causes[0],
             causes[1],
         ],
-    );
+    )?;
+    Ok(())
 }
 
 // How many starts of a caption of this length survive: number, shifted, clipped, dropped.
-pub fn census(map: &[u64], timescale: u32, length: u64, count: u64) {
+pub fn census<W: Write>(
+    to: &mut W,
+    map: &[u64],
+    timescale: u32,
+    length: u64,
+    count: u64,
+) -> io::Result<()> {
     let mut shifted: u64 = 91;
     let mut clipped: u64 = 92;
     let mut dropped: u64 = 93;
@@ -50,28 +59,30 @@ pub fn census(map: &[u64], timescale: u32, length: u64, count: u64) {
         &mut clipped,
         &mut dropped,
     );
-    print_line(b"census", &[number as u64, shifted, clipped, dropped]);
+    print_line(to, b"census", &[number as u64, shifted, clipped, dropped])?;
+    Ok(())
 }
 
 // The delay and the numbers behind it.
-fn print_delay(delay: i64, numbers: &[u64]) {
+fn print_delay<W: Write>(to: &mut W, delay: i64, numbers: &[u64]) -> io::Result<()> {
     if delay == -6 {
-        print_line(b" -6", numbers);
-        return;
+        print_line(to, b" -6", numbers)?;
+        return Ok(());
     }
     if delay == 0 {
-        print_line(b" 0", numbers);
-        return;
+        print_line(to, b" 0", numbers)?;
+        return Ok(());
     }
     if delay == 91 {
-        print_line(b" 91", numbers);
-        return;
+        print_line(to, b" 91", numbers)?;
+        return Ok(());
     }
-    print_line(b" another", numbers);
+    print_line(to, b" another", numbers)?;
+    Ok(())
 }
 
 // The delay that loses least: number, delay, loss, tries, how far off.
-pub fn delay(map: &[u64], captions: &[u64], budget: u32) {
+pub fn delay<W: Write>(to: &mut W, map: &[u64], captions: &[u64], budget: u32) -> io::Result<()> {
     let mut delay: i64 = 91;
     let mut loss: u32 = 92;
     let mut tried: u32 = 93;
@@ -79,13 +90,20 @@ pub fn delay(map: &[u64], captions: &[u64], budget: u32) {
     let number = c_api::retimer_best_delay(
         map, 30000, 0, captions, budget, &mut delay, &mut loss, &mut tried, &mut off,
     );
-    io::write_all(STDOUT_FILENO, b"delay ");
-    io::print_decimal(STDOUT_FILENO, number as u64);
-    print_delay(delay, &[loss as u64, tried as u64, off as u64]);
+    to.write_all(b"delay ")?;
+    write!(to, "{number}")?;
+    print_delay(to, delay, &[loss as u64, tried as u64, off as u64])
 }
 
 // A start and an end known between two ticks each: number and judgement.
-pub fn rough(map: &[u64], start_low: u64, start_high: u64, end_low: u64, end_high: u64) {
+pub fn rough<W: Write>(
+    to: &mut W,
+    map: &[u64],
+    start_low: u64,
+    start_high: u64,
+    end_low: u64,
+    end_high: u64,
+) -> io::Result<()> {
     let mut judgement: u64 = 91;
     let number = c_api::retimer_rough(
         map,
@@ -95,5 +113,6 @@ pub fn rough(map: &[u64], start_low: u64, start_high: u64, end_low: u64, end_hig
         end_high,
         &mut judgement,
     );
-    print_line(b"rough", &[number as u64, judgement]);
+    print_line(to, b"rough", &[number as u64, judgement])?;
+    Ok(())
 }

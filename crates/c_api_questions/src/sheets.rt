@@ -1,5 +1,7 @@
 // Document 01's small sheet: T 30000, 10 frames, decode as display, durations 1001, sync 0, 3 and 6; checked, and its map.
 use number_lines::print_line;
+use std::io;
+use std::io::Write;
 
 fn small(n: u8) -> u64 {
     n as u64
@@ -44,7 +46,7 @@ fn fill(sheet: &mut [u8]) {
     word_at(sheet, 1020, 72, 39, 0, 128);
 }
 
-fn show_map(sheet: &[u8], list: &[u8], direction: u32) {
+fn show_map<W: Write>(to: &mut W, sheet: &[u8], list: &[u8], direction: u32) -> io::Result<()> {
     let mut work = [7u8; 3];
     let mut map = [9u64; 6144];
     let mut timescale: u32 = 91;
@@ -59,6 +61,7 @@ fn show_map(sheet: &[u8], list: &[u8], direction: u32) {
         &mut count,
     );
     print_line(
+        to,
         b"map",
         &[
             number as u64,
@@ -67,24 +70,34 @@ fn show_map(sheet: &[u8], list: &[u8], direction: u32) {
             small(work[1]),
             small(work[2]),
         ],
-    );
-    print_line(b"row", &[0, map[0], map[1], map[2], map[3], map[4], map[5]]);
+    )?;
     print_line(
+        to,
+        b"row",
+        &[0, map[0], map[1], map[2], map[3], map[4], map[5]],
+    )?;
+    print_line(
+        to,
         b"row",
         &[1, map[6], map[7], map[8], map[9], map[10], map[11]],
-    );
+    )?;
+    Ok(())
 }
 
-pub fn show() {
+pub fn show<W: Write>(to: &mut W) -> io::Result<()> {
     let mut sheet = [0u8; 1024];
     fill(&mut sheet);
     let mut work = [7u8; 3];
     let number = c_api::retimer_sheet_check(&sheet, &mut work);
-    print_line(b"sheet", &[number as u64, small(work[1]), small(work[2])]);
+    print_line(
+        to,
+        b"sheet",
+        &[number as u64, small(work[1]), small(work[2])],
+    )?;
     let good = c_api::retimer_list_check(b"Trim(0,2) ++ Trim(6,8)");
     let bad = c_api::retimer_list_check(b"Trim(2,0)");
-    print_line(b"list", &[good as u64, bad as u64]);
-    show_map(&sheet, b"Trim(0,2) ++ Trim(6,8)", 0);
-    show_map(&sheet, b"Trim(2,0)", 0);
-    show_map(&sheet, b"", 2);
+    print_line(to, b"list", &[good as u64, bad as u64])?;
+    show_map(to, &sheet, b"Trim(0,2) ++ Trim(6,8)", 0)?;
+    show_map(to, &sheet, b"Trim(2,0)", 0)?;
+    show_map(to, &sheet, b"", 2)
 }

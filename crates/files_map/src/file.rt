@@ -1,7 +1,12 @@
 // Files of a folder.
-ghost use Rattle.std.specs.Prelude.{◌≡◌};
+ghost use Rattle.std.specs.Prelude.{◌≡◌, IfOk};
+ghost use Rattle.std.specs.Io.{ReadsAtMost};
 ghost use Rattle.spec_base.specs.base.Put.{placed, placed_length};
 ghost use Rattle.files_map.specs.Folder.{path_below, Held};
+
+use std::io::Read;
+use std::rt::Files;
+use std::{fs, io};
 
 // The bytes of a file, as many as a program looks at: one more than a sheet or a list may have.
 #[derive(Clone, Copy)]
@@ -29,28 +34,43 @@ pub fn path_below(folder: &[u8], name: &[u8], path: &mut [u8]) -> usize
     base::bytes_at(path, b, name)
 }
 
-// Opens the file `name` in a folder for reading; a negative number where it cannot be opened, or where its path does not fit.
-fn open_below(folder: &[u8], name: &[u8]) -> i32 {
+// Opens the file `name` in a folder for reading; none where it cannot be opened, where its path does not fit, or where that is not UTF-8, as
+// std's paths are.
+pub fn open_below<R: Files>(rt: &R, folder: &[u8], name: &[u8]) -> Option<R::File> {
     let mut path = [0u8; 4096];
     let k = path_below(folder, name, &mut path);
     if k == 0 {
-        return -1;
+        return None;
     }
-    os::open_read(base::front(&path, k))
+    let text = str::from_utf8(base::front(&path, k)).ok()?;
+    fs::open(rt, text).ok()
+}
+
+// Reads until `buf` is full or the input ends, and answers how many bytes it put at the start of `buf`.
+pub fn read_full<R: Read>(from: &mut R, buf: &mut [u8]) -> io::Result<usize>
+    ensures { ReadsAtMost result buf.new }
+{
+    let mut done = 0;
+    while done < buf.len() {
+        let n = from.read(&mut buf[done..])?;
+        if n == 0 {
+            break;
+        }
+        done += n;
+    }
+    Ok(done)
 }
 
 // The file `name` in a folder, empty where it cannot be opened. What it holds no contract can say.
-pub fn load(folder: &[u8], name: &[u8]) -> File
-    ensures { Held result.bytes result.length }
+pub fn load<R: Files>(rt: &R, folder: &[u8], name: &[u8]) -> io::Result<File>
+    ensures { IfOk result (λ file. Held file.bytes file.length) }
 {
     let mut read = [0u8; 65537];
     let mut bytes = [0u8; 65537];
-    let fd = open_below(folder, name);
-    if fd < 0 {
-        return File { bytes, length: 0 };
-    }
-    let n = io::read_full(fd, &mut read);
-    libc::close(fd);
+    let Some(mut opened) = open_below(rt, folder, name) else {
+        return Ok(File { bytes, length: 0 });
+    };
+    let n = read_full(&mut opened, &mut read)?;
     let length = base::bytes(&mut bytes, base::front(&read, n));
-    File { bytes, length }
+    Ok(File { bytes, length })
 }

@@ -5,6 +5,6 @@ mod file;
 mod print;
 mod segments;
 
-pub use file::{File, load, path_below};
+pub use file::{File, load, open_below, path_below, read_full};
 pub use print::{print_map, print_map_of, print_number};
 pub use segments::first_segments;

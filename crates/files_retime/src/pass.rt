@@ -1,31 +1,46 @@
 // One pass over a caption text.
-ghost use Rattle.std.specs.Prelude.{◌≡◌, length};
+ghost use Rattle.std.specs.Prelude.{◌≡◌, length, IfOk};
 ghost use Rattle.spec_session.specs.session.SessionCalls.{finish_call, answer_of};
 ghost use Rattle.files_retime.specs.Retimed.{Passes};
 
-use libc::STDOUT_FILENO;
 use session_state::Session;
+use std::io;
+use std::io::{Read, Write};
 
 // Writes the first n bytes, or nothing where the pass is dry.
-fn print_text(writing: bool, out: &[u8], n: usize) {
+fn print_text<W: Write>(to: &mut W, writing: bool, out: &[u8], n: usize) -> io::Result<()> {
     if writing {
-        io::write_all(STDOUT_FILENO, base::front(out, n));
+        to.write_all(base::front(out, n))?;
     }
+    Ok(())
 }
 
 // The end of the text.
-fn end(session: Session, map: &[u64], writing: bool, out: &mut [u8], warnings: &mut [u64]) -> u32
-    ensures { result ≡ (answer_of session (finish_call map.now (length out.old) (length warnings.old))).number }
+fn end<W: Write>(
+    to: &mut W,
+    session: Session,
+    map: &[u64],
+    writing: bool,
+    out: &mut [u8],
+    warnings: &mut [u64],
+) -> io::Result<u32>
+    ensures { IfOk result (λ r. r ≡ (answer_of session (finish_call map.now (length out.old) (length warnings.old))).number) }
 {
     let last = session::finish(session, map, out, warnings);
-    print_text(writing, out, last.written);
-    last.number
+    print_text(to, writing, out, last.written)?;
+    Ok(last.number)
 }
 
-// The text of a file from where it stands, in pieces: the number of the first call that is not answered by 0, or 0. A file that was
-// not opened reads as empty; what it holds no contract can say. A text of more pieces than a session takes bytes ends there.
-pub fn pass(fd: i32, session: Session, map: &[u64], writing: bool) -> u32
-    ensures { Passes session map.now result }
+// The text of a file from where it stands, in pieces: the number of the first call that is not answered by 0, or 0. What
+// the file holds no contract can say. A text of more pieces than a session takes bytes ends there.
+pub fn pass<R: Read, W: Write>(
+    to: &mut W,
+    from: &mut R,
+    session: Session,
+    map: &[u64],
+    writing: bool,
+) -> io::Result<u32>
+    ensures { IfOk result (λ r. Passes session map.now r) }
 {
     let mut out = [0u8; 32768];
     let mut warnings = [0u64; 4096];
@@ -33,17 +48,17 @@ pub fn pass(fd: i32, session: Session, map: &[u64], writing: bool) -> u32
     let mut at = session;
     let mut left: u32 = 1073741825;
     while 0 < left {
-        let n = io::read_full(fd, &mut piece);
+        let n = files_map::read_full(from, &mut piece)?;
         if n == 0 {
-            return end(at, map, writing, &mut out, &mut warnings);
+            return end(to, at, map, writing, &mut out, &mut warnings);
         }
         let fed = session::feed(at, map, &piece[..n], &mut out, &mut warnings);
-        print_text(writing, &out, fed.written);
+        print_text(to, writing, &out, fed.written)?;
         if fed.number != 0 {
-            return fed.number;
+            return Ok(fed.number);
         }
         at = fed.session;
         left -= 1;
     }
-    end(at, map, writing, &mut out, &mut warnings)
+    end(to, at, map, writing, &mut out, &mut warnings)
 }

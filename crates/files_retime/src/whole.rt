@@ -1,78 +1,93 @@
 // The caption text of a folder retimed, as document 01's "Small proofs" has it.
+ghost use Rattle.std.specs.Prelude.{IfOk};
 ghost use Rattle.files_retime.specs.Retimed.{Runs, Chooses, Retimes};
 
 use crate::pass::pass;
+use std::io;
+use std::io::{Read, Write};
+use std::rt::Files;
 
 // One pass over a file of the kind.
-fn run_file(fd: i32, kind: u32, timescale: u32, map: &[u64], writing: bool) -> u32
-    ensures { Runs kind timescale map.now result }
+fn run_file<R: Read, W: Write>(
+    to: &mut W,
+    from: &mut R,
+    kind: u32,
+    timescale: u32,
+    map: &[u64],
+    writing: bool,
+) -> io::Result<u32>
+    ensures { IfOk result (λ r. Runs kind timescale map.now r) }
 {
     let opened = session::open(kind, timescale, map);
     if opened.number != 0 {
-        return opened.number;
+        return Ok(opened.number);
     }
-    let number = pass(fd, opened.session, map, writing);
-    libc::close(fd);
-    number
-}
-
-// Opens a caption text of a folder; a negative number where it cannot be opened, or where its path does not fit.
-fn open_text(folder: &[u8], name: &[u8]) -> i32 {
-    let mut path = [0u8; 4096];
-    let k = files_map::path_below(folder, name, &mut path);
-    if k == 0 {
-        return -1;
-    }
-    os::open_read(base::front(&path, k))
+    pass(to, from, opened.session, map, writing)
 }
 
 // One pass over `subs.ass`, else `subs.srt`, else `subs.vtt`, the first that can be opened; none of them: an empty text of SRT.
-fn run(folder: &[u8], timescale: u32, map: &[u64], writing: bool) -> u32
-    ensures { Chooses timescale map.now result }
+fn run<R: Files, W: Write>(
+    rt: &R,
+    to: &mut W,
+    folder: &[u8],
+    timescale: u32,
+    map: &[u64],
+    writing: bool,
+) -> io::Result<u32>
+    ensures { IfOk result (λ r. Chooses timescale map.now r) }
 {
-    let ass = open_text(folder, b"subs.ass");
-    if 0 <= ass {
-        return run_file(ass, 0, timescale, map, writing);
+    if let Some(mut ass) = files_map::open_below(rt, folder, b"subs.ass") {
+        return run_file(to, &mut ass, 0, timescale, map, writing);
     }
-    let srt = open_text(folder, b"subs.srt");
-    if 0 <= srt {
-        return run_file(srt, 1, timescale, map, writing);
+    if let Some(mut srt) = files_map::open_below(rt, folder, b"subs.srt") {
+        return run_file(to, &mut srt, 1, timescale, map, writing);
     }
-    let vtt = open_text(folder, b"subs.vtt");
-    if 0 <= vtt {
-        return run_file(vtt, 2, timescale, map, writing);
+    if let Some(mut vtt) = files_map::open_below(rt, folder, b"subs.vtt") {
+        return run_file(to, &mut vtt, 2, timescale, map, writing);
     }
-    run_file(srt, 1, timescale, map, writing)
+    run_file(to, &mut io::empty(), 1, timescale, map, writing)
 }
 
 // The map, outward, then the text dry, then writing where nothing was refused. A sheet above 65,536 bytes is 11.
-fn retimed(folder: &[u8], sheet: &[u8], list: &[u8]) -> u32
-    ensures { Retimes sheet.now list.now result }
+fn retimed<R: Files, W: Write>(
+    rt: &R,
+    to: &mut W,
+    folder: &[u8],
+    sheet: &[u8],
+    list: &[u8],
+) -> io::Result<u32>
+    ensures { IfOk result (λ r. Retimes sheet.now list.now r) }
 {
     if 65536 < sheet.len() {
-        return 11;
+        return Ok(11);
     }
     let mut map = [0u64; 6144];
     let mut work = [0; base::MOST_WORK];
     let made = segmap::make(sheet, list, 0, &mut work, &mut map);
     if made.number != 0 {
-        return made.number;
+        return Ok(made.number);
     }
     let kept = files_map::first_segments(&map, made.count);
-    let number = run(folder, made.timescale, kept, false);
+    let number = run(rt, to, folder, made.timescale, kept, false)?;
     if number == 0 {
-        run(folder, made.timescale, kept, true);
+        run(rt, to, folder, made.timescale, kept, true)?;
     }
-    number
+    Ok(number)
 }
 
 // Prints the text, or `refused` and the number.
-pub fn retime(folder: &[u8], sheet: &[u8], list: &[u8]) -> u32
-    ensures { Retimes sheet.now list.now result }
+pub fn retime<R: Files, W: Write>(
+    rt: &R,
+    to: &mut W,
+    folder: &[u8],
+    sheet: &[u8],
+    list: &[u8],
+) -> io::Result<u32>
+    ensures { IfOk result (λ r. Retimes sheet.now list.now r) }
 {
-    let number = retimed(folder, sheet, list);
+    let number = retimed(rt, to, folder, sheet, list)?;
     if number != 0 {
-        files_map::print_number(b"refused ", number);
+        files_map::print_number(to, b"refused ", number)?;
     }
-    number
+    Ok(number)
 }

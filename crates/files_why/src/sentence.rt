@@ -3,69 +3,93 @@ use crate::question::Question;
 use crate::span::{print_length, print_segment};
 use ask_reason::Why;
 use caption_fate::Counted;
-use libc::STDOUT_FILENO;
+use std::io;
+use std::io::Write;
 
 // How many ticks of one end were cut off, and how long that is.
-fn print_cut(name: &[u8], ticks: u64, timescale: u32, q: Question) {
+fn print_cut<W: Write>(
+    to: &mut W,
+    name: &[u8],
+    ticks: u64,
+    timescale: u32,
+    q: Question,
+) -> io::Result<()> {
     if ticks == 0 {
-        return;
+        return Ok(());
     }
-    io::write_all(STDOUT_FILENO, name);
-    io::print_decimal(STDOUT_FILENO, ticks);
-    io::write_all(STDOUT_FILENO, b" ticks (");
-    print_length(ticks, timescale, q);
-    io::write_all(STDOUT_FILENO, b") cut off");
+    to.write_all(name)?;
+    write!(to, "{ticks}")?;
+    to.write_all(b" ticks (")?;
+    print_length(to, ticks, timescale, q)?;
+    to.write_all(b") cut off")
 }
 
 // A caption that is kept.
-fn print_kept(why: Why, map: &[u64], timescale: u32, q: Question) {
-    io::write_all(STDOUT_FILENO, b"  kept in ");
-    print_segment(map, why.place, timescale, q);
-    print_cut(b", at its start ", why.start_cut, timescale, q);
-    print_cut(b", at its end ", why.end_cut, timescale, q);
-    io::write_all(STDOUT_FILENO, b"\n");
+fn print_kept<W: Write>(
+    to: &mut W,
+    why: Why,
+    map: &[u64],
+    timescale: u32,
+    q: Question,
+) -> io::Result<()> {
+    to.write_all(b"  kept in ")?;
+    print_segment(to, map, why.place, timescale, q)?;
+    print_cut(to, b", at its start ", why.start_cut, timescale, q)?;
+    print_cut(to, b", at its end ", why.end_cut, timescale, q)?;
+    to.write_all(b"\n")
 }
 
-fn print_cause(cause: u64) {
+fn print_cause<W: Write>(to: &mut W, cause: u64) -> io::Result<()> {
     if cause == 1 {
-        io::write_all(STDOUT_FILENO, b" has no length\n");
-        return;
+        return to.write_all(b" has no length\n");
     }
     if cause == 2 {
-        io::write_all(STDOUT_FILENO, b" ends at or before the caption's start\n");
-        return;
+        return to.write_all(b" ends at or before the caption's start\n");
     }
-    io::write_all(STDOUT_FILENO, b" starts at or after the caption's end\n");
+    to.write_all(b" starts at or after the caption's end\n")
 }
 
 // A caption that is dropped: a line for each segment.
-fn print_causes(causes: &[u64], map: &[u64], timescale: u32, q: Question) {
-    io::write_all(STDOUT_FILENO, b"  dropped: it meets no kept segment\n");
+fn print_causes<W: Write>(
+    to: &mut W,
+    causes: &[u64],
+    map: &[u64],
+    timescale: u32,
+    q: Question,
+) -> io::Result<()> {
+    to.write_all(b"  dropped: it meets no kept segment\n")?;
     let n = map.len() / 6;
     let mut i: usize = 0;
     while i < n {
-        io::write_all(STDOUT_FILENO, b"    ");
-        print_segment(map, i, timescale, q);
-        print_cause(base::word(causes, i));
+        to.write_all(b"    ")?;
+        print_segment(to, map, i, timescale, q)?;
+        print_cause(to, base::word(causes, i))?;
         i += 1;
     }
+    Ok(())
 }
 
 // What becomes of the caption that is asked for, and why.
-pub fn print_answer(q: Question, map: &[u64], timescale: u32) {
+pub fn print_answer<W: Write>(
+    to: &mut W,
+    q: Question,
+    map: &[u64],
+    timescale: u32,
+) -> io::Result<()> {
     let mut causes = [0u64; 1024];
     let why = ask_reason::reason(map, timescale, q.kind, q.start, q.stop, &mut causes);
     if why.number != 0 {
-        files_map::print_number(b"  refused ", why.number);
-        return;
+        files_map::print_number(to, b"  refused ", why.number)?;
+        return Ok(());
     }
     let fate = why.fate;
     match fate {
         Counted::Dropped => {
-            print_causes(&causes, map, timescale, q);
+            print_causes(to, &causes, map, timescale, q)?;
         }
         _ => {
-            print_kept(why, map, timescale, q);
+            print_kept(to, why, map, timescale, q)?;
         }
     }
+    Ok(())
 }

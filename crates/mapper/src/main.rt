@@ -1,10 +1,19 @@
 // Reads `sheet.bin` and `trim.txt` and prints the map, or `refused` and the number.
 #![tactic(auto)]
 
-fn main() {
-    let sheet = files_map::load(b"", b"sheet.bin");
-    let list = files_map::load(b"", b"trim.txt");
+use std::io;
+use std::io::{BufWriter, Write};
+
+fn main(rt: HostRuntime) -> io::Result<()> {
+    let sheet = files_map::load(&rt, b"", b"sheet.bin")?;
+    let list = files_map::load(&rt, b"", b"trim.txt")?;
     let s = sheet.bytes;
     let l = list.bytes;
-    files_map::print_map(base::front(&s, sheet.length), base::front(&l, list.length));
+    let mut to = BufWriter::new(rt.alloc(), io::writer(&rt))?;
+    files_map::print_map(
+        &mut to,
+        base::front(&s, sheet.length),
+        base::front(&l, list.length),
+    )?;
+    to.flush()
 }

@@ -1,15 +1,16 @@
 // A line of a name and numbers, printed.
-ghost use Rattle.std.specs.Prelude.{◌≡◌};
+ghost use Rattle.std.specs.Prelude.{◌≡◌, IfOk};
 ghost use Rattle.number_lines.specs.Line.{printed_length};
 
-use libc::STDOUT_FILENO;
+use std::io;
+use std::io::Write;
 
 // Prints the line, and answers how many bytes it has; where these are more than 512, nothing and 0.
-pub fn print_line(name: &[u8], numbers: &[u64]) -> usize
-    ensures { result ≡ printed_length name.now numbers.now }
+pub fn print_line<W: Write>(to: &mut W, name: &[u8], numbers: &[u64]) -> io::Result<usize>
+    ensures { IfOk result (λ r. r ≡ printed_length name.now numbers.now) }
 {
     let mut out = [0u8; 512];
     let n = crate::writing::line(&mut out, name, numbers);
-    io::write_all(STDOUT_FILENO, base::front(&out, n));
-    n
+    to.write_all(base::front(&out, n))?;
+    Ok(n)
 }

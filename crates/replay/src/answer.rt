@@ -1,6 +1,7 @@
 // The answer to a case, by its op.
-use libc::STDOUT_FILENO;
 use replay_maps::{asks, map_texts, print_made, texts, through_made};
+use std::io;
+use std::io::Write;
 
 fn wide(x: u32) -> u64 {
     x as u64
@@ -13,36 +14,37 @@ fn number_at(ranges: &[u32], k: usize) -> u64 {
     0
 }
 
-fn print_range(ranges: &[u32], i: usize) {
+fn print_range<W: Write>(to: &mut W, ranges: &[u32], i: usize) -> io::Result<()> {
     if 1024 <= i {
-        return;
+        return Ok(());
     }
-    io::print_decimal(STDOUT_FILENO, number_at(ranges, 2 * i));
-    io::write_all(STDOUT_FILENO, b" ");
-    io::print_decimal(STDOUT_FILENO, number_at(ranges, 2 * i + 1));
-    io::write_all(STDOUT_FILENO, b"\n");
+    write!(to, "{}", number_at(ranges, 2 * i))?;
+    to.write_all(b" ")?;
+    write!(to, "{}", number_at(ranges, 2 * i + 1))?;
+    to.write_all(b"\n")
 }
 
-fn print_ranges(ranges: &[u32], count: usize) {
+fn print_ranges<W: Write>(to: &mut W, ranges: &[u32], count: usize) -> io::Result<()> {
     let mut i: usize = 0;
     while i < count {
-        print_range(ranges, i);
+        print_range(to, ranges, i)?;
         i += 1;
     }
+    Ok(())
 }
 
-fn print_list(list: &[u8]) {
+fn print_list<W: Write>(to: &mut W, list: &[u8]) -> io::Result<()> {
     let mut ranges = [0u32; 2048];
     let p = trim::parse(list, &mut ranges);
     let number = p.number;
     if number != 0 {
-        files_map::print_number(b"refused ", number);
-        return;
+        files_map::print_number(to, b"refused ", number)?;
+        return Ok(());
     }
-    io::write_all(STDOUT_FILENO, b"ranges ");
-    io::print_decimal(STDOUT_FILENO, p.count as u64);
-    io::write_all(STDOUT_FILENO, b"\n");
-    print_ranges(&ranges, p.count);
+    to.write_all(b"ranges ")?;
+    write!(to, "{}", p.count)?;
+    to.write_all(b"\n")?;
+    print_ranges(to, &ranges, p.count)
 }
 
 // The kind whose unit is u; there is none for any other.
@@ -56,7 +58,7 @@ fn kind_of(u: u32) -> u32 {
     3
 }
 
-fn print_converted(head: &[u8], x: &[u8]) {
+fn print_converted<W: Write>(to: &mut W, head: &[u8], x: &[u8]) -> io::Result<()> {
     let low = checked_blocks::word(x, 0) as u64;
     let high = checked_blocks::word(x, 1) as u64;
     let value = low + 4294967296 * high;
@@ -64,78 +66,89 @@ fn print_converted(head: &[u8], x: &[u8]) {
     let kind = kind_of(checked_blocks::word(head, 2));
     let way = checked_blocks::word(head, 3);
     if way == 0 {
-        print_value(caption_time::units_to_ticks(value, timescale, kind));
-        return;
+        return print_value(to, caption_time::units_to_ticks(value, timescale, kind));
     }
     if way == 1 {
-        print_value(caption_time::ticks_to_units_floor(value, timescale, kind));
-        return;
+        return print_value(
+            to,
+            caption_time::ticks_to_units_floor(value, timescale, kind),
+        );
     }
-    print_value(caption_time::ticks_to_units_ceil(value, timescale, kind));
+    print_value(
+        to,
+        caption_time::ticks_to_units_ceil(value, timescale, kind),
+    )
 }
 
-fn print_value(c: caption_time::Converted) {
+fn print_value<W: Write>(to: &mut W, c: caption_time::Converted) -> io::Result<()> {
     let number = c.number;
     if number != 0 {
-        files_map::print_number(b"refused ", number);
-        return;
+        files_map::print_number(to, b"refused ", number)?;
+        return Ok(());
     }
-    io::write_all(STDOUT_FILENO, b"converted ");
-    io::print_decimal(STDOUT_FILENO, c.value);
-    io::write_all(STDOUT_FILENO, b"\n");
+    to.write_all(b"converted ")?;
+    write!(to, "{}", c.value)?;
+    to.write_all(b"\n")
 }
 
 // An op that has no text.
-fn answer_plain(op: u32, head: &[u8], x: &[u8], y: &[u8], z: &[u8]) {
+fn answer_plain<W: Write>(
+    to: &mut W,
+    op: u32,
+    head: &[u8],
+    x: &[u8],
+    y: &[u8],
+    z: &[u8],
+) -> io::Result<()> {
     if op == 1 {
-        print_list(x);
-        return;
+        return print_list(to, x);
     }
     if op == 2 {
         print_made(
+            to,
             x,
             y,
             checked_blocks::word(head, 1),
             checked_blocks::word(head, 3),
-        );
-        return;
+        )?;
+        return Ok(());
     }
     if op == 4 {
-        print_converted(head, x);
-        return;
+        return print_converted(to, head, x);
     }
-    if asks(head, x, y, z) {
-        return;
+    if asks(to, head, x, y, z)? {
+        return Ok(());
     }
-    files_map::print_number(b"unknown op ", op);
+    files_map::print_number(to, b"unknown op ", op)?;
+    Ok(())
 }
 
-pub fn answer(head: &[u8], x: &[u8], y: &[u8], z: &[u8]) {
+pub fn answer<W: Write>(to: &mut W, head: &[u8], x: &[u8], y: &[u8], z: &[u8]) -> io::Result<()> {
     let op = checked_blocks::word(head, 0);
     let first = checked_blocks::word(head, 1);
     let second = checked_blocks::word(head, 2);
     let third = checked_blocks::word(head, 3);
     let plan = checked_blocks::word(head, 4);
     if op == 3 {
-        through_made(x, y, first, third, second, plan, z);
-        return;
+        through_made(to, x, y, first, third, second, plan, z)?;
+        return Ok(());
     }
     if op == 5 {
-        texts(head, x, y, z);
-        return;
+        texts(to, head, x, y, z)?;
+        return Ok(());
     }
-    if map_texts(head, x, y) {
-        return;
+    if map_texts(to, head, x, y)? {
+        return Ok(());
     }
     if op < 13 {
-        answer_plain(op, head, x, y, z);
-        return;
+        return answer_plain(to, op, head, x, y, z);
     }
-    if texts(head, x, y, z) {
-        return;
+    if texts(to, head, x, y, z)? {
+        return Ok(());
     }
-    if replay_rows::answer(op, second, third, z) {
-        return;
+    if replay_rows::answer(to, op, second, third, z)? {
+        return Ok(());
     }
-    files_map::print_number(b"unknown op ", op);
+    files_map::print_number(to, b"unknown op ", op)?;
+    Ok(())
 }

@@ -1,32 +1,43 @@
 // Parts of a case, read from standard input.
+use std::io;
+use std::io::Read;
 
 // Reads n bytes that do not fit and throws them away.
-fn skip(n: usize) {
+fn skip<R: Read>(from: &mut R, n: usize) -> io::Result<()> {
     let mut left = n;
     while 0 < left {
         let mut one = [0u8; 1];
-        let got = io::read_full(0, &mut one);
+        let got = files_map::read_full(from, &mut one)?;
         if got == 0 {
-            return;
+            return Ok(());
         }
         left -= 1;
     }
+    Ok(())
 }
 
 // Reads n bytes to the start of buf where they fit, and answers whether they did.
-fn take(buf: &mut [u8], n: usize) -> bool {
+fn take<R: Read>(from: &mut R, buf: &mut [u8], n: usize) -> io::Result<bool> {
     if buf.len() < n {
-        skip(n);
-        return false;
+        skip(from, n)?;
+        return Ok(false);
     }
-    io::read_full(0, &mut buf[..n]);
-    true
+    files_map::read_full(from, &mut buf[..n])?;
+    Ok(true)
 }
 
 // Reads three parts, each to a slice of its own, and answers whether all did fit.
-pub fn take_parts(x: &mut [u8], n: usize, y: &mut [u8], m: usize, z: &mut [u8], l: usize) -> bool {
-    let first = take(x, n);
-    let second = take(y, m);
-    let third = take(z, l);
-    first && second && third
+pub fn take_parts<R: Read>(
+    from: &mut R,
+    x: &mut [u8],
+    n: usize,
+    y: &mut [u8],
+    m: usize,
+    z: &mut [u8],
+    l: usize,
+) -> io::Result<bool> {
+    let first = take(from, x, n)?;
+    let second = take(from, y, m)?;
+    let third = take(from, z, l)?;
+    Ok(first && second && third)
 }

@@ -10,49 +10,67 @@
 mod answer;
 mod input;
 
-use libc::STDOUT_FILENO;
+use std::io;
+use std::io::{BufReader, BufWriter, Read, Write};
 
-fn print_head(k: u64) {
-    io::write_all(STDOUT_FILENO, b"case ");
-    io::print_decimal(STDOUT_FILENO, k);
-    io::write_all(STDOUT_FILENO, b"\n");
+fn print_head<W: Write>(to: &mut W, k: u64) -> io::Result<()> {
+    to.write_all(b"case ")?;
+    write!(to, "{k}")?;
+    to.write_all(b"\n")
 }
 
 // One case, of which the head is read; its parts go to the lent slices. `too large` where one does not fit.
-fn run_case(head: &[u8], x: &mut [u8], y: &mut [u8], z: &mut [u8]) {
+fn run_case<R: Read, W: Write>(
+    from: &mut R,
+    to: &mut W,
+    head: &[u8],
+    x: &mut [u8],
+    y: &mut [u8],
+    z: &mut [u8],
+) -> io::Result<()> {
     let n = checked_blocks::word(head, 5) as usize;
     let m = checked_blocks::word(head, 6) as usize;
     let l = checked_blocks::word(head, 7) as usize;
-    if !input::take_parts(x, n, y, m, z, l) {
-        io::write_all(STDOUT_FILENO, b"too large\n");
-        return;
+    if !input::take_parts(from, x, n, y, m, z, l)? {
+        return to.write_all(b"too large\n");
     }
     answer::answer(
+        to,
         head,
         base::front(x, n),
         base::front(y, m),
         base::front(z, l),
-    );
+    )
 }
 
 // Case by case, up to the end of the input.
-fn run_cases(x: &mut [u8], y: &mut [u8], z: &mut [u8]) {
+fn run_cases<R: Read, W: Write>(
+    from: &mut R,
+    to: &mut W,
+    x: &mut [u8],
+    y: &mut [u8],
+    z: &mut [u8],
+) -> io::Result<()> {
     let mut k: u64 = 0;
     while k < 1099511627776 {
         let mut head = [0u8; 32];
-        let n = io::read_full(0, &mut head);
+        let n = files_map::read_full(from, &mut head)?;
         if n < 32 {
-            return;
+            return Ok(());
         }
-        print_head(k);
-        run_case(&head, x, y, z);
+        print_head(to, k)?;
+        run_case(from, to, &head, x, y, z)?;
         k += 1;
     }
+    Ok(())
 }
 
-fn main() {
+fn main(rt: HostRuntime) -> io::Result<()> {
     let mut x = [0u8; 300000];
     let mut y = [0u8; 70000];
     let mut z = [0u8; 131072];
-    run_cases(&mut x, &mut y, &mut z);
+    let mut from = BufReader::new(rt.alloc(), rt.reader())?;
+    let mut to = BufWriter::new(rt.alloc(), io::writer(&rt))?;
+    run_cases(&mut from, &mut to, &mut x, &mut y, &mut z)?;
+    to.flush()
 }

@@ -3,7 +3,8 @@ ghost use Rattle.std.specs.Prelude.{◌≤◌};
 
 use ask_reason::Why;
 use caption_fate::Counted;
-use libc::STDOUT_FILENO;
+use std::io;
+use std::io::Write;
 
 // How many of 2,048 places a case lends.
 fn lent_places(c: u32) -> usize
@@ -16,59 +17,74 @@ fn lent_places(c: u32) -> usize
     n
 }
 
-fn print_fate(fate: Counted) {
+fn print_fate<W: Write>(to: &mut W, fate: Counted) -> io::Result<()> {
     match fate {
         Counted::Shifted => {
-            io::write_all(STDOUT_FILENO, b"why shifted ");
+            to.write_all(b"why shifted ")?;
         }
         Counted::Clipped => {
-            io::write_all(STDOUT_FILENO, b"why clipped ");
+            to.write_all(b"why clipped ")?;
         }
         _ => {
-            io::write_all(STDOUT_FILENO, b"why dropped ");
+            to.write_all(b"why dropped ")?;
         }
     }
+    Ok(())
 }
 
 // The fate, the place, and the ticks cut off at each end; or the number.
-fn print_told(why: Why) {
+fn print_told<W: Write>(to: &mut W, why: Why) -> io::Result<()> {
     if why.number != 0 {
-        files_map::print_number(b"refused ", why.number);
-        return;
+        files_map::print_number(to, b"refused ", why.number)?;
+        return Ok(());
     }
     let fate = why.fate;
-    print_fate(fate);
-    io::print_decimal(STDOUT_FILENO, why.place as u64);
-    io::write_all(STDOUT_FILENO, b" ");
-    io::print_decimal(STDOUT_FILENO, why.start_cut);
-    io::write_all(STDOUT_FILENO, b" ");
-    io::print_decimal(STDOUT_FILENO, why.end_cut);
-    io::write_all(STDOUT_FILENO, b"\n");
+    print_fate(to, fate)?;
+    write!(to, "{}", why.place)?;
+    to.write_all(b" ")?;
+    write!(to, "{}", why.start_cut)?;
+    to.write_all(b" ")?;
+    write!(to, "{}", why.end_cut)?;
+    to.write_all(b"\n")
 }
 
-fn print_places(places: &[u64]) {
-    io::write_all(STDOUT_FILENO, b"places");
+fn print_places<W: Write>(to: &mut W, places: &[u64]) -> io::Result<()> {
+    to.write_all(b"places")?;
     let mut i: usize = 0;
     while i < places.len() {
-        io::write_all(STDOUT_FILENO, b" ");
-        io::print_decimal(STDOUT_FILENO, base::word(places, i));
+        to.write_all(b" ")?;
+        write!(to, "{}", base::word(places, i))?;
         i += 1;
     }
-    io::write_all(STDOUT_FILENO, b"\n");
+    to.write_all(b"\n")
 }
 
 // The answer, and all places that were lent.
-fn print_asked(timescale: u32, kind: u32, map: &[u64], times: &[u64], places: &mut [u64]) {
+fn print_asked<W: Write>(
+    to: &mut W,
+    timescale: u32,
+    kind: u32,
+    map: &[u64],
+    times: &[u64],
+    places: &mut [u64],
+) -> io::Result<()> {
     let start = base::word(times, 0);
     let stop = base::word(times, 1);
     let why = ask_reason::reason(map, timescale, kind, start, stop, places);
-    print_told(why);
-    print_places(places);
+    print_told(to, why)?;
+    print_places(to, places)
 }
 
 // A caption of two times in units, with so many places lent for the causes, each of which holds 7 (request 2.8).
-pub fn print_why(timescale: u32, kind: u32, lent: u32, map: &[u64], times: &[u64]) {
+pub fn print_why<W: Write>(
+    to: &mut W,
+    timescale: u32,
+    kind: u32,
+    lent: u32,
+    map: &[u64],
+    times: &[u64],
+) -> io::Result<()> {
     let mut places = [7u64; 2048];
     let n = lent_places(lent);
-    print_asked(timescale, kind, map, times, &mut places[..n]);
+    print_asked(to, timescale, kind, map, times, &mut places[..n])
 }

@@ -1,15 +1,15 @@
 // Whether a map ascends.
-use libc::STDOUT_FILENO;
+use std::io;
+use std::io::Write;
 
 // Whether the map is one that request 2.12 admits.
-pub fn print_ascends(map: &[u64]) {
+pub fn print_ascends<W: Write>(to: &mut W, map: &[u64]) -> io::Result<()> {
     if segment::map_bad(map) {
-        files_map::print_number(b"refused ", 15);
-        return;
+        files_map::print_number(to, b"refused ", 15)?;
+        return Ok(());
     }
     if ask_order::ascends(map) {
-        io::write_all(STDOUT_FILENO, b"ascends yes\n");
-        return;
+        return to.write_all(b"ascends yes\n");
     }
-    io::write_all(STDOUT_FILENO, b"ascends no\n");
+    to.write_all(b"ascends no\n")
 }

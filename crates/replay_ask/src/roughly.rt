@@ -1,9 +1,10 @@
 // What is sure of a caption whose times are known only roughly.
 use ask_rough::Judged;
-use libc::STDOUT_FILENO;
+use std::io;
+use std::io::Write;
 
 // The bounds are start low, start high, end low and end high, in ticks (request 2.11).
-pub fn print_rough(map: &[u64], bounds: &[u64]) {
+pub fn print_rough<W: Write>(to: &mut W, map: &[u64], bounds: &[u64]) -> io::Result<()> {
     let j = ask_rough::rough(
         map,
         base::word(bounds, 0),
@@ -13,16 +14,17 @@ pub fn print_rough(map: &[u64], bounds: &[u64]) {
     );
     match j {
         Judged::Refused(k) => {
-            files_map::print_number(b"refused ", k);
+            files_map::print_number(to, b"refused ", k)?;
         }
         Judged::SurelyKept => {
-            io::write_all(STDOUT_FILENO, b"rough kept\n");
+            to.write_all(b"rough kept\n")?;
         }
         Judged::SurelyDropped => {
-            io::write_all(STDOUT_FILENO, b"rough dropped\n");
+            to.write_all(b"rough dropped\n")?;
         }
         Judged::Unsure => {
-            io::write_all(STDOUT_FILENO, b"rough unsure\n");
+            to.write_all(b"rough unsure\n")?;
         }
     }
+    Ok(())
 }

@@ -1,19 +1,26 @@
 // How many starts survive a cut.
-use libc::STDOUT_FILENO;
+use std::io;
+use std::io::Write;
 
 // The line `census` with the three counts, or `refused` and the number. `few` has the length and the count of starts.
-pub fn print_census(map: &[u64], timescale: u32, kind: u32, few: &[u64]) {
+pub fn print_census<W: Write>(
+    to: &mut W,
+    map: &[u64],
+    timescale: u32,
+    kind: u32,
+    few: &[u64],
+) -> io::Result<()> {
     let c = ask_census::census(map, timescale, kind, base::word(few, 0), base::word(few, 1));
     let number = c.number;
     if number != 0 {
-        files_map::print_number(b"refused ", number);
-        return;
+        files_map::print_number(to, b"refused ", number)?;
+        return Ok(());
     }
-    io::write_all(STDOUT_FILENO, b"census ");
-    io::print_decimal(STDOUT_FILENO, c.shifted);
-    io::write_all(STDOUT_FILENO, b" ");
-    io::print_decimal(STDOUT_FILENO, c.clipped);
-    io::write_all(STDOUT_FILENO, b" ");
-    io::print_decimal(STDOUT_FILENO, c.dropped);
-    io::write_all(STDOUT_FILENO, b"\n");
+    to.write_all(b"census ")?;
+    write!(to, "{}", c.shifted)?;
+    to.write_all(b" ")?;
+    write!(to, "{}", c.clipped)?;
+    to.write_all(b" ")?;
+    write!(to, "{}", c.dropped)?;
+    to.write_all(b"\n")
 }

@@ -1,5 +1,5 @@
 // The map of a case that has a text.
-ghost use Rattle.std.specs.Prelude.{◌≡◌, ◌≤◌, length};
+ghost use Rattle.std.specs.Prelude.{◌≡◌, ◌≤◌, length, IfOk};
 ghost use Rattle.spec_base.specs.base.Limits.{most_work};
 ghost use Rattle.spec_sheet.specs.checked_blocks.Block.{word_at};
 ghost use Rattle.replay_ask.specs.Query.{is_query};
@@ -8,6 +8,8 @@ ghost use Rattle.replay_sessions.specs.Op.{is_text};
 ghost use Rattle.replay_maps.specs.Made.{work_lent, made_number};
 
 use segmap::Made;
+use std::io;
+use std::io::Write;
 
 // The 64-bit number at place k.
 fn number_in(x: &[u8], k: usize) -> u64 {
@@ -32,8 +34,8 @@ fn fill(x: &[u8], n: usize, map: &mut [u64]) {
 }
 
 // Whether the op is about a text or a session; its answer is printed. The map is the one that x has, six numbers to a segment.
-pub fn texts(head: &[u8], x: &[u8], y: &[u8], z: &[u8]) -> bool
-    ensures { result ≡ is_text (word_at head.now 0) }
+pub fn texts<W: Write>(to: &mut W, head: &[u8], x: &[u8], y: &[u8], z: &[u8]) -> io::Result<bool>
+    ensures { IfOk result (λ r. r ≡ is_text (word_at head.now 0)) }
 {
     let mut map = [0u64; 8750];
     let n = x.len() / 8;
@@ -44,7 +46,7 @@ pub fn texts(head: &[u8], x: &[u8], y: &[u8], z: &[u8]) -> bool
     let c = checked_blocks::word(head, 3);
     let d = checked_blocks::word(head, 4);
     let given = base::words_front(&map, n);
-    replay_sessions::answer(op, a, b, c, d, given, x, y, z)
+    replay_sessions::answer(to, op, a, b, c, d, given, x, y, z)
 }
 
 // How many work bytes a case lends: 0 is as many as are always enough, and more do not matter.
@@ -62,17 +64,23 @@ fn work_lent(c: u32) -> usize
 }
 
 // Prints the map of a sheet and a list, with so many work bytes, or `refused` and the number that it answers.
-pub fn print_made(sheet: &[u8], list: &[u8], direction: u32, lent: u32) -> u32
-    ensures { result ≡ made_number sheet.now list.now direction lent }
+pub fn print_made<W: Write>(
+    to: &mut W,
+    sheet: &[u8],
+    list: &[u8],
+    direction: u32,
+    lent: u32,
+) -> io::Result<u32>
+    ensures { IfOk result (λ r. r ≡ made_number sheet.now list.now direction lent) }
 {
     let mut work = [0; base::MOST_WORK];
     let n = work_lent(lent);
-    files_map::print_map_of(sheet, list, direction, &mut work[..n])
+    files_map::print_map_of(to, sheet, list, direction, &mut work[..n])
 }
 
 // Whether the op is a question about the map that x has; its answer is printed. The numbers of y and z go with it.
-pub fn asks(head: &[u8], x: &[u8], y: &[u8], z: &[u8]) -> bool
-    ensures { result ≡ is_query (word_at head.now 0) }
+pub fn asks<W: Write>(to: &mut W, head: &[u8], x: &[u8], y: &[u8], z: &[u8]) -> io::Result<bool>
+    ensures { IfOk result (λ r. r ≡ is_query (word_at head.now 0)) }
 {
     let mut map = [0u64; 8750];
     let mut few = [0u64; 8];
@@ -88,6 +96,7 @@ pub fn asks(head: &[u8], x: &[u8], y: &[u8], z: &[u8]) -> bool
     let b = checked_blocks::word(head, 2);
     let c = checked_blocks::word(head, 3);
     replay_ask::answer(
+        to,
         op,
         a,
         b,
@@ -99,8 +108,8 @@ pub fn asks(head: &[u8], x: &[u8], y: &[u8], z: &[u8]) -> bool
 }
 
 // Whether the op writes the map that x has as JSON, with the path y, or reads the JSON x; its answer is printed.
-pub fn map_texts(head: &[u8], x: &[u8], y: &[u8]) -> bool
-    ensures { result ≡ is_text_query (word_at head.now 0) }
+pub fn map_texts<W: Write>(to: &mut W, head: &[u8], x: &[u8], y: &[u8]) -> io::Result<bool>
+    ensures { IfOk result (λ r. r ≡ is_text_query (word_at head.now 0)) }
 {
     let mut map = [0u64; 8750];
     let n = x.len() / 8;
@@ -110,7 +119,7 @@ pub fn map_texts(head: &[u8], x: &[u8], y: &[u8]) -> bool
     let b = checked_blocks::word(head, 2);
     let c = checked_blocks::word(head, 3);
     let d = checked_blocks::word(head, 4);
-    replay_json::answer(op, a, b, c, d, base::words_front(&map, n), x, y)
+    replay_json::answer(to, op, a, b, c, d, base::words_front(&map, n), x, y)
 }
 
 // Makes the map of a sheet and a list, with so many work bytes.
@@ -124,7 +133,8 @@ fn make(sheet: &[u8], list: &[u8], direction: u32, lent: u32, map: &mut [u64]) -
 }
 
 // Prints a text through the map of a sheet and a list, with so many work bytes, or `refused` and the number of the map, which it answers.
-pub fn through_made(
+pub fn through_made<W: Write>(
+    to: &mut W,
     sheet: &[u8],
     list: &[u8],
     direction: u32,
@@ -132,16 +142,17 @@ pub fn through_made(
     kind: u32,
     plan: u32,
     text: &[u8],
-) -> u32
-    ensures { result ≡ made_number sheet.now list.now direction lent }
+) -> io::Result<u32>
+    ensures { IfOk result (λ r. r ≡ made_number sheet.now list.now direction lent) }
 {
     let mut map = [0u64; 6144];
     let made = make(sheet, list, direction, lent, &mut map);
     let number = made.number;
     if number != 0 {
-        return files_map::print_number(b"refused ", number);
+        return files_map::print_number(to, b"refused ", number);
     }
     replay_sessions::answer(
+        to,
         5,
         made.timescale,
         kind,
@@ -151,6 +162,6 @@ pub fn through_made(
         b"",
         b"",
         text,
-    );
-    0
+    )?;
+    Ok(0)
 }

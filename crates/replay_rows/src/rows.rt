@@ -1,7 +1,8 @@
 // The rows of a text, printed.
 ghost use Rattle.std.specs.Prelude.{◌≤◌};
 
-use libc::STDOUT_FILENO;
+use std::io;
+use std::io::Write;
 
 // How many of 98,304 places a case lends: 0 is all, six for each caption that a text of a case can have.
 fn lent_places(c: u32) -> usize
@@ -18,49 +19,51 @@ fn lent_places(c: u32) -> usize
 }
 
 // What stands behind the number in column k of a row, and the next column.
-fn print_between(k: usize) -> usize {
+fn print_between<W: Write>(to: &mut W, k: usize) -> io::Result<usize> {
     if k < 5 {
-        io::write_all(STDOUT_FILENO, b" ");
-        return k + 1;
+        to.write_all(b" ")?;
+        return Ok(k + 1);
     }
-    io::write_all(STDOUT_FILENO, b"\n");
-    0
+    to.write_all(b"\n")?;
+    Ok(0)
 }
 
 // Six numbers in a line.
-fn print_rows(numbers: &[u64]) {
+fn print_rows<W: Write>(to: &mut W, numbers: &[u64]) -> io::Result<()> {
     let mut i: usize = 0;
     let mut k: usize = 0;
     while i < numbers.len() {
-        io::print_decimal(STDOUT_FILENO, base::word(numbers, i));
-        k = print_between(k);
+        write!(to, "{}", base::word(numbers, i))?;
+        k = print_between(to, k)?;
         i += 1;
     }
+    Ok(())
 }
 
 // The line `cues` with the number of captions and the line of the fault, a line for each caption, and the line `fault` with its number where there is one; or `refused 16`.
-fn print_read(kind: u32, text: &[u8], rows: &mut [u64]) {
+fn print_read<W: Write>(to: &mut W, kind: u32, text: &[u8], rows: &mut [u64]) -> io::Result<()> {
     let mut told = [0u64; 2];
     let number = caption_rows::read_cues(kind, text, rows, &mut told);
     if number == 16 {
-        files_map::print_number(b"refused ", number);
-        return;
+        files_map::print_number(to, b"refused ", number)?;
+        return Ok(());
     }
     let count = base::word(&told, 0);
-    io::write_all(STDOUT_FILENO, b"cues ");
-    io::print_decimal(STDOUT_FILENO, count);
-    io::write_all(STDOUT_FILENO, b" ");
-    io::print_decimal(STDOUT_FILENO, base::word(&told, 1));
-    io::write_all(STDOUT_FILENO, b"\n");
-    print_rows(files_map::first_segments(rows, count as usize));
+    to.write_all(b"cues ")?;
+    write!(to, "{count}")?;
+    to.write_all(b" ")?;
+    write!(to, "{}", base::word(&told, 1))?;
+    to.write_all(b"\n")?;
+    print_rows(to, files_map::first_segments(rows, count as usize))?;
     if number != 0 {
-        files_map::print_number(b"fault ", number);
+        files_map::print_number(to, b"fault ", number)?;
     }
+    Ok(())
 }
 
 // The captions of a text, with so many places lent for rows.
-pub fn print_cues(kind: u32, text: &[u8], lent: u32) {
+pub fn print_cues<W: Write>(to: &mut W, kind: u32, text: &[u8], lent: u32) -> io::Result<()> {
     let mut rows = [0u64; 98304];
     let n = lent_places(lent);
-    print_read(kind, text, &mut rows[..n]);
+    print_read(to, kind, text, &mut rows[..n])
 }

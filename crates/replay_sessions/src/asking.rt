@@ -1,16 +1,19 @@
 // The answer by its op.
-ghost use Rattle.std.specs.Prelude.{◌≡◌};
+ghost use Rattle.std.specs.Prelude.{◌≡◌, IfOk};
 ghost use Rattle.replay_sessions.specs.Op.{is_text};
 
 use crate::parked::print_parked;
 use crate::retimed::print_retimed;
 use crate::storing::{plain, with_parkings};
 use replay_taken::print_taken;
+use std::io;
+use std::io::Write;
 
 // A case as `replay` has it: the words a to d of its head, the map of X, six numbers a segment, and the bytes X, Y and Z.
 // Prints the answer to an op about a text or a session: 5 the text Z retimed, 13 the same with parkings (request 2.10), 14 the session of the blocks X, 15 the blocks of
 // the session that Z leaves. Tells whether the op is such a one; nothing is printed where it is not.
-pub fn answer(
+pub fn answer<W: Write>(
+    to: &mut W,
     op: u32,
     a: u32,
     b: u32,
@@ -20,24 +23,24 @@ pub fn answer(
     x: &[u8],
     y: &[u8],
     z: &[u8],
-) -> bool
-    ensures { result ≡ is_text op }
+) -> io::Result<bool>
+    ensures { IfOk result (λ r. r ≡ is_text op) }
 {
     if op == 5 {
-        print_retimed(b, a, map, z, plain(d));
-        return true;
+        print_retimed(to, b, a, map, z, plain(d))?;
+        return Ok(true);
     }
     if op == 13 {
-        print_retimed(b, a, map, z, with_parkings(d, c, y));
-        return true;
+        print_retimed(to, b, a, map, z, with_parkings(d, c, y))?;
+        return Ok(true);
     }
     if op == 14 {
-        print_taken(x);
-        return true;
+        print_taken(to, x)?;
+        return Ok(true);
     }
     if op == 15 {
-        print_parked(b, a, map, z, d, c);
-        return true;
+        print_parked(to, b, a, map, z, d, c)?;
+        return Ok(true);
     }
-    false
+    Ok(false)
 }

@@ -1,10 +1,11 @@
 // A session taken up, printed.
-ghost use Rattle.std.specs.Prelude.{◌≡◌};
+ghost use Rattle.std.specs.Prelude.{◌≡◌, IfOk};
 ghost use Rattle.spec_parking.specs.parking.Parkings.{take_number};
 
-use libc::STDOUT_FILENO;
 use number_lines::print_line;
 use session_state::Session;
+use std::io;
+use std::io::Write;
 
 fn flag(t: bool) -> u64 {
     if t {
@@ -40,26 +41,26 @@ fn numbers(session: Session) -> [u64; 15] {
 }
 
 // The line `taken` with fifteen numbers, the line `held` with a length, the held bytes and a line end.
-fn print_session(session: Session) {
+fn print_session<W: Write>(to: &mut W, session: Session) -> io::Result<()> {
     let ns = numbers(session);
-    print_line(b"taken", &ns);
+    print_line(to, b"taken", &ns)?;
     let n = session.held_len;
-    print_line(b"held", &[n as u64]);
+    print_line(to, b"held", &[n as u64])?;
     let held = session.held;
-    io::write_all(STDOUT_FILENO, base::front(&held, n));
-    io::write_all(STDOUT_FILENO, b"\n");
+    to.write_all(base::front(&held, n))?;
+    to.write_all(b"\n")
 }
 
 // Prints the session that the blocks name, or `refused` and the number that it answers.
-pub fn print_taken(bytes: &[u8]) -> u32
-    ensures { result ≡ take_number bytes.now }
+pub fn print_taken<W: Write>(to: &mut W, bytes: &[u8]) -> io::Result<u32>
+    ensures { IfOk result (λ r. r ≡ take_number bytes.now) }
 {
     let up = parking::take_up(bytes);
     let number = up.number;
     if number != 0 {
-        return files_map::print_number(b"refused ", number);
+        return files_map::print_number(to, b"refused ", number);
     }
     let session = up.session;
-    print_session(session);
-    0
+    print_session(to, session)?;
+    Ok(0)
 }

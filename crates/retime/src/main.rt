@@ -1,14 +1,21 @@
 // Reads `sheet.bin`, `trim.txt` and `subs.ass`, else `subs.srt`, else `subs.vtt`, and prints the retimed text, or `refused` and the number.
 #![tactic(auto)]
 
-fn main() {
-    let sheet = files_map::load(b"", b"sheet.bin");
-    let list = files_map::load(b"", b"trim.txt");
+use std::io;
+use std::io::{BufWriter, Write};
+
+fn main(rt: HostRuntime) -> io::Result<()> {
+    let sheet = files_map::load(&rt, b"", b"sheet.bin")?;
+    let list = files_map::load(&rt, b"", b"trim.txt")?;
     let s = sheet.bytes;
     let l = list.bytes;
+    let mut to = BufWriter::new(rt.alloc(), io::writer(&rt))?;
     files_retime::retime(
+        &rt,
+        &mut to,
         b"",
         base::front(&s, sheet.length),
         base::front(&l, list.length),
-    );
+    )?;
+    to.flush()
 }

@@ -1,16 +1,22 @@
 // Reads `sheet.bin`, `trim.txt` and `times.txt`, and prints what becomes of a caption with the times of each line, and why; or `refused` and the number.
 #![tactic(auto)]
 
-fn main() {
-    let sheet = files_map::load(b"", b"sheet.bin");
-    let list = files_map::load(b"", b"trim.txt");
-    let times = files_map::load(b"", b"times.txt");
+use std::io;
+use std::io::{BufWriter, Write};
+
+fn main(rt: HostRuntime) -> io::Result<()> {
+    let sheet = files_map::load(&rt, b"", b"sheet.bin")?;
+    let list = files_map::load(&rt, b"", b"trim.txt")?;
+    let times = files_map::load(&rt, b"", b"times.txt")?;
     let s = sheet.bytes;
     let l = list.bytes;
     let t = times.bytes;
+    let mut to = BufWriter::new(rt.alloc(), io::writer(&rt))?;
     files_why::tell(
+        &mut to,
         base::front(&s, sheet.length),
         base::front(&l, list.length),
         base::front(&t, times.length),
-    );
+    )?;
+    to.flush()
 }

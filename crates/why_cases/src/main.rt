@@ -1,38 +1,44 @@
 // Runs `why` over the folders that `cases.txt` names, a line each, and prints each page under the folder's name, with an empty line behind it.
 #![tactic(auto)]
 
-use libc::STDOUT_FILENO;
+use std::io;
+use std::io::{BufWriter, Write};
+use std::rt::Files;
 
-fn run_case(name: &[u8]) {
-    io::write_all(STDOUT_FILENO, name);
-    io::write_all(STDOUT_FILENO, b":\n");
-    let sheet = files_map::load(name, b"sheet.bin");
-    let list = files_map::load(name, b"trim.txt");
-    let times = files_map::load(name, b"times.txt");
+fn run_case<R: Files, W: Write>(rt: &R, to: &mut W, name: &[u8]) -> io::Result<()> {
+    to.write_all(name)?;
+    to.write_all(b":\n")?;
+    let sheet = files_map::load(rt, name, b"sheet.bin")?;
+    let list = files_map::load(rt, name, b"trim.txt")?;
+    let times = files_map::load(rt, name, b"times.txt")?;
     let s = sheet.bytes;
     let l = list.bytes;
     let t = times.bytes;
     files_why::tell(
+        to,
         base::front(&s, sheet.length),
         base::front(&l, list.length),
         base::front(&t, times.length),
-    );
-    io::write_all(STDOUT_FILENO, b"\n");
+    )?;
+    to.write_all(b"\n")
 }
 
-fn run_cases(names: &[u8]) {
+fn run_cases<R: Files, W: Write>(rt: &R, to: &mut W, names: &[u8]) -> io::Result<()> {
     let mut t = names;
     while 0 < t.len() {
         let n = text::line_length(t);
         let line = base::front(t, n);
-        run_case(text::text_of(line));
+        run_case(rt, to, text::text_of(line))?;
         let u = base::rest(t, n);
         t = u;
     }
+    Ok(())
 }
 
-fn main() {
-    let file = files_map::load(b"", b"cases.txt");
+fn main(rt: HostRuntime) -> io::Result<()> {
+    let file = files_map::load(&rt, b"", b"cases.txt")?;
     let names = file.bytes;
-    run_cases(base::front(&names, file.length));
+    let mut to = BufWriter::new(rt.alloc(), io::writer(&rt))?;
+    run_cases(&rt, &mut to, base::front(&names, file.length))?;
+    to.flush()
 }
