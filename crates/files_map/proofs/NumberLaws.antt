@@ -1,6 +1,7 @@
 -- The number that is printed.
-use mathlib.Core.Path.{◌≡◌, sym, ap, ◌∙◌}
+use mathlib.Core.Path.{◌≡◌, sym, ap, subst, ◌∙◌}
 use mathlib.Core.List.{List}
+use Rattle.std.specs.Prelude.{Result, IfOk}
 use Prim.Native.Nat.{ℕ, ◌≤◌, ◌<◌}
 use lib.ListN.{length}
 use borrow.Author.Tests.{lt-ltb, le-ltb}
@@ -28,3 +29,7 @@ too_large s l r h e = yes! _ (lt-ltb 65536 (length s) h) e
 pub within : (s l : List ℕ) (r w : ℕ) → length s ≤ 65536 → r ≡ (map_of s l 0 6144 w).number → w ≡ most_work → r ≡ printed_number s l
 unfolding printed_number
 within s l r w h e q = no! _ (le-ltb 65536 (length s) h) (e ∙ ap (λ (x : ℕ). (map_of s l 0 6144 x).number) q)
+
+-- an answer that is one number is another that equals it
+pub told_as : {E : Type 0} (r : Result ℕ E) (a b : ℕ) → a ≡ b → IfOk r (λ v. v ≡ a) → IfOk r (λ v. v ≡ b)
+told_as {E} r a b e h = subst (λ (x : ℕ). IfOk r (λ v. v ≡ x)) e h
