@@ -1,7 +1,8 @@
 -- Laws of the map that is made, and of the op that is answered.
-use mathlib.Core.Path.{◌≡◌, refl, sym, ap, ◌∙◌}
+use mathlib.Core.Path.{◌≡◌, refl, sym, ap, subst, ◌∙◌}
 use mathlib.Core.Bool.{Bool, true, false}
 use mathlib.Core.List.{List}
+use Rattle.std.specs.Prelude.{Result, IfOk}
 use Prim.Native.Nat.{ℕ, ◌≤◌, ◌<◌}
 use native.Mathlib.Omega.{arith}
 use lib.Dec.{eqb}
@@ -65,3 +66,7 @@ number_made s l d c n k r q h p e =
 pub number_printed : (s l : List ℕ) (d c n r : ℕ) → n ≡ work_lent c → n ≤ most_work → r ≡ (map_of s l d 6144 (length (take n work_bytes))).number → r ≡ made_number s l d c
 unfolding made_number
 number_printed s l d c n r q h e = e ∙ ap (λ (x : ℕ). (map_of s l d 6144 x).number) (lent_long n c q h)
+
+pub answer_printed : {E : Type 0} (r : Result ℕ E) (s l : List ℕ) (d c n : ℕ) → n ≡ work_lent c → n ≤ most_work
+    → IfOk r (λ v. v ≡ (map_of s l d 6144 (length (take n work_bytes))).number) → IfOk r (λ v. v ≡ made_number s l d c)
+answer_printed {E} r s l d c n q h e = subst (λ (x : ℕ). IfOk r (λ v. v ≡ x)) (number_printed s l d c n _ q h refl) e
