@@ -1,6 +1,7 @@
 -- A pass over pieces, call by call.
 use mathlib.Core.Path.{◌≡◌, refl, sym, ap, subst, ◌∙◌}
 use mathlib.Core.List.{List, [], ◌∷◌}
+use Rattle.std.specs.Prelude.{Result, Ok, Err, IfOk}
 use Prim.Native.Nat.{ℕ, ◌≤◌}
 use lib.ListN.{length, take, length-take}
 use native.Mathlib.Omega.{arith}
@@ -56,3 +57,8 @@ module _ (s : Session) (m : List ℕ) (t : Session) (on : Onward s m t) where
       let q : pass_number t m (p ∷ ps) ≡ pass_number (next_of t (feeding m p)) m ps = else_none _ n in
       let v : pass_number (next_of t (feeding m p)) m ps ≡ pass_number r.session m ps = ap (λ (x : Session). pass_number x m ps) (sym (piece_session p o w r out out' places places' e f a)) in
       subst (Passes s m) (q ∙ v) (on (p ∷ ps) (z, k))
+
+-- what holds of an answer holds of what follows from it
+pub answer_to : {E : Type 0} (r : Result ℕ E) (P Q : ℕ → Type 0) → ((v : ℕ) → P v → Q v) → IfOk r P → IfOk r Q
+answer_to (Ok v) P Q f h = f v h
+answer_to (Err e) P Q f h = tt
