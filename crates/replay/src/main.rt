@@ -43,7 +43,7 @@ fn run_case<R: Read, W: Write>(
     )
 }
 
-// Case by case, up to the end of the input.
+// Case by case, up to the end of the input. An answer is written out before the next case is read.
 fn run_cases<R: Read, W: Write>(
     from: &mut R,
     to: &mut W,
@@ -60,6 +60,7 @@ fn run_cases<R: Read, W: Write>(
         }
         print_head(to, k)?;
         run_case(from, to, &head, x, y, z)?;
+        to.flush()?;
         k += 1;
     }
     Ok(())
