@@ -7,10 +7,10 @@ mod sessions;
 mod texts;
 
 use std::io;
-use std::io::{BufWriter, Write};
+use std::io::Write;
 
 fn main(rt: HostRuntime) -> io::Result<()> {
-    let mut to = BufWriter::new(rt.alloc(), io::writer(&rt))?;
+    let mut to = io::writer(&rt);
     let map = [0u64, 3, 0, 3, 0, 3003, 6, 10, 6006, 4, 3003, 4004];
     rows::show(&mut to)?;
     sessions::show(&mut to, &map)?;

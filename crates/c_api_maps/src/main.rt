@@ -5,10 +5,10 @@
 mod maptexts;
 
 use std::io;
-use std::io::{BufWriter, Write};
+use std::io::Write;
 
 fn main(rt: HostRuntime) -> io::Result<()> {
-    let mut to = BufWriter::new(rt.alloc(), io::writer(&rt))?;
+    let mut to = io::writer(&rt);
     maptexts::show(&mut to)?;
     to.flush()
 }

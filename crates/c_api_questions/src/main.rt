@@ -7,7 +7,7 @@ mod questions;
 mod sheets;
 
 use std::io;
-use std::io::{BufWriter, Write};
+use std::io::Write;
 
 fn ask<W: Write>(to: &mut W, map: &[u64]) -> io::Result<()> {
     questions::why(to, map, 5, 25)?;
@@ -39,7 +39,7 @@ fn convert<W: Write>(to: &mut W) -> io::Result<()> {
 }
 
 fn main(rt: HostRuntime) -> io::Result<()> {
-    let mut to = BufWriter::new(rt.alloc(), io::writer(&rt))?;
+    let mut to = io::writer(&rt);
     let map = [0u64, 3, 0, 3, 0, 3003, 6, 10, 6006, 4, 3003, 4004];
     sheets::show(&mut to)?;
     convert(&mut to)?;

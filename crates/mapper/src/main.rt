@@ -2,14 +2,14 @@
 #![tactic(auto)]
 
 use std::io;
-use std::io::{BufWriter, Write};
+use std::io::Write;
 
 fn main(rt: HostRuntime) -> io::Result<()> {
     let sheet = files_map::load(&rt, b"", b"sheet.bin")?;
     let list = files_map::load(&rt, b"", b"trim.txt")?;
     let s = sheet.bytes;
     let l = list.bytes;
-    let mut to = BufWriter::new(rt.alloc(), io::writer(&rt))?;
+    let mut to = io::writer(&rt);
     files_map::print_map(
         &mut to,
         base::front(&s, sheet.length),

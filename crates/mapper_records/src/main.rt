@@ -6,7 +6,7 @@
 ghost use Rattle.std.specs.Io.{ReadsAtMost};
 
 use caption_fate::Hit;
-use std::io::{BufWriter, Write};
+use std::io::Write;
 use std::rt::Files;
 use std::{fs, io};
 
@@ -112,7 +112,7 @@ fn main(rt: HostRuntime) -> io::Result<()> {
     let mut list = [0u8; 65537];
     let n = load(&rt, "sheet.bin", &mut sheet)?;
     let k = load(&rt, "trim.txt", &mut list)?;
-    let mut to = BufWriter::new(rt.alloc(), io::writer(&rt))?;
+    let mut to = io::writer(&rt);
     print_map(&mut to, &sheet[..n], &list[..k])?;
     print_hits(&mut to, &sheet[..n], &list[..k])?;
     print_edges(&mut to, &sheet[..n], &list[..k])?;

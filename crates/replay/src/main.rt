@@ -11,7 +11,7 @@ mod answer;
 mod input;
 
 use std::io;
-use std::io::{BufReader, BufWriter, Read, Write};
+use std::io::{Read, Write};
 
 fn print_head<W: Write>(to: &mut W, k: u64) -> io::Result<()> {
     to.write_all(b"case ")?;
@@ -43,7 +43,7 @@ fn run_case<R: Read, W: Write>(
     )
 }
 
-// Case by case, up to the end of the input. An answer is written out before the next case is read.
+// Case by case, up to the end of the input.
 fn run_cases<R: Read, W: Write>(
     from: &mut R,
     to: &mut W,
@@ -60,7 +60,6 @@ fn run_cases<R: Read, W: Write>(
         }
         print_head(to, k)?;
         run_case(from, to, &head, x, y, z)?;
-        to.flush()?;
         k += 1;
     }
     Ok(())
@@ -70,8 +69,8 @@ fn main(rt: HostRuntime) -> io::Result<()> {
     let mut x = [0u8; 300000];
     let mut y = [0u8; 70000];
     let mut z = [0u8; 131072];
-    let mut from = BufReader::new(rt.alloc(), rt.reader())?;
-    let mut to = BufWriter::new(rt.alloc(), io::writer(&rt))?;
+    let mut from = rt.reader();
+    let mut to = io::writer(&rt);
     run_cases(&mut from, &mut to, &mut x, &mut y, &mut z)?;
     to.flush()
 }

@@ -2,7 +2,7 @@
 #![tactic(auto)]
 
 use std::io;
-use std::io::{BufWriter, Write};
+use std::io::Write;
 use std::rt::Files;
 
 fn run_case<R: Files, W: Write>(rt: &R, to: &mut W, name: &[u8]) -> io::Result<()> {
@@ -37,7 +37,7 @@ fn run_cases<R: Files, W: Write>(rt: &R, to: &mut W, names: &[u8]) -> io::Result
 fn main(rt: HostRuntime) -> io::Result<()> {
     let file = files_map::load(&rt, b"", b"cases.txt")?;
     let names = file.bytes;
-    let mut to = BufWriter::new(rt.alloc(), io::writer(&rt))?;
+    let mut to = io::writer(&rt);
     run_cases(&rt, &mut to, base::front(&names, file.length))?;
     to.flush()
 }

@@ -1,5 +1,5 @@
 -- Document 01: "Where an answer is an enum, there is a definition that gives this paper's number and values for each of its cases." Each premise here is the contract of the
--- functions named; what follows is their number and values, at every input. (`json::plain_value` has its own: `plain_number_lem`, `plain_values_lem` in spec_json/proofs/json/NumberLaws.)
+-- functions named; what follows is their number and values, at every input. (`json_values::plain_value` has its own: `plain_number_lem`, `plain_values_lem` in spec_json/proofs/json/NumberLaws.)
 use Rattle.std.specs.Prelude.{◌≡◌, ◌⊎◌, Bool, ◌&&◌, cond, List, [], ◌∷◌, ℕ, ◌*◌, ◌<◌, eqb, leb, ltb, length}
 use Rattle.spec_text.specs.declared.text.Number.{Number}
 use Rattle.spec_text.specs.text.Number.{digits, value_from, natural, unsigned, number, number_fault, number_values}

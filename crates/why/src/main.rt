@@ -2,7 +2,7 @@
 #![tactic(auto)]
 
 use std::io;
-use std::io::{BufWriter, Write};
+use std::io::Write;
 
 fn main(rt: HostRuntime) -> io::Result<()> {
     let sheet = files_map::load(&rt, b"", b"sheet.bin")?;
@@ -11,7 +11,7 @@ fn main(rt: HostRuntime) -> io::Result<()> {
     let s = sheet.bytes;
     let l = list.bytes;
     let t = times.bytes;
-    let mut to = BufWriter::new(rt.alloc(), io::writer(&rt))?;
+    let mut to = io::writer(&rt);
     files_why::tell(
         &mut to,
         base::front(&s, sheet.length),
