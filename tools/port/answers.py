@@ -4,14 +4,17 @@
 usage: answers.py CRATE..        at the top of a checkout; each crate's own checks decide afterwards
 
 It asks `rt check --generated DIR --old-names` for the old and the new name of each goal, step and loop. Answers that only say `search rules` go: the check finds them.
-A Proof.antt that it turned is moved to /tmp/port-proofs/CRATE. What it could not turn is printed as a line that begins 'left:'.
+A Proof.antt that it turned is moved to port-proofs/CRATE of the folder for temporary files. What it could not turn is printed as a line that begins 'left:'.
 """
 import json
 import os
 import re
 import subprocess
 import sys
+import tempfile
 
+# the kit's folder: `rt doc` prints a page of it
+KIT = os.path.dirname(subprocess.run(["rt", "doc"], capture_output=True, text=True).stdout.strip())
 NAME = r'[^\s(){}.;,@"«»]+'
 ENDS = {"holds": "init", "less": "smaller", "again": "preserved"}
 
@@ -31,7 +34,7 @@ def labels_of(root, path, kind="ensures"):
     crate, mods, fn = parts[0], parts[1:-1], parts[-1]
     src = os.path.join(root, "crates", crate, "src")
     if not os.path.exists(src):
-        src = os.path.join("/opt/rattle/rattle", crate, "src")
+        src = os.path.join(KIT, "rattle", crate, "src")
     for cut in range(len(mods), -1, -1):
         for f in ([os.path.join(src, *mods[:cut]) + ".rt"] if cut else [os.path.join(src, "lib.rt"), os.path.join(src, "main.rt")]):
             if not os.path.exists(f):
@@ -385,7 +388,7 @@ def main():
     root = os.getcwd()
     for crate in sys.argv[1:]:
         where = os.path.join(root, "crates", crate)
-        out = f"/tmp/port-names/{crate}"
+        out = os.path.join(tempfile.gettempdir(), "port-names", crate)
         os.makedirs(out, exist_ok=True)
         files = []
         for folder, dirs, fs in os.walk(os.path.join(where, "proofs")):
@@ -402,7 +405,7 @@ def main():
         for f in sorted(files):
             full = t.turn(f)
             if full:
-                to = os.path.join("/tmp/port-proofs", crate, f)
+                to = os.path.join(tempfile.gettempdir(), "port-proofs", crate, f)
                 os.makedirs(os.path.dirname(to), exist_ok=True)
                 os.replace(full, to)
         print("\n".join(t.left))

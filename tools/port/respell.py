@@ -1,5 +1,5 @@
 #!/usr/bin/env python3
-"""Spells the repository's own definitions, lemmas and fields in snake case, after /opt/rattle/port/port.py: `left-in` and `leftIn` are `left_in`.
+"""Spells the repository's own definitions, lemmas and fields in snake case, after the kit's port.py: `left-in` and `leftIn` are `left_in`.
 
 usage: respell.py [--report] FOLDER      the top of a checkout in which port.py ran; --report writes nothing
 
