@@ -1,10 +1,14 @@
 // The captions of a text as rows: line, 0 or the warning with which it passes, start, end, where its words stand, how many bytes they are.
+ghost use Rattle.streams.specs.Left.{Grows};
+
 use number_lines::print_line;
 use std::io;
 use std::io::Write;
 
 // Two rows of a text that has at most two captions, the place behind them, and the two told numbers.
-fn two<W: Write>(to: &mut W, kind: u32, text: &[u8]) -> io::Result<()> {
+fn two<W: Write>(to: &mut W, kind: u32, text: &[u8]) -> io::Result<()>
+    ensures grows { Grows (W.contents to.old) (W.contents to.new) }
+{
     let mut rows = [7u64; 13];
     let mut told = [7u64; 3];
     let number = c_api::retimer_cues(kind, text, &mut rows, &mut told);
@@ -32,7 +36,9 @@ fn two<W: Write>(to: &mut W, kind: u32, text: &[u8]) -> io::Result<()> {
 }
 
 // One place too few for a caption: 16, and nothing is written.
-fn short<W: Write>(to: &mut W, text: &[u8]) -> io::Result<()> {
+fn short<W: Write>(to: &mut W, text: &[u8]) -> io::Result<()>
+    ensures grows { Grows (W.contents to.old) (W.contents to.new) }
+{
     let mut rows = [7u64; 5];
     let mut told = [7u64; 2];
     let number = c_api::retimer_cues(1, text, &mut rows, &mut told);
@@ -40,7 +46,9 @@ fn short<W: Write>(to: &mut W, text: &[u8]) -> io::Result<()> {
     Ok(())
 }
 
-pub fn show<W: Write>(to: &mut W) -> io::Result<()> {
+pub fn show<W: Write>(to: &mut W) -> io::Result<()>
+    ensures grows { Grows (W.contents to.old) (W.contents to.new) }
+{
     two(
         to,
         0,

@@ -1,4 +1,6 @@
 // A session that the caller keeps as its bytes: opened, fed in two pieces that part a line, finished, and fed once more.
+ghost use Rattle.streams.specs.Left.{Grows};
+
 use number_lines::print_line;
 use std::io;
 use std::io::Write;
@@ -10,7 +12,9 @@ fn open<W: Write>(
     timescale: u32,
     map: &[u64],
     session: &mut [u8],
-) -> io::Result<()> {
+) -> io::Result<()>
+    ensures grows { Grows (W.contents to.old) (W.contents to.new) }
+{
     let number = c_api::retimer_open(kind, timescale, map, session);
     let first = base::byte(session, 0);
     let last = base::byte(session, 9212);
@@ -26,15 +30,19 @@ fn told<W: Write>(
     warned: u64,
     warnings: &[u64],
     out: &[u8],
-) -> io::Result<()> {
+) -> io::Result<()>
+    ensures grows { Grows (W.contents to.old) (W.contents to.new) }
+{
     let kind = base::word(warnings, 0);
     let line = base::word(warnings, 1);
     print_line(to, b"call", &[number as u64, written, warned, kind, line])?;
-    to.write_all(base::front(out, written as usize))?;
-    to.write_all(b"\n")
+    streams::write_text(to, base::front(out, written as usize))?;
+    streams::write_text(to, b"\n")
 }
 
-fn feed<W: Write>(to: &mut W, session: &mut [u8], map: &[u64], piece: &[u8]) -> io::Result<()> {
+fn feed<W: Write>(to: &mut W, session: &mut [u8], map: &[u64], piece: &[u8]) -> io::Result<()>
+    ensures grows { Grows (W.contents to.old) (W.contents to.new) }
+{
     let mut out = [46u8; 32768];
     let mut warnings = [7u64; 4096];
     let mut written: u64 = 0;
@@ -51,7 +59,9 @@ fn feed<W: Write>(to: &mut W, session: &mut [u8], map: &[u64], piece: &[u8]) -> 
     told(to, number, written, warned, &warnings, &out)
 }
 
-fn finish<W: Write>(to: &mut W, session: &mut [u8], map: &[u64]) -> io::Result<()> {
+fn finish<W: Write>(to: &mut W, session: &mut [u8], map: &[u64]) -> io::Result<()>
+    ensures grows { Grows (W.contents to.old) (W.contents to.new) }
+{
     let mut out = [46u8; 32768];
     let mut warnings = [7u64; 4096];
     let mut written: u64 = 93;
@@ -67,7 +77,9 @@ fn finish<W: Write>(to: &mut W, session: &mut [u8], map: &[u64]) -> io::Result<(
     told(to, number, written, warned, &warnings, &out)
 }
 
-pub fn show<W: Write>(to: &mut W, map: &[u64]) -> io::Result<()> {
+pub fn show<W: Write>(to: &mut W, map: &[u64]) -> io::Result<()>
+    ensures grows { Grows (W.contents to.old) (W.contents to.new) }
+{
     let mut session = [7u8; 9216];
     open(to, 3, 30000, map, &mut session)?;
     open(to, 3, 0, map, &mut session)?;

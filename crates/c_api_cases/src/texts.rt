@@ -1,9 +1,13 @@
 // The ASS and the SRT text of the worked lists of calls (crates/example), each in one call; then a call that is lent one told number too few.
+ghost use Rattle.streams.specs.Left.{Grows};
+
 use number_lines::print_line;
 use std::io;
 use std::io::Write;
 
-fn text<W: Write>(to: &mut W, kind: u32, map: &[u64], text: &[u8]) -> io::Result<()> {
+fn text<W: Write>(to: &mut W, kind: u32, map: &[u64], text: &[u8]) -> io::Result<()>
+    ensures grows { Grows (W.contents to.old) (W.contents to.new) }
+{
     let mut out = [0u8; 33473];
     let mut warnings = [0u64; 4174];
     let mut told = [0u64; 7];
@@ -35,12 +39,14 @@ fn text<W: Write>(to: &mut W, kind: u32, map: &[u64], text: &[u8]) -> io::Result
             warnings[5],
         ],
     )?;
-    to.write_all(base::front(&out, told[0] as usize))?;
-    to.write_all(b"\n")
+    streams::write_text(to, base::front(&out, told[0] as usize))?;
+    streams::write_text(to, b"\n")
 }
 
 // One told number too few: 16, and nothing is written.
-fn short<W: Write>(to: &mut W, map: &[u64], text: &[u8]) -> io::Result<()> {
+fn short<W: Write>(to: &mut W, map: &[u64], text: &[u8]) -> io::Result<()>
+    ensures grows { Grows (W.contents to.old) (W.contents to.new) }
+{
     let mut out = [0u8; 33473];
     let mut warnings = [0u64; 4174];
     let mut told = [7u64; 6];
@@ -61,7 +67,9 @@ fn short<W: Write>(to: &mut W, map: &[u64], text: &[u8]) -> io::Result<()> {
     Ok(())
 }
 
-pub fn show<W: Write>(to: &mut W, map: &[u64]) -> io::Result<()> {
+pub fn show<W: Write>(to: &mut W, map: &[u64]) -> io::Result<()>
+    ensures grows { Grows (W.contents to.old) (W.contents to.new) }
+{
     text(
         to,
         0,

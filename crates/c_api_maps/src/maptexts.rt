@@ -1,4 +1,6 @@
 // A map of one segment as the Rust cutter stores it, written and read again.
+ghost use Rattle.streams.specs.Left.{Grows};
+
 use number_lines::print_line;
 use std::io;
 use std::io::Write;
@@ -42,7 +44,9 @@ fn read_into(
     number
 }
 
-fn read<W: Write>(to: &mut W, text: &[u8]) -> io::Result<()> {
+fn read<W: Write>(to: &mut W, text: &[u8]) -> io::Result<()>
+    ensures grows { Grows (W.contents to.old) (W.contents to.new) }
+{
     let mut map = [7u64; 6144];
     let mut path = [7u8; 1024];
     let mut row = [91u32, 92, 93, 94];
@@ -80,7 +84,9 @@ fn read<W: Write>(to: &mut W, text: &[u8]) -> io::Result<()> {
 }
 
 // Too few places: 16 for 6,143 numbers and for 1,023 path bytes, and nothing is written.
-fn read_short<W: Write>(to: &mut W, text: &[u8]) -> io::Result<()> {
+fn read_short<W: Write>(to: &mut W, text: &[u8]) -> io::Result<()>
+    ensures grows { Grows (W.contents to.old) (W.contents to.new) }
+{
     let mut map = [7u64; 6143];
     let mut path = [7u8; 1024];
     let mut row = [7u32; 4];
@@ -102,7 +108,9 @@ fn read_short<W: Write>(to: &mut W, text: &[u8]) -> io::Result<()> {
     Ok(())
 }
 
-fn path_short<W: Write>(to: &mut W, text: &[u8]) -> io::Result<()> {
+fn path_short<W: Write>(to: &mut W, text: &[u8]) -> io::Result<()>
+    ensures grows { Grows (W.contents to.old) (W.contents to.new) }
+{
     let mut map = [7u64; 6144];
     let mut path = [7u8; 1023];
     let mut row = [7u32; 4];
@@ -124,7 +132,9 @@ fn path_short<W: Write>(to: &mut W, text: &[u8]) -> io::Result<()> {
     Ok(())
 }
 
-pub fn show<W: Write>(to: &mut W) -> io::Result<()> {
+pub fn show<W: Write>(to: &mut W) -> io::Result<()>
+    ensures grows { Grows (W.contents to.old) (W.contents to.new) }
+{
     let map = [3u64, 6, 3003, 3, 0, 3003];
     let mut text = [0u8; 400];
     let mut written: u64 = 91;
@@ -140,7 +150,7 @@ pub fn show<W: Write>(to: &mut W) -> io::Result<()> {
     );
     print_line(to, b"write", &[number as u64, written])?;
     let n = written as usize;
-    to.write_all(base::front(&text, n))?;
+    streams::write_text(to, base::front(&text, n))?;
     read(to, base::front(&text, n))?;
     read(to, b"{}")?;
     read_short(to, base::front(&text, n))?;

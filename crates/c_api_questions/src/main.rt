@@ -6,10 +6,14 @@ mod conversions;
 mod questions;
 mod sheets;
 
+ghost use Rattle.streams.specs.Left.{Grows};
+
 use std::io;
 use std::io::Write;
 
-fn ask<W: Write>(to: &mut W, map: &[u64]) -> io::Result<()> {
+fn ask<W: Write>(to: &mut W, map: &[u64]) -> io::Result<()>
+    ensures grows { Grows (W.contents to.old) (W.contents to.new) }
+{
     questions::why(to, map, 5, 25)?;
     questions::why(to, map, 21, 25)?;
     questions::why(to, map, 20, 21)?;
@@ -28,7 +32,9 @@ fn ask<W: Write>(to: &mut W, map: &[u64]) -> io::Result<()> {
     questions::rough(to, map, 2, 1, 5, 6)
 }
 
-fn convert<W: Write>(to: &mut W) -> io::Result<()> {
+fn convert<W: Write>(to: &mut W) -> io::Result<()>
+    ensures grows { Grows (W.contents to.old) (W.contents to.new) }
+{
     conversions::ticks(to, 25, 30000, 0)?;
     conversions::ticks(to, 25, 30000, 1)?;
     conversions::ticks(to, 68719476737, 30000, 1)?;

@@ -1,10 +1,14 @@
 // Questions about document 01's map: codes and places told to a caller from C. Each place holds a number of its own before.
+ghost use Rattle.streams.specs.Left.{Grows};
+
 use number_lines::print_line;
 use std::io;
 use std::io::Write;
 
 // Why a caption of start to stop (ASS) is kept or dropped: number, fate, place, ticks cut off, and two causes.
-pub fn why<W: Write>(to: &mut W, map: &[u64], start: u64, stop: u64) -> io::Result<()> {
+pub fn why<W: Write>(to: &mut W, map: &[u64], start: u64, stop: u64) -> io::Result<()>
+    ensures grows { Grows (W.contents to.old) (W.contents to.new) }
+{
     let mut causes = [7u64; 2];
     let mut fate: u64 = 91;
     let mut place: u64 = 92;
@@ -45,7 +49,9 @@ pub fn census<W: Write>(
     timescale: u32,
     length: u64,
     count: u64,
-) -> io::Result<()> {
+) -> io::Result<()>
+    ensures grows { Grows (W.contents to.old) (W.contents to.new) }
+{
     let mut shifted: u64 = 91;
     let mut clipped: u64 = 92;
     let mut dropped: u64 = 93;
@@ -64,7 +70,9 @@ pub fn census<W: Write>(
 }
 
 // The delay and the numbers behind it.
-fn print_delay<W: Write>(to: &mut W, delay: i64, numbers: &[u64]) -> io::Result<()> {
+fn print_delay<W: Write>(to: &mut W, delay: i64, numbers: &[u64]) -> io::Result<()>
+    ensures grows { Grows (W.contents to.old) (W.contents to.new) }
+{
     if delay == -6 {
         print_line(to, b" -6", numbers)?;
         return Ok(());
@@ -82,7 +90,9 @@ fn print_delay<W: Write>(to: &mut W, delay: i64, numbers: &[u64]) -> io::Result<
 }
 
 // The delay that loses least: number, delay, loss, tries, how far off.
-pub fn delay<W: Write>(to: &mut W, map: &[u64], captions: &[u64], budget: u32) -> io::Result<()> {
+pub fn delay<W: Write>(to: &mut W, map: &[u64], captions: &[u64], budget: u32) -> io::Result<()>
+    ensures grows { Grows (W.contents to.old) (W.contents to.new) }
+{
     let mut delay: i64 = 91;
     let mut loss: u32 = 92;
     let mut tried: u32 = 93;
@@ -90,8 +100,8 @@ pub fn delay<W: Write>(to: &mut W, map: &[u64], captions: &[u64], budget: u32) -
     let number = c_api::retimer_best_delay(
         map, 30000, 0, captions, budget, &mut delay, &mut loss, &mut tried, &mut off,
     );
-    to.write_all(b"delay ")?;
-    write!(to, "{number}")?;
+    streams::write_text(to, b"delay ")?;
+    streams::write_number(to, number as u64)?;
     print_delay(to, delay, &[loss as u64, tried as u64, off as u64])
 }
 
@@ -103,7 +113,9 @@ pub fn rough<W: Write>(
     start_high: u64,
     end_low: u64,
     end_high: u64,
-) -> io::Result<()> {
+) -> io::Result<()>
+    ensures grows { Grows (W.contents to.old) (W.contents to.new) }
+{
     let mut judgement: u64 = 91;
     let number = c_api::retimer_rough(
         map,

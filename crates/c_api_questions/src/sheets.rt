@@ -1,4 +1,6 @@
 // Document 01's small sheet: T 30000, 10 frames, decode as display, durations 1001, sync 0, 3 and 6; checked, and its map.
+ghost use Rattle.streams.specs.Left.{Grows};
+
 use number_lines::print_line;
 use std::io;
 use std::io::Write;
@@ -46,7 +48,9 @@ fn fill(sheet: &mut [u8]) {
     word_at(sheet, 1020, 72, 39, 0, 128);
 }
 
-fn show_map<W: Write>(to: &mut W, sheet: &[u8], list: &[u8], direction: u32) -> io::Result<()> {
+fn show_map<W: Write>(to: &mut W, sheet: &[u8], list: &[u8], direction: u32) -> io::Result<()>
+    ensures grows { Grows (W.contents to.old) (W.contents to.new) }
+{
     let mut work = [7u8; 3];
     let mut map = [9u64; 6144];
     let mut timescale: u32 = 91;
@@ -84,7 +88,9 @@ fn show_map<W: Write>(to: &mut W, sheet: &[u8], list: &[u8], direction: u32) -> 
     Ok(())
 }
 
-pub fn show<W: Write>(to: &mut W) -> io::Result<()> {
+pub fn show<W: Write>(to: &mut W) -> io::Result<()>
+    ensures grows { Grows (W.contents to.old) (W.contents to.new) }
+{
     let mut sheet = [0u8; 1024];
     fill(&mut sheet);
     let mut work = [7u8; 3];

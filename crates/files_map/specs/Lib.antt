@@ -1,2 +1,3 @@
 pub mod Folder
 pub mod Printed
+pub mod Taken

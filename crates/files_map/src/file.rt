@@ -1,8 +1,11 @@
 // Files of a folder.
-ghost use Rattle.std.specs.Prelude.{◌≡◌, IfOk};
+ghost use Rattle.std.specs.Prelude.{◌≡◌, ◌<◌, IfOk, length, take};
 ghost use Rattle.std.specs.Io.{ReadsAtMost};
+ghost use Rattle.std.specs.Io.KnownBytes.{Consumes, IsAtEnd};
 ghost use Rattle.spec_base.specs.base.Put.{placed, placed_length};
 ghost use Rattle.files_map.specs.Folder.{path_below, Held};
+ghost use Rattle.files_map.specs.Taken.{DrainsToFront};
+ghost use Rattle.streams.specs.Left.{Drains};
 
 use std::io::Read;
 use std::rt::Files;
@@ -46,9 +49,14 @@ pub fn open_below<R: Files>(rt: &R, folder: &[u8], name: &[u8]) -> Option<R::Fil
     fs::open(rt, text).ok()
 }
 
-// Reads until `buf` is full or the input ends, and answers how many bytes it put at the start of `buf`.
+// Reads until `buf` is full or the input ends, and answers how many bytes it put at the start of `buf`. After an error the bytes that are
+// gone from the input stand there too, but how many is not told.
 pub fn read_full<R: Read>(from: &mut R, buf: &mut [u8]) -> io::Result<usize>
-    ensures { ReadsAtMost result buf.new }
+    ensures bound { ReadsAtMost result buf.new }
+    ensures bytes { IfOk result (λ n. Consumes (R.remaining from.old) (R.remaining from.new) (take n buf.new)) }
+    ensures end { IfOk result (λ n. n < length buf.new → IsAtEnd (R.remaining from.new)) }
+    ensures front { DrainsToFront (R.remaining from.old) (R.remaining from.new) buf.new }
+    ensures drains { Drains (R.remaining from.old) (R.remaining from.new) }
 {
     let mut done = 0;
     while done < buf.len() {

@@ -2,35 +2,41 @@
 ghost use Rattle.std.specs.Prelude.{◌≡◌, length, IfOk};
 ghost use Rattle.spec_map.specs.segmap.Map.{map_of, map_work};
 ghost use Rattle.files_map.specs.Printed.{printed_number};
+ghost use Rattle.streams.specs.Left.{Grows};
 
 use std::io;
 use std::io::Write;
 
 // Prints a name, a number and a line end, and answers the number.
 pub fn print_number<W: Write>(to: &mut W, name: &[u8], n: u32) -> io::Result<u32>
-    ensures { IfOk result (λ r. r ≡ n) }
+    ensures value { IfOk result (λ r. r ≡ n) }
+    ensures grows { Grows (W.contents to.old) (W.contents to.new) }
 {
-    to.write_all(name)?;
-    write!(to, "{n}")?;
-    to.write_all(b"\n")?;
+    streams::write_text(to, name)?;
+    streams::write_number(to, n as u64)?;
+    streams::write_text(to, b"\n")?;
     Ok(n)
 }
 
 // Six numbers in a line, from the place `at` on.
-fn print_segment<W: Write>(to: &mut W, map: &[u64], at: usize) -> io::Result<()> {
+fn print_segment<W: Write>(to: &mut W, map: &[u64], at: usize) -> io::Result<()>
+    ensures grows { Grows (W.contents to.old) (W.contents to.new) }
+{
     let mut k: usize = 0;
     while k < 6 {
         if 0 < k {
-            to.write_all(b" ")?;
+            streams::write_text(to, b" ")?;
         }
         let row = base::words_rest(map, at);
-        write!(to, "{}", base::word(row, k))?;
+        streams::write_number(to, base::word(row, k))?;
         k += 1;
     }
-    to.write_all(b"\n")
+    streams::write_text(to, b"\n")
 }
 
-fn print_segments<W: Write>(to: &mut W, map: &[u64], count: usize) -> io::Result<()> {
+fn print_segments<W: Write>(to: &mut W, map: &[u64], count: usize) -> io::Result<()>
+    ensures grows { Grows (W.contents to.old) (W.contents to.new) }
+{
     let mut t = map;
     let mut left = count;
     while 0 < left {
@@ -52,6 +58,7 @@ pub fn print_map_of<W: Write>(
 ) -> io::Result<u32>
     ensures value { IfOk result (λ r. r ≡ (map_of sheet.now list.now direction 6144 (length work.old)).number) }
     ensures work_after { work.new ≡ map_work sheet.now direction 6144 work.old }
+    ensures grows { Grows (W.contents to.old) (W.contents to.new) }
 {
     let mut map = [0u64; 6144];
     let made = segmap::make(sheet, list, direction, work, &mut map);
@@ -66,7 +73,8 @@ pub fn print_map_of<W: Write>(
 
 // The same for `mapper`, outward: a sheet above 65,536 bytes is 11.
 pub fn print_map<W: Write>(to: &mut W, sheet: &[u8], list: &[u8]) -> io::Result<u32>
-    ensures { IfOk result (λ r. r ≡ printed_number sheet.now list.now) }
+    ensures value { IfOk result (λ r. r ≡ printed_number sheet.now list.now) }
+    ensures grows { Grows (W.contents to.old) (W.contents to.new) }
 {
     if 65536 < sheet.len() {
         return print_number(to, b"refused ", 11);

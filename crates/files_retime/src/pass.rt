@@ -2,15 +2,18 @@
 ghost use Rattle.std.specs.Prelude.{◌≡◌, length, IfOk};
 ghost use Rattle.spec_session.specs.session.SessionCalls.{finish_call, answer_of};
 ghost use Rattle.files_retime.specs.Retimed.{Passes};
+ghost use Rattle.streams.specs.Left.{Drains, Grows};
 
 use session_state::Session;
 use std::io;
 use std::io::{Read, Write};
 
 // Writes the first n bytes, or nothing where the pass is dry.
-fn print_text<W: Write>(to: &mut W, writing: bool, out: &[u8], n: usize) -> io::Result<()> {
+fn print_text<W: Write>(to: &mut W, writing: bool, out: &[u8], n: usize) -> io::Result<()>
+    ensures grows { Grows (W.contents to.old) (W.contents to.new) }
+{
     if writing {
-        to.write_all(base::front(out, n))?;
+        streams::write_text(to, base::front(out, n))?;
     }
     Ok(())
 }
@@ -24,7 +27,8 @@ fn end<W: Write>(
     out: &mut [u8],
     warnings: &mut [u64],
 ) -> io::Result<u32>
-    ensures { IfOk result (λ r. r ≡ (answer_of session (finish_call map.now (length out.old) (length warnings.old))).number) }
+    ensures value { IfOk result (λ r. r ≡ (answer_of session (finish_call map.now (length out.old) (length warnings.old))).number) }
+    ensures grows { Grows (W.contents to.old) (W.contents to.new) }
 {
     let last = session::finish(session, map, out, warnings);
     print_text(to, writing, out, last.written)?;
@@ -40,7 +44,9 @@ pub fn pass<R: Read, W: Write>(
     map: &[u64],
     writing: bool,
 ) -> io::Result<u32>
-    ensures { IfOk result (λ r. Passes session map.now r) }
+    ensures value { IfOk result (λ r. Passes session map.now r) }
+    ensures grows { Grows (W.contents to.old) (W.contents to.new) }
+    ensures drains { Drains (R.remaining from.old) (R.remaining from.new) }
 {
     let mut out = [0u8; 32768];
     let mut warnings = [0u64; 4096];

@@ -1,6 +1,7 @@
 // The caption text of a folder retimed, as document 01's "Small proofs" has it.
 ghost use Rattle.std.specs.Prelude.{IfOk};
 ghost use Rattle.files_retime.specs.Retimed.{Runs, Chooses, Retimes};
+ghost use Rattle.streams.specs.Left.{Drains, Grows};
 
 use crate::pass::pass;
 use std::io;
@@ -16,7 +17,9 @@ fn run_file<R: Read, W: Write>(
     map: &[u64],
     writing: bool,
 ) -> io::Result<u32>
-    ensures { IfOk result (λ r. Runs kind timescale map.now r) }
+    ensures value { IfOk result (λ r. Runs kind timescale map.now r) }
+    ensures grows { Grows (W.contents to.old) (W.contents to.new) }
+    ensures drains { Drains (R.remaining from.old) (R.remaining from.new) }
 {
     let opened = session::open(kind, timescale, map);
     if opened.number != 0 {
@@ -34,7 +37,8 @@ fn run<R: Files, W: Write>(
     map: &[u64],
     writing: bool,
 ) -> io::Result<u32>
-    ensures { IfOk result (λ r. Chooses timescale map.now r) }
+    ensures value { IfOk result (λ r. Chooses timescale map.now r) }
+    ensures grows { Grows (W.contents to.old) (W.contents to.new) }
 {
     if let Some(mut ass) = files_map::open_below(rt, folder, b"subs.ass") {
         return run_file(to, &mut ass, 0, timescale, map, writing);
@@ -56,7 +60,8 @@ fn retimed<R: Files, W: Write>(
     sheet: &[u8],
     list: &[u8],
 ) -> io::Result<u32>
-    ensures { IfOk result (λ r. Retimes sheet.now list.now r) }
+    ensures value { IfOk result (λ r. Retimes sheet.now list.now r) }
+    ensures grows { Grows (W.contents to.old) (W.contents to.new) }
 {
     if 65536 < sheet.len() {
         return Ok(11);
@@ -83,7 +88,8 @@ pub fn retime<R: Files, W: Write>(
     sheet: &[u8],
     list: &[u8],
 ) -> io::Result<u32>
-    ensures { IfOk result (λ r. Retimes sheet.now list.now r) }
+    ensures value { IfOk result (λ r. Retimes sheet.now list.now r) }
+    ensures grows { Grows (W.contents to.old) (W.contents to.new) }
 {
     let number = retimed(rt, to, folder, sheet, list)?;
     if number != 0 {

@@ -1,6 +1,7 @@
 // The page of a folder's questions.
 ghost use Rattle.std.specs.Prelude.{◌≡◌, IfOk};
 ghost use Rattle.files_why.specs.Page.{page_number};
+ghost use Rattle.streams.specs.Left.{Grows};
 
 use crate::question::asked;
 use crate::sentence::print_answer;
@@ -8,20 +9,30 @@ use std::io;
 use std::io::Write;
 
 // Why a line is not answered.
-fn print_unread<W: Write>(to: &mut W, number: u32) -> io::Result<()> {
+fn print_unread<W: Write>(to: &mut W, number: u32) -> io::Result<()>
+    ensures grows { Grows (W.contents to.old) (W.contents to.new) }
+{
     if number == 16 {
-        return to.write_all(b"  can't be read: it begins with none of `ass`, `srt` and `vtt`\n");
+        return streams::write_text(
+            to,
+            b"  can't be read: it begins with none of `ass`, `srt` and `vtt`\n",
+        );
     }
-    to.write_all(b"  can't be read: behind the kind stand a start and an end, as in the captions\n")
+    streams::write_text(
+        to,
+        b"  can't be read: behind the kind stand a start and an end, as in the captions\n",
+    )
 }
 
 // One line, and its answer below it; nothing for a blank one.
-fn print_line<W: Write>(to: &mut W, line: &[u8], map: &[u64], timescale: u32) -> io::Result<()> {
+fn print_line<W: Write>(to: &mut W, line: &[u8], map: &[u64], timescale: u32) -> io::Result<()>
+    ensures grows { Grows (W.contents to.old) (W.contents to.new) }
+{
     if text::is_blank(line) {
         return Ok(());
     }
-    to.write_all(whitespace::trimmed(line))?;
-    to.write_all(b"\n")?;
+    streams::write_text(to, whitespace::trimmed(line))?;
+    streams::write_text(to, b"\n")?;
     let q = asked(line);
     if q.number != 0 {
         return print_unread(to, q.number);
@@ -29,7 +40,9 @@ fn print_line<W: Write>(to: &mut W, line: &[u8], map: &[u64], timescale: u32) ->
     print_answer(to, q, map, timescale)
 }
 
-fn print_lines<W: Write>(to: &mut W, times: &[u8], map: &[u64], timescale: u32) -> io::Result<()> {
+fn print_lines<W: Write>(to: &mut W, times: &[u8], map: &[u64], timescale: u32) -> io::Result<()>
+    ensures grows { Grows (W.contents to.old) (W.contents to.new) }
+{
     let mut t = times;
     while 0 < t.len() {
         let n = text::line_length(t);
@@ -43,7 +56,8 @@ fn print_lines<W: Write>(to: &mut W, times: &[u8], map: &[u64], timescale: u32) 
 
 // The number of a page: that of the map, outward, and 16 for questions above 65,536 bytes. Prints the answers where it is 0.
 fn told<W: Write>(to: &mut W, sheet: &[u8], list: &[u8], times: &[u8]) -> io::Result<u32>
-    ensures { IfOk result (λ r. r ≡ page_number sheet.now list.now times.now) }
+    ensures value { IfOk result (λ r. r ≡ page_number sheet.now list.now times.now) }
+    ensures grows { Grows (W.contents to.old) (W.contents to.new) }
 {
     if 65536 < sheet.len() {
         return Ok(11);
@@ -68,7 +82,8 @@ fn told<W: Write>(to: &mut W, sheet: &[u8], list: &[u8], times: &[u8]) -> io::Re
 
 // Prints the answers to the lines of `times`, each below its line, or `refused` and the number.
 pub fn tell<W: Write>(to: &mut W, sheet: &[u8], list: &[u8], times: &[u8]) -> io::Result<u32>
-    ensures { IfOk result (λ r. r ≡ page_number sheet.now list.now times.now) }
+    ensures value { IfOk result (λ r. r ≡ page_number sheet.now list.now times.now) }
+    ensures grows { Grows (W.contents to.old) (W.contents to.new) }
 {
     let number = told(to, sheet, list, times)?;
     if number != 0 {

@@ -1,4 +1,6 @@
 // The answer to one question in words.
+ghost use Rattle.streams.specs.Left.{Grows};
+
 use crate::question::Question;
 use crate::span::{print_length, print_segment};
 use ask_reason::Why;
@@ -13,15 +15,17 @@ fn print_cut<W: Write>(
     ticks: u64,
     timescale: u32,
     q: Question,
-) -> io::Result<()> {
+) -> io::Result<()>
+    ensures grows { Grows (W.contents to.old) (W.contents to.new) }
+{
     if ticks == 0 {
         return Ok(());
     }
-    to.write_all(name)?;
-    write!(to, "{ticks}")?;
-    to.write_all(b" ticks (")?;
+    streams::write_text(to, name)?;
+    streams::write_number(to, ticks)?;
+    streams::write_text(to, b" ticks (")?;
     print_length(to, ticks, timescale, q)?;
-    to.write_all(b") cut off")
+    streams::write_text(to, b") cut off")
 }
 
 // A caption that is kept.
@@ -31,22 +35,26 @@ fn print_kept<W: Write>(
     map: &[u64],
     timescale: u32,
     q: Question,
-) -> io::Result<()> {
-    to.write_all(b"  kept in ")?;
+) -> io::Result<()>
+    ensures grows { Grows (W.contents to.old) (W.contents to.new) }
+{
+    streams::write_text(to, b"  kept in ")?;
     print_segment(to, map, why.place, timescale, q)?;
     print_cut(to, b", at its start ", why.start_cut, timescale, q)?;
     print_cut(to, b", at its end ", why.end_cut, timescale, q)?;
-    to.write_all(b"\n")
+    streams::write_text(to, b"\n")
 }
 
-fn print_cause<W: Write>(to: &mut W, cause: u64) -> io::Result<()> {
+fn print_cause<W: Write>(to: &mut W, cause: u64) -> io::Result<()>
+    ensures grows { Grows (W.contents to.old) (W.contents to.new) }
+{
     if cause == 1 {
-        return to.write_all(b" has no length\n");
+        return streams::write_text(to, b" has no length\n");
     }
     if cause == 2 {
-        return to.write_all(b" ends at or before the caption's start\n");
+        return streams::write_text(to, b" ends at or before the caption's start\n");
     }
-    to.write_all(b" starts at or after the caption's end\n")
+    streams::write_text(to, b" starts at or after the caption's end\n")
 }
 
 // A caption that is dropped: a line for each segment.
@@ -56,12 +64,14 @@ fn print_causes<W: Write>(
     map: &[u64],
     timescale: u32,
     q: Question,
-) -> io::Result<()> {
-    to.write_all(b"  dropped: it meets no kept segment\n")?;
+) -> io::Result<()>
+    ensures grows { Grows (W.contents to.old) (W.contents to.new) }
+{
+    streams::write_text(to, b"  dropped: it meets no kept segment\n")?;
     let n = map.len() / 6;
     let mut i: usize = 0;
     while i < n {
-        to.write_all(b"    ")?;
+        streams::write_text(to, b"    ")?;
         print_segment(to, map, i, timescale, q)?;
         print_cause(to, base::word(causes, i))?;
         i += 1;
@@ -75,7 +85,9 @@ pub fn print_answer<W: Write>(
     q: Question,
     map: &[u64],
     timescale: u32,
-) -> io::Result<()> {
+) -> io::Result<()>
+    ensures grows { Grows (W.contents to.old) (W.contents to.new) }
+{
     let mut causes = [0u64; 1024];
     let why = ask_reason::reason(map, timescale, q.kind, q.start, q.stop, &mut causes);
     if why.number != 0 {

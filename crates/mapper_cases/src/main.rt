@@ -1,13 +1,17 @@
 // Runs `mapper` over the folders that `cases.txt` names, a line each, and prints each answer under the folder's name.
 #![tactic(auto)]
 
+ghost use Rattle.streams.specs.Left.{Grows};
+
 use std::io;
 use std::io::Write;
 use std::rt::Files;
 
-fn run_case<R: Files, W: Write>(rt: &R, to: &mut W, name: &[u8]) -> io::Result<()> {
-    to.write_all(name)?;
-    to.write_all(b":\n")?;
+fn run_case<R: Files, W: Write>(rt: &R, to: &mut W, name: &[u8]) -> io::Result<()>
+    ensures grows { Grows (W.contents to.old) (W.contents to.new) }
+{
+    streams::write_text(to, name)?;
+    streams::write_text(to, b":\n")?;
     let sheet = files_map::load(rt, name, b"sheet.bin")?;
     let list = files_map::load(rt, name, b"trim.txt")?;
     let s = sheet.bytes;
@@ -20,7 +24,9 @@ fn run_case<R: Files, W: Write>(rt: &R, to: &mut W, name: &[u8]) -> io::Result<(
     Ok(())
 }
 
-fn run_cases<R: Files, W: Write>(rt: &R, to: &mut W, names: &[u8]) -> io::Result<()> {
+fn run_cases<R: Files, W: Write>(rt: &R, to: &mut W, names: &[u8]) -> io::Result<()>
+    ensures grows { Grows (W.contents to.old) (W.contents to.new) }
+{
     let mut t = names;
     while 0 < t.len() {
         let n = text::line_length(t);

@@ -4,6 +4,7 @@
 #![tactic(auto)]
 
 ghost use Rattle.std.specs.Io.{ReadsAtMost};
+ghost use Rattle.streams.specs.Left.{Grows};
 
 use caption_fate::Hit;
 use std::io::Write;
@@ -21,21 +22,25 @@ fn load<R: Files>(rt: &R, name: &str, buf: &mut [u8]) -> io::Result<usize>
 }
 
 // What follows the number at a place of a row of six.
-fn print_after<W: Write>(to: &mut W, place: usize) -> io::Result<()> {
+fn print_after<W: Write>(to: &mut W, place: usize) -> io::Result<()>
+    ensures grows { Grows (W.contents to.old) (W.contents to.new) }
+{
     if place == 5 {
-        return to.write_all(b"\n");
+        return streams::write_text(to, b"\n");
     }
-    to.write_all(b" ")
+    streams::write_text(to, b" ")
 }
 
 // The rows of the first `count` segments.
-fn print_rows<W: Write>(to: &mut W, map: &[u64], count: usize) -> io::Result<()> {
+fn print_rows<W: Write>(to: &mut W, map: &[u64], count: usize) -> io::Result<()>
+    ensures grows { Grows (W.contents to.old) (W.contents to.new) }
+{
     let mut k: usize = 0;
     while k < map.len() {
         if count <= k / 6 {
             return Ok(());
         }
-        write!(to, "{}", map[k])?;
+        streams::write_number(to, map[k])?;
         print_after(to, k % 6)?;
         k += 1;
     }
@@ -43,14 +48,18 @@ fn print_rows<W: Write>(to: &mut W, map: &[u64], count: usize) -> io::Result<()>
 }
 
 // A name, a number and a line end.
-fn print_number<W: Write>(to: &mut W, name: &[u8], n: u64) -> io::Result<()> {
-    to.write_all(name)?;
-    write!(to, "{n}")?;
-    to.write_all(b"\n")
+fn print_number<W: Write>(to: &mut W, name: &[u8], n: u64) -> io::Result<()>
+    ensures grows { Grows (W.contents to.old) (W.contents to.new) }
+{
+    streams::write_text(to, name)?;
+    streams::write_number(to, n)?;
+    streams::write_text(to, b"\n")
 }
 
 // The map, outward, or `refused` and the number.
-fn print_map<W: Write>(to: &mut W, sheet: &[u8], list: &[u8]) -> io::Result<()> {
+fn print_map<W: Write>(to: &mut W, sheet: &[u8], list: &[u8]) -> io::Result<()>
+    ensures grows { Grows (W.contents to.old) (W.contents to.new) }
+{
     let mut map = [0u64; 6144];
     let mut work = [0; base::MOST_WORK];
     let answer = map_records_own::through_records(sheet, list, 0, &mut work, 0, 0, &mut map);
@@ -69,17 +78,19 @@ fn print_hit<W: Write>(
     list: &[u8],
     start: u64,
     end: u64,
-) -> io::Result<()> {
+) -> io::Result<()>
+    ensures grows { Grows (W.contents to.old) (W.contents to.new) }
+{
     let mut map = [0u64; 6144];
     let mut work = [0; base::MOST_WORK];
     let answer = map_records_own::through_records(sheet, list, 0, &mut work, start, end, &mut map);
-    write!(to, "{start}")?;
-    to.write_all(b" to ")?;
-    write!(to, "{end}")?;
+    streams::write_number(to, start)?;
+    streams::write_text(to, b" to ")?;
+    streams::write_number(to, end)?;
     let hit = answer.hit;
     match hit {
         Hit::Miss => {
-            to.write_all(b": none\n")?;
+            streams::write_text(to, b": none\n")?;
         }
         Hit::At(met) => {
             print_number(to, b": segment ", met.place as u64)?;
@@ -89,7 +100,9 @@ fn print_hit<W: Write>(
 }
 
 // Document 01's worked captions (5-25, 12-20, 21-25, 20-21, 0-0, 5-5, 7-5 hundredths, 300 ticks each), then the edges of the two segments.
-fn print_hits<W: Write>(to: &mut W, sheet: &[u8], list: &[u8]) -> io::Result<()> {
+fn print_hits<W: Write>(to: &mut W, sheet: &[u8], list: &[u8]) -> io::Result<()>
+    ensures grows { Grows (W.contents to.old) (W.contents to.new) }
+{
     print_hit(to, sheet, list, 1500, 7500)?;
     print_hit(to, sheet, list, 3600, 6000)?;
     print_hit(to, sheet, list, 6300, 7500)?;
@@ -99,7 +112,9 @@ fn print_hits<W: Write>(to: &mut W, sheet: &[u8], list: &[u8]) -> io::Result<()>
     print_hit(to, sheet, list, 2100, 1500)
 }
 
-fn print_edges<W: Write>(to: &mut W, sheet: &[u8], list: &[u8]) -> io::Result<()> {
+fn print_edges<W: Write>(to: &mut W, sheet: &[u8], list: &[u8]) -> io::Result<()>
+    ensures grows { Grows (W.contents to.old) (W.contents to.new) }
+{
     print_hit(to, sheet, list, 3002, 3003)?;
     print_hit(to, sheet, list, 3003, 6006)?;
     print_hit(to, sheet, list, 3003, 6007)?;

@@ -1,4 +1,6 @@
 // The answer to a case, by its op.
+ghost use Rattle.streams.specs.Left.{Grows};
+
 use replay_maps::{asks, map_texts, print_made, texts, through_made};
 use std::io;
 use std::io::Write;
@@ -14,17 +16,21 @@ fn number_at(ranges: &[u32], k: usize) -> u64 {
     0
 }
 
-fn print_range<W: Write>(to: &mut W, ranges: &[u32], i: usize) -> io::Result<()> {
+fn print_range<W: Write>(to: &mut W, ranges: &[u32], i: usize) -> io::Result<()>
+    ensures grows { Grows (W.contents to.old) (W.contents to.new) }
+{
     if 1024 <= i {
         return Ok(());
     }
-    write!(to, "{}", number_at(ranges, 2 * i))?;
-    to.write_all(b" ")?;
-    write!(to, "{}", number_at(ranges, 2 * i + 1))?;
-    to.write_all(b"\n")
+    streams::write_number(to, number_at(ranges, 2 * i))?;
+    streams::write_text(to, b" ")?;
+    streams::write_number(to, number_at(ranges, 2 * i + 1))?;
+    streams::write_text(to, b"\n")
 }
 
-fn print_ranges<W: Write>(to: &mut W, ranges: &[u32], count: usize) -> io::Result<()> {
+fn print_ranges<W: Write>(to: &mut W, ranges: &[u32], count: usize) -> io::Result<()>
+    ensures grows { Grows (W.contents to.old) (W.contents to.new) }
+{
     let mut i: usize = 0;
     while i < count {
         print_range(to, ranges, i)?;
@@ -33,7 +39,9 @@ fn print_ranges<W: Write>(to: &mut W, ranges: &[u32], count: usize) -> io::Resul
     Ok(())
 }
 
-fn print_list<W: Write>(to: &mut W, list: &[u8]) -> io::Result<()> {
+fn print_list<W: Write>(to: &mut W, list: &[u8]) -> io::Result<()>
+    ensures grows { Grows (W.contents to.old) (W.contents to.new) }
+{
     let mut ranges = [0u32; 2048];
     let p = trim::parse(list, &mut ranges);
     let number = p.number;
@@ -41,9 +49,9 @@ fn print_list<W: Write>(to: &mut W, list: &[u8]) -> io::Result<()> {
         files_map::print_number(to, b"refused ", number)?;
         return Ok(());
     }
-    to.write_all(b"ranges ")?;
-    write!(to, "{}", p.count)?;
-    to.write_all(b"\n")?;
+    streams::write_text(to, b"ranges ")?;
+    streams::write_number(to, p.count as u64)?;
+    streams::write_text(to, b"\n")?;
     print_ranges(to, &ranges, p.count)
 }
 
@@ -58,7 +66,9 @@ fn kind_of(u: u32) -> u32 {
     3
 }
 
-fn print_converted<W: Write>(to: &mut W, head: &[u8], x: &[u8]) -> io::Result<()> {
+fn print_converted<W: Write>(to: &mut W, head: &[u8], x: &[u8]) -> io::Result<()>
+    ensures grows { Grows (W.contents to.old) (W.contents to.new) }
+{
     let low = checked_blocks::word(x, 0) as u64;
     let high = checked_blocks::word(x, 1) as u64;
     let value = low + 4294967296 * high;
@@ -80,15 +90,17 @@ fn print_converted<W: Write>(to: &mut W, head: &[u8], x: &[u8]) -> io::Result<()
     )
 }
 
-fn print_value<W: Write>(to: &mut W, c: caption_time::Converted) -> io::Result<()> {
+fn print_value<W: Write>(to: &mut W, c: caption_time::Converted) -> io::Result<()>
+    ensures grows { Grows (W.contents to.old) (W.contents to.new) }
+{
     let number = c.number;
     if number != 0 {
         files_map::print_number(to, b"refused ", number)?;
         return Ok(());
     }
-    to.write_all(b"converted ")?;
-    write!(to, "{}", c.value)?;
-    to.write_all(b"\n")
+    streams::write_text(to, b"converted ")?;
+    streams::write_number(to, c.value)?;
+    streams::write_text(to, b"\n")
 }
 
 // An op that has no text.
@@ -99,7 +111,9 @@ fn answer_plain<W: Write>(
     x: &[u8],
     y: &[u8],
     z: &[u8],
-) -> io::Result<()> {
+) -> io::Result<()>
+    ensures grows { Grows (W.contents to.old) (W.contents to.new) }
+{
     if op == 1 {
         return print_list(to, x);
     }
@@ -123,7 +137,9 @@ fn answer_plain<W: Write>(
     Ok(())
 }
 
-pub fn answer<W: Write>(to: &mut W, head: &[u8], x: &[u8], y: &[u8], z: &[u8]) -> io::Result<()> {
+pub fn answer<W: Write>(to: &mut W, head: &[u8], x: &[u8], y: &[u8], z: &[u8]) -> io::Result<()>
+    ensures grows { Grows (W.contents to.old) (W.contents to.new) }
+{
     let op = checked_blocks::word(head, 0);
     let first = checked_blocks::word(head, 1);
     let second = checked_blocks::word(head, 2);

@@ -1,9 +1,13 @@
 // Parts of a case, read from standard input.
+ghost use Rattle.streams.specs.Left.{Drains};
+
 use std::io;
 use std::io::Read;
 
 // Reads n bytes that do not fit and throws them away.
-fn skip<R: Read>(from: &mut R, n: usize) -> io::Result<()> {
+fn skip<R: Read>(from: &mut R, n: usize) -> io::Result<()>
+    ensures drains { Drains (R.remaining from.old) (R.remaining from.new) }
+{
     let mut left = n;
     while 0 < left {
         let mut one = [0u8; 1];
@@ -17,7 +21,9 @@ fn skip<R: Read>(from: &mut R, n: usize) -> io::Result<()> {
 }
 
 // Reads n bytes to the start of buf where they fit, and answers whether they did.
-fn take<R: Read>(from: &mut R, buf: &mut [u8], n: usize) -> io::Result<bool> {
+fn take<R: Read>(from: &mut R, buf: &mut [u8], n: usize) -> io::Result<bool>
+    ensures drains { Drains (R.remaining from.old) (R.remaining from.new) }
+{
     if buf.len() < n {
         skip(from, n)?;
         return Ok(false);
@@ -35,7 +41,9 @@ pub fn take_parts<R: Read>(
     m: usize,
     z: &mut [u8],
     l: usize,
-) -> io::Result<bool> {
+) -> io::Result<bool>
+    ensures drains { Drains (R.remaining from.old) (R.remaining from.new) }
+{
     let first = take(from, x, n)?;
     let second = take(from, y, m)?;
     let third = take(from, z, l)?;

@@ -10,13 +10,17 @@
 mod answer;
 mod input;
 
+ghost use Rattle.streams.specs.Left.{Drains, Grows};
+
 use std::io;
 use std::io::{Read, Write};
 
-fn print_head<W: Write>(to: &mut W, k: u64) -> io::Result<()> {
-    to.write_all(b"case ")?;
-    write!(to, "{k}")?;
-    to.write_all(b"\n")
+fn print_head<W: Write>(to: &mut W, k: u64) -> io::Result<()>
+    ensures grows { Grows (W.contents to.old) (W.contents to.new) }
+{
+    streams::write_text(to, b"case ")?;
+    streams::write_number(to, k)?;
+    streams::write_text(to, b"\n")
 }
 
 // One case, of which the head is read; its parts go to the lent slices. `too large` where one does not fit.
@@ -27,12 +31,15 @@ fn run_case<R: Read, W: Write>(
     x: &mut [u8],
     y: &mut [u8],
     z: &mut [u8],
-) -> io::Result<()> {
+) -> io::Result<()>
+    ensures grows { Grows (W.contents to.old) (W.contents to.new) }
+    ensures drains { Drains (R.remaining from.old) (R.remaining from.new) }
+{
     let n = checked_blocks::word(head, 5) as usize;
     let m = checked_blocks::word(head, 6) as usize;
     let l = checked_blocks::word(head, 7) as usize;
     if !input::take_parts(from, x, n, y, m, z, l)? {
-        return to.write_all(b"too large\n");
+        return streams::write_text(to, b"too large\n");
     }
     answer::answer(
         to,
@@ -50,7 +57,10 @@ fn run_cases<R: Read, W: Write>(
     x: &mut [u8],
     y: &mut [u8],
     z: &mut [u8],
-) -> io::Result<()> {
+) -> io::Result<()>
+    ensures grows { Grows (W.contents to.old) (W.contents to.new) }
+    ensures drains { Drains (R.remaining from.old) (R.remaining from.new) }
+{
     let mut k: u64 = 0;
     while k < 1099511627776 {
         let mut head = [0u8; 32];

@@ -1,6 +1,7 @@
 // The question by its op.
 ghost use Rattle.std.specs.Prelude.{◌≡◌, IfOk};
 ghost use Rattle.replay_ask.specs.Query.{is_query};
+ghost use Rattle.streams.specs.Left.{Grows};
 
 use std::io;
 use std::io::Write;
@@ -19,7 +20,8 @@ pub fn answer<W: Write>(
     few: &[u64],
     many: &[u64],
 ) -> io::Result<bool>
-    ensures { IfOk result (λ r. r ≡ is_query op) }
+    ensures value { IfOk result (λ r. r ≡ is_query op) }
+    ensures grows { Grows (W.contents to.old) (W.contents to.new) }
 {
     if op == 8 {
         crate::reasoning::print_why(to, a, b, c, map, few)?;

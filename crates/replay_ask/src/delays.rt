@@ -1,24 +1,28 @@
 // The delay that loses least.
 ghost use Rattle.spec_ask.specs.ask_delay.Delay.{Near};
+ghost use Rattle.streams.specs.Left.{Grows};
 
 use std::io;
 use std::io::Write;
 
 fn print_signed<W: Write>(to: &mut W, n: i64) -> io::Result<()>
     requires { Near n }
+    ensures grows { Grows (W.contents to.old) (W.contents to.new) }
 {
     if n < 0 {
-        to.write_all(b"-")?;
+        streams::write_text(to, b"-")?;
         let size = (0 - n) as u64;
-        return write!(to, "{size}");
+        return streams::write_number(to, size);
     }
     let size = n as u64;
-    write!(to, "{size}")
+    streams::write_number(to, size)
 }
 
-fn print_next<W: Write>(to: &mut W, n: u32) -> io::Result<()> {
-    to.write_all(b" ")?;
-    write!(to, "{n}")
+fn print_next<W: Write>(to: &mut W, n: u32) -> io::Result<()>
+    ensures grows { Grows (W.contents to.old) (W.contents to.new) }
+{
+    streams::write_text(to, b" ")?;
+    streams::write_number(to, n as u64)
 }
 
 // The line `delay` with the delay, its loss, the tries and how far off it can be, or `refused` and the number. `many` has the captions.
@@ -29,18 +33,20 @@ pub fn print_delay<W: Write>(
     kind: u32,
     budget: u32,
     many: &[u64],
-) -> io::Result<()> {
+) -> io::Result<()>
+    ensures grows { Grows (W.contents to.old) (W.contents to.new) }
+{
     let d = ask_delay::best_delay(map, timescale, kind, many, budget);
     let number = d.number;
     if number != 0 {
         files_map::print_number(to, b"refused ", number)?;
         return Ok(());
     }
-    to.write_all(b"delay ")?;
+    streams::write_text(to, b"delay ")?;
     let units = d.delay;
     print_signed(to, units)?;
     print_next(to, d.loss)?;
     print_next(to, d.tried)?;
     print_next(to, d.off)?;
-    to.write_all(b"\n")
+    streams::write_text(to, b"\n")
 }

@@ -1,5 +1,6 @@
 // Why a caption is kept or dropped.
 ghost use Rattle.std.specs.Prelude.{◌≤◌};
+ghost use Rattle.streams.specs.Left.{Grows};
 
 use ask_reason::Why;
 use caption_fate::Counted;
@@ -17,46 +18,52 @@ fn lent_places(c: u32) -> usize
     n
 }
 
-fn print_fate<W: Write>(to: &mut W, fate: Counted) -> io::Result<()> {
+fn print_fate<W: Write>(to: &mut W, fate: Counted) -> io::Result<()>
+    ensures grows { Grows (W.contents to.old) (W.contents to.new) }
+{
     match fate {
         Counted::Shifted => {
-            to.write_all(b"why shifted ")?;
+            streams::write_text(to, b"why shifted ")?;
         }
         Counted::Clipped => {
-            to.write_all(b"why clipped ")?;
+            streams::write_text(to, b"why clipped ")?;
         }
         _ => {
-            to.write_all(b"why dropped ")?;
+            streams::write_text(to, b"why dropped ")?;
         }
     }
     Ok(())
 }
 
 // The fate, the place, and the ticks cut off at each end; or the number.
-fn print_told<W: Write>(to: &mut W, why: Why) -> io::Result<()> {
+fn print_told<W: Write>(to: &mut W, why: Why) -> io::Result<()>
+    ensures grows { Grows (W.contents to.old) (W.contents to.new) }
+{
     if why.number != 0 {
         files_map::print_number(to, b"refused ", why.number)?;
         return Ok(());
     }
     let fate = why.fate;
     print_fate(to, fate)?;
-    write!(to, "{}", why.place)?;
-    to.write_all(b" ")?;
-    write!(to, "{}", why.start_cut)?;
-    to.write_all(b" ")?;
-    write!(to, "{}", why.end_cut)?;
-    to.write_all(b"\n")
+    streams::write_number(to, why.place as u64)?;
+    streams::write_text(to, b" ")?;
+    streams::write_number(to, why.start_cut)?;
+    streams::write_text(to, b" ")?;
+    streams::write_number(to, why.end_cut)?;
+    streams::write_text(to, b"\n")
 }
 
-fn print_places<W: Write>(to: &mut W, places: &[u64]) -> io::Result<()> {
-    to.write_all(b"places")?;
+fn print_places<W: Write>(to: &mut W, places: &[u64]) -> io::Result<()>
+    ensures grows { Grows (W.contents to.old) (W.contents to.new) }
+{
+    streams::write_text(to, b"places")?;
     let mut i: usize = 0;
     while i < places.len() {
-        to.write_all(b" ")?;
-        write!(to, "{}", base::word(places, i))?;
+        streams::write_text(to, b" ")?;
+        streams::write_number(to, base::word(places, i))?;
         i += 1;
     }
-    to.write_all(b"\n")
+    streams::write_text(to, b"\n")
 }
 
 // The answer, and all places that were lent.
@@ -67,7 +74,9 @@ fn print_asked<W: Write>(
     map: &[u64],
     times: &[u64],
     places: &mut [u64],
-) -> io::Result<()> {
+) -> io::Result<()>
+    ensures grows { Grows (W.contents to.old) (W.contents to.new) }
+{
     let start = base::word(times, 0);
     let stop = base::word(times, 1);
     let why = ask_reason::reason(map, timescale, kind, start, stop, places);
@@ -83,7 +92,9 @@ pub fn print_why<W: Write>(
     lent: u32,
     map: &[u64],
     times: &[u64],
-) -> io::Result<()> {
+) -> io::Result<()>
+    ensures grows { Grows (W.contents to.old) (W.contents to.new) }
+{
     let mut places = [7u64; 2048];
     let n = lent_places(lent);
     print_asked(to, timescale, kind, map, times, &mut places[..n])

@@ -1,10 +1,14 @@
 // What is sure of a caption whose times are known only roughly.
+ghost use Rattle.streams.specs.Left.{Grows};
+
 use ask_rough::Judged;
 use std::io;
 use std::io::Write;
 
 // The bounds are start low, start high, end low and end high, in ticks (request 2.11).
-pub fn print_rough<W: Write>(to: &mut W, map: &[u64], bounds: &[u64]) -> io::Result<()> {
+pub fn print_rough<W: Write>(to: &mut W, map: &[u64], bounds: &[u64]) -> io::Result<()>
+    ensures grows { Grows (W.contents to.old) (W.contents to.new) }
+{
     let j = ask_rough::rough(
         map,
         base::word(bounds, 0),
@@ -17,13 +21,13 @@ pub fn print_rough<W: Write>(to: &mut W, map: &[u64], bounds: &[u64]) -> io::Res
             files_map::print_number(to, b"refused ", k)?;
         }
         Judged::SurelyKept => {
-            to.write_all(b"rough kept\n")?;
+            streams::write_text(to, b"rough kept\n")?;
         }
         Judged::SurelyDropped => {
-            to.write_all(b"rough dropped\n")?;
+            streams::write_text(to, b"rough dropped\n")?;
         }
         Judged::Unsure => {
-            to.write_all(b"rough unsure\n")?;
+            streams::write_text(to, b"rough unsure\n")?;
         }
     }
     Ok(())

@@ -1,4 +1,6 @@
 // How many starts survive a cut.
+ghost use Rattle.streams.specs.Left.{Grows};
+
 use std::io;
 use std::io::Write;
 
@@ -9,18 +11,20 @@ pub fn print_census<W: Write>(
     timescale: u32,
     kind: u32,
     few: &[u64],
-) -> io::Result<()> {
+) -> io::Result<()>
+    ensures grows { Grows (W.contents to.old) (W.contents to.new) }
+{
     let c = ask_census::census(map, timescale, kind, base::word(few, 0), base::word(few, 1));
     let number = c.number;
     if number != 0 {
         files_map::print_number(to, b"refused ", number)?;
         return Ok(());
     }
-    to.write_all(b"census ")?;
-    write!(to, "{}", c.shifted)?;
-    to.write_all(b" ")?;
-    write!(to, "{}", c.clipped)?;
-    to.write_all(b" ")?;
-    write!(to, "{}", c.dropped)?;
-    to.write_all(b"\n")
+    streams::write_text(to, b"census ")?;
+    streams::write_number(to, c.shifted)?;
+    streams::write_text(to, b" ")?;
+    streams::write_number(to, c.clipped)?;
+    streams::write_text(to, b" ")?;
+    streams::write_number(to, c.dropped)?;
+    streams::write_text(to, b"\n")
 }

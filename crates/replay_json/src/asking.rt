@@ -1,6 +1,7 @@
 // The question by its op.
 ghost use Rattle.std.specs.Prelude.{◌≡◌, IfOk};
 ghost use Rattle.replay_json.specs.Query.{is_text_query};
+ghost use Rattle.streams.specs.Left.{Grows};
 
 use crate::printing::{print_read, print_written};
 use std::io;
@@ -19,7 +20,8 @@ pub fn answer<W: Write>(
     x: &[u8],
     y: &[u8],
 ) -> io::Result<bool>
-    ensures { IfOk result (λ r. r ≡ is_text_query op) }
+    ensures value { IfOk result (λ r. r ≡ is_text_query op) }
+    ensures grows { Grows (W.contents to.old) (W.contents to.new) }
 {
     if op == 6 {
         print_written(to, map, a, b, c, y, d)?;

@@ -6,6 +6,7 @@ ghost use Rattle.replay_ask.specs.Query.{is_query};
 ghost use Rattle.replay_json.specs.Query.{is_text_query};
 ghost use Rattle.replay_sessions.specs.Op.{is_text};
 ghost use Rattle.replay_maps.specs.Made.{work_lent, made_number};
+ghost use Rattle.streams.specs.Left.{Grows};
 
 use segmap::Made;
 use std::io;
@@ -35,7 +36,8 @@ fn fill(x: &[u8], n: usize, map: &mut [u64]) {
 
 // Whether the op is about a text or a session; its answer is printed. The map is the one that x has, six numbers to a segment.
 pub fn texts<W: Write>(to: &mut W, head: &[u8], x: &[u8], y: &[u8], z: &[u8]) -> io::Result<bool>
-    ensures { IfOk result (λ r. r ≡ is_text (word_at head.now 0)) }
+    ensures value { IfOk result (λ r. r ≡ is_text (word_at head.now 0)) }
+    ensures grows { Grows (W.contents to.old) (W.contents to.new) }
 {
     let mut map = [0u64; 8750];
     let n = x.len() / 8;
@@ -71,7 +73,8 @@ pub fn print_made<W: Write>(
     direction: u32,
     lent: u32,
 ) -> io::Result<u32>
-    ensures { IfOk result (λ r. r ≡ made_number sheet.now list.now direction lent) }
+    ensures value { IfOk result (λ r. r ≡ made_number sheet.now list.now direction lent) }
+    ensures grows { Grows (W.contents to.old) (W.contents to.new) }
 {
     let mut work = [0; base::MOST_WORK];
     let n = work_lent(lent);
@@ -80,7 +83,8 @@ pub fn print_made<W: Write>(
 
 // Whether the op is a question about the map that x has; its answer is printed. The numbers of y and z go with it.
 pub fn asks<W: Write>(to: &mut W, head: &[u8], x: &[u8], y: &[u8], z: &[u8]) -> io::Result<bool>
-    ensures { IfOk result (λ r. r ≡ is_query (word_at head.now 0)) }
+    ensures value { IfOk result (λ r. r ≡ is_query (word_at head.now 0)) }
+    ensures grows { Grows (W.contents to.old) (W.contents to.new) }
 {
     let mut map = [0u64; 8750];
     let mut few = [0u64; 8];
@@ -109,7 +113,8 @@ pub fn asks<W: Write>(to: &mut W, head: &[u8], x: &[u8], y: &[u8], z: &[u8]) -> 
 
 // Whether the op writes the map that x has as JSON, with the path y, or reads the JSON x; its answer is printed.
 pub fn map_texts<W: Write>(to: &mut W, head: &[u8], x: &[u8], y: &[u8]) -> io::Result<bool>
-    ensures { IfOk result (λ r. r ≡ is_text_query (word_at head.now 0)) }
+    ensures value { IfOk result (λ r. r ≡ is_text_query (word_at head.now 0)) }
+    ensures grows { Grows (W.contents to.old) (W.contents to.new) }
 {
     let mut map = [0u64; 8750];
     let n = x.len() / 8;
@@ -143,7 +148,8 @@ pub fn through_made<W: Write>(
     plan: u32,
     text: &[u8],
 ) -> io::Result<u32>
-    ensures { IfOk result (λ r. r ≡ made_number sheet.now list.now direction lent) }
+    ensures value { IfOk result (λ r. r ≡ made_number sheet.now list.now direction lent) }
+    ensures grows { Grows (W.contents to.old) (W.contents to.new) }
 {
     let mut map = [0u64; 6144];
     let made = make(sheet, list, direction, lent, &mut map);

@@ -1,5 +1,6 @@
 // The rows of a text, printed.
 ghost use Rattle.std.specs.Prelude.{◌≤◌};
+ghost use Rattle.streams.specs.Left.{Grows};
 
 use std::io;
 use std::io::Write;
@@ -19,21 +20,25 @@ fn lent_places(c: u32) -> usize
 }
 
 // What stands behind the number in column k of a row, and the next column.
-fn print_between<W: Write>(to: &mut W, k: usize) -> io::Result<usize> {
+fn print_between<W: Write>(to: &mut W, k: usize) -> io::Result<usize>
+    ensures grows { Grows (W.contents to.old) (W.contents to.new) }
+{
     if k < 5 {
-        to.write_all(b" ")?;
+        streams::write_text(to, b" ")?;
         return Ok(k + 1);
     }
-    to.write_all(b"\n")?;
+    streams::write_text(to, b"\n")?;
     Ok(0)
 }
 
 // Six numbers in a line.
-fn print_rows<W: Write>(to: &mut W, numbers: &[u64]) -> io::Result<()> {
+fn print_rows<W: Write>(to: &mut W, numbers: &[u64]) -> io::Result<()>
+    ensures grows { Grows (W.contents to.old) (W.contents to.new) }
+{
     let mut i: usize = 0;
     let mut k: usize = 0;
     while i < numbers.len() {
-        write!(to, "{}", base::word(numbers, i))?;
+        streams::write_number(to, base::word(numbers, i))?;
         k = print_between(to, k)?;
         i += 1;
     }
@@ -41,7 +46,9 @@ fn print_rows<W: Write>(to: &mut W, numbers: &[u64]) -> io::Result<()> {
 }
 
 // The line `cues` with the number of captions and the line of the fault, a line for each caption, and the line `fault` with its number where there is one; or `refused 16`.
-fn print_read<W: Write>(to: &mut W, kind: u32, text: &[u8], rows: &mut [u64]) -> io::Result<()> {
+fn print_read<W: Write>(to: &mut W, kind: u32, text: &[u8], rows: &mut [u64]) -> io::Result<()>
+    ensures grows { Grows (W.contents to.old) (W.contents to.new) }
+{
     let mut told = [0u64; 2];
     let number = caption_rows::read_cues(kind, text, rows, &mut told);
     if number == 16 {
@@ -49,11 +56,11 @@ fn print_read<W: Write>(to: &mut W, kind: u32, text: &[u8], rows: &mut [u64]) ->
         return Ok(());
     }
     let count = base::word(&told, 0);
-    to.write_all(b"cues ")?;
-    write!(to, "{count}")?;
-    to.write_all(b" ")?;
-    write!(to, "{}", base::word(&told, 1))?;
-    to.write_all(b"\n")?;
+    streams::write_text(to, b"cues ")?;
+    streams::write_number(to, count)?;
+    streams::write_text(to, b" ")?;
+    streams::write_number(to, base::word(&told, 1))?;
+    streams::write_text(to, b"\n")?;
     print_rows(to, files_map::first_segments(rows, count as usize))?;
     if number != 0 {
         files_map::print_number(to, b"fault ", number)?;
@@ -62,7 +69,9 @@ fn print_read<W: Write>(to: &mut W, kind: u32, text: &[u8], rows: &mut [u64]) ->
 }
 
 // The captions of a text, with so many places lent for rows.
-pub fn print_cues<W: Write>(to: &mut W, kind: u32, text: &[u8], lent: u32) -> io::Result<()> {
+pub fn print_cues<W: Write>(to: &mut W, kind: u32, text: &[u8], lent: u32) -> io::Result<()>
+    ensures grows { Grows (W.contents to.old) (W.contents to.new) }
+{
     let mut rows = [0u64; 98304];
     let n = lent_places(lent);
     print_read(to, kind, text, &mut rows[..n])

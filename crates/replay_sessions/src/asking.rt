@@ -1,6 +1,7 @@
 // The answer by its op.
 ghost use Rattle.std.specs.Prelude.{◌≡◌, IfOk};
 ghost use Rattle.replay_sessions.specs.Op.{is_text};
+ghost use Rattle.streams.specs.Left.{Grows};
 
 use crate::parked::print_parked;
 use crate::retimed::print_retimed;
@@ -24,7 +25,8 @@ pub fn answer<W: Write>(
     y: &[u8],
     z: &[u8],
 ) -> io::Result<bool>
-    ensures { IfOk result (λ r. r ≡ is_text op) }
+    ensures value { IfOk result (λ r. r ≡ is_text op) }
+    ensures grows { Grows (W.contents to.old) (W.contents to.new) }
 {
     if op == 5 {
         print_retimed(to, b, a, map, z, plain(d))?;

@@ -1,4 +1,6 @@
 // The session that a text leaves, parked.
+ghost use Rattle.streams.specs.Left.{Grows};
+
 use crate::printing::print_output;
 use crate::running::run;
 use crate::storing::plain;
@@ -7,7 +9,9 @@ use std::io;
 use std::io::Write;
 
 // Prints the blocks of a session, or `refused` and the number.
-fn print_blocks<W: Write>(to: &mut W, session: Session) -> io::Result<()> {
+fn print_blocks<W: Write>(to: &mut W, session: Session) -> io::Result<()>
+    ensures grows { Grows (W.contents to.old) (W.contents to.new) }
+{
     let mut bytes = [0u8; 9216];
     let number = parking::park(session, &mut bytes);
     if number != 0 {
@@ -26,7 +30,9 @@ pub fn print_parked<W: Write>(
     text: &[u8],
     cut: u32,
     how: u32,
-) -> io::Result<()> {
+) -> io::Result<()>
+    ensures grows { Grows (W.contents to.old) (W.contents to.new) }
+{
     let mut all = [0u8; 425984];
     let mut notes = [0u8; 262144];
     let opened = session::open(kind, timescale, map);

@@ -1,4 +1,6 @@
 // A text retimed.
+ghost use Rattle.streams.specs.Left.{Grows};
+
 use crate::printing::print_output;
 use crate::running::run;
 use crate::storing::Plan;
@@ -7,7 +9,9 @@ use std::io;
 use std::io::Write;
 
 // The line `retimed` with its four counts.
-fn print_counts<W: Write>(to: &mut W, counts: Counts) -> io::Result<()> {
+fn print_counts<W: Write>(to: &mut W, counts: Counts) -> io::Result<()>
+    ensures grows { Grows (W.contents to.old) (W.contents to.new) }
+{
     let shifted = counts.shifted as u64;
     let clipped = counts.clipped as u64;
     let dropped = counts.dropped as u64;
@@ -24,7 +28,9 @@ pub fn print_retimed<W: Write>(
     map: &[u64],
     text: &[u8],
     plan: Plan,
-) -> io::Result<()> {
+) -> io::Result<()>
+    ensures grows { Grows (W.contents to.old) (W.contents to.new) }
+{
     let mut all = [0u8; 425984];
     let mut notes = [0u8; 262144];
     let opened = session::open(kind, timescale, map);
@@ -41,6 +47,6 @@ pub fn print_retimed<W: Write>(
     let over = ran.session;
     let counts = over.counts;
     print_counts(to, counts)?;
-    to.write_all(base::front(&notes, ran.noted))?;
+    streams::write_text(to, base::front(&notes, ran.noted))?;
     print_output(to, base::front(&all, ran.written))
 }

@@ -1,6 +1,7 @@
 // A session taken up, printed.
 ghost use Rattle.std.specs.Prelude.{◌≡◌, IfOk};
 ghost use Rattle.spec_parking.specs.parking.Parkings.{take_number};
+ghost use Rattle.streams.specs.Left.{Grows};
 
 use number_lines::print_line;
 use session_state::Session;
@@ -41,19 +42,22 @@ fn numbers(session: Session) -> [u64; 15] {
 }
 
 // The line `taken` with fifteen numbers, the line `held` with a length, the held bytes and a line end.
-fn print_session<W: Write>(to: &mut W, session: Session) -> io::Result<()> {
+fn print_session<W: Write>(to: &mut W, session: Session) -> io::Result<()>
+    ensures grows { Grows (W.contents to.old) (W.contents to.new) }
+{
     let ns = numbers(session);
     print_line(to, b"taken", &ns)?;
     let n = session.held_len;
     print_line(to, b"held", &[n as u64])?;
     let held = session.held;
-    to.write_all(base::front(&held, n))?;
-    to.write_all(b"\n")
+    streams::write_text(to, base::front(&held, n))?;
+    streams::write_text(to, b"\n")
 }
 
 // Prints the session that the blocks name, or `refused` and the number that it answers.
 pub fn print_taken<W: Write>(to: &mut W, bytes: &[u8]) -> io::Result<u32>
-    ensures { IfOk result (λ r. r ≡ take_number bytes.now) }
+    ensures value { IfOk result (λ r. r ≡ take_number bytes.now) }
+    ensures grows { Grows (W.contents to.old) (W.contents to.new) }
 {
     let up = parking::take_up(bytes);
     let number = up.number;

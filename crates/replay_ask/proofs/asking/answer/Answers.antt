@@ -2,26 +2,26 @@ use Rattle.spec_base.proofs.base.Laws.{chain}
 use Rattle.replay_ask.specs.Query.{is_query}
 use Rattle.replay_ask.proofs.asking.answer.Goals as goal
 
-pub returns-then-op-eq8 : goal.returns-then-op-eq8
+pub returns-then-op-eq8-clause-value : goal.returns-then-op-eq8-clause-value
 unfolding is_query
-returns-then-op-eq8 g c = search chain depth 12
+returns-then-op-eq8-clause-value g c = search chain depth 12
 
-pub returns-then-op-eq9 : goal.returns-then-op-eq9
+pub returns-then-op-eq9-clause-value : goal.returns-then-op-eq9-clause-value
 unfolding is_query
-returns-then-op-eq9 g c = search chain depth 12
+returns-then-op-eq9-clause-value g c = search chain depth 12
 
-pub returns-then-op-eq10 : goal.returns-then-op-eq10
+pub returns-then-op-eq10-clause-value : goal.returns-then-op-eq10-clause-value
 unfolding is_query
-returns-then-op-eq10 g c = search chain depth 12
+returns-then-op-eq10-clause-value g c = search chain depth 12
 
-pub returns-then-op-eq11 : goal.returns-then-op-eq11
+pub returns-then-op-eq11-clause-value : goal.returns-then-op-eq11-clause-value
 unfolding is_query
-returns-then-op-eq11 g c = search chain depth 12
+returns-then-op-eq11-clause-value g c = search chain depth 12
 
-pub returns-then-op-eq12 : goal.returns-then-op-eq12
+pub returns-then-op-eq12-clause-value : goal.returns-then-op-eq12-clause-value
 unfolding is_query
-returns-then-op-eq12 g c = search chain depth 12
+returns-then-op-eq12-clause-value g c = search chain depth 12
 
-pub returns : goal.returns
+pub returns-clause-value : goal.returns-clause-value
 unfolding is_query
-returns g c = search chain depth 12
+returns-clause-value g c = search chain depth 12
