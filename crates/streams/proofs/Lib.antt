@@ -1,2 +1,3 @@
 pub mod DigitLaws
+mod DigitRows
 pub mod LeftLaws
