@@ -1,4 +1,4 @@
-// How many starts survive a cut (request 2.13).
+// How many starts survive a cut.
 #![tactic(auto)]
 
 mod counting;

@@ -9,7 +9,7 @@ ghost use Rattle.spec_ask.specs.ask_edges.Count.{starts_in, kept_fast, whole_fas
 ghost use Rattle.spec_ask.specs.ask_census.Census.{most_starts};
 
 // Starts that are kept, and starts that are kept whole.
-#[derive(Clone, Copy)]
+#[derive(Clone, Copy, Debug, PartialEq, Eq)]
 pub struct Tally {
     pub kept: u64,
     pub whole: u64,
@@ -19,7 +19,7 @@ pub struct Tally {
 fn within(lo: u64, hi: u64, n: u64) -> u64
     ensures { result ≡ starts_in lo hi n }
 {
-    base::minus(base::smaller(n, hi), base::smaller(n, lo))
+    n.min(hi).saturating_sub(n.min(lo))
 }
 
 // The starts below `count` of captions `length` units long that are kept, and those that are kept whole.
@@ -27,24 +27,16 @@ pub fn count_starts(map: &[u64], timescale: u32, kind: u32, length: u64, count: 
     requires { (timescale_bad timescale ≡ false) × (kind_bad kind ≡ false) × (map_bad map.now ≡ false) × (ascends (segments_of map.now) ≡ true) × (count ≤ most_starts) }
     ensures { (result.kept ≡ kept_fast (edges_of timescale (units_of kind) (segments_of map.now)) 0 length count) × (result.whole ≡ whole_fast (edges_of timescale (units_of kind) (segments_of map.now)) 0 length count) }
 {
-    let mut t = map;
     let mut till: u64 = 0;
-    let mut kept: u64 = 0;
-    let mut whole: u64 = 0;
-    while 6 <= t.len() {
-        let e = ask_edges::edge_at(base::word(t, 2), base::word(t, 5), timescale, kind);
-        let first = base::larger(till, base::minus(e.from, length));
-        let more = within(first, e.till, count);
-        let wholes = within(
-            base::larger(first, e.low),
-            base::smaller(e.till, base::minus(e.high, length)),
-            count,
-        );
-        kept += more;
-        whole += wholes;
-        till = base::larger(till, e.till);
-        let u = base::words_rest(t, 6);
-        t = u;
+    let mut kept = 0;
+    let mut whole = 0;
+    for s in map.chunks_exact(6) {
+        let e = ask_edges::edge_at(s[2], s[5], timescale, kind);
+        let first = till.max(e.from.saturating_sub(length));
+        let last = e.till.min(e.high.saturating_sub(length));
+        kept += within(first, e.till, count);
+        whole += within(first.max(e.low), last, count);
+        till = till.max(e.till);
     }
     Tally { kept, whole }
 }

@@ -1,15 +1,16 @@
 -- Laws of the answer: its refusals, and the delay found.
 use mathlib.Core.Path.{◌≡◌, refl, sym, ap, ◌∙◌}
-use mathlib.Core.Bool.{Bool, true, false, cond, not}
+use mathlib.Core.Bool.{Bool, true, false, cond, not, ◌||◌}
 use mathlib.Core.List.{List, [], ◌∷◌}
-use Prim.Native.Nat.{ℕ, ◌-◌, ◌/◌, ◌%◌, ◌≤◌, ◌<◌}
+use Prim.Native.Nat.{ℕ, ◌-◌, ◌/◌, ◌%◌, ◌≤◌}
 use native.Mathlib.Omega.{arith}
 use mir.Syntax.{w64}
 use mir.Val.{to_z, of_z}
 use lib.Dec.{ltb, eqb, leb}
 use lib.IntN.{ℤ}
-use lib.ListN.{length, get_or, drop, length-drop}
-use borrow.Author.Tests.{lt-ltb, le-ltb, eq-eqb, ne_eqb, leb-true, eqb-true, not-true}
+use lib.ListN.{length}
+use borrow.Author.Tests.{eq-eqb, ne_eqb, leb-true, eqb-true, not-true}
+use Rattle.std.specs.List.{list_any}
 use Rattle.spec_base.specs.base.Limits.{most_units}
 use Rattle.spec_base.specs.base.Refusal.{fault_unless}
 use Rattle.spec_base.proofs.base.RefusalLaws.{held, else_zero}
@@ -31,39 +32,14 @@ use Rattle.spec_ask.proofs.ask_delay.Best.{best_least}
 use Rattle.spec_ask.proofs.ask_delay.Floor.{floor}
 
 -- ---- a time past the limit
-head_cut : (t : List ℕ) → 0 < length t → t ≡ get_or t 0 0 ∷ drop 1 t
-head_cut [] h = absurd (omega arith)
-head_cut (a ∷ r) h = refl
-
-module _ (cs t : List ℕ) (a : ℕ) (g : any_late t ≡ any_late cs) (h : 0 < length t) (e : a ≡ get_or t 0 0) where
-  pub late_found : 68719476736 < a → true ≡ any_late cs
-  unfolding any_late
-  late_found k =
-      let z : ltb most_units (get_or t 0 0) ≡ true = lt-ltb most_units (get_or t 0 0) (omega arith) in
-      sym (ap (λ (b : Bool). cond b true (any_late (drop 1 t))) z) ∙ sym (ap any_late (head_cut t h)) ∙ g
-
-  pub late_again : (u : List ℕ) → u ≡ drop 1 t → a ≤ 68719476736 → any_late u ≡ any_late cs
-  unfolding any_late
-  late_again u eu k =
-      let z : ltb most_units (get_or t 0 0) ≡ false = le-ltb most_units (get_or t 0 0) (omega arith) in
-      ap any_late eu ∙ sym (ap (λ (b : Bool). cond b true (any_late (drop 1 t))) z) ∙ sym (ap any_late (head_cut t h)) ∙ g
-
-pub late_less : (t u : List ℕ) → u ≡ drop 1 t → 0 < length t → length u < length t
-late_less t u e h = rw (e, length-drop) (omega arith)
-
-pub late_none : (cs t : List ℕ) → any_late t ≡ any_late cs → length t ≤ 0 → false ≡ any_late cs
+pub late_any : (ts : List ℕ) → any_late ts ≡ list_any (ltb most_units) ts
 unfolding any_late
-late_none cs [] g h = g
-late_none cs (a ∷ r) g h = absurd (omega arith)
-
--- ---- how many are tried
-pub tries_few : (budget : ℕ) → budget < 12001 → budget ≡ tried_of budget
-unfolding tried_of
-tries_few budget h = omega arith
-
-pub tries_all : (budget : ℕ) → 12001 ≤ budget → 12001 ≡ tried_of budget
-unfolding tried_of
-tries_all budget h = omega arith
+late_any [] = refl
+late_any (t ∷ ts) = go (ltb most_units t) (late_any ts)
+  where
+    go : (b : Bool) → any_late ts ≡ list_any (ltb most_units) ts → cond b true (any_late ts) ≡ (b || list_any (ltb most_units) ts)
+    go true e = refl
+    go false e = e
 
 -- ---- what is not refused
 pub record Taken (m : List ℕ) (T kind : ℕ) (cs : List ℕ) (budget : ℕ) : Type 0 where

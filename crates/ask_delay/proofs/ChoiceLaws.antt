@@ -57,7 +57,7 @@ step_at : (l : List ℕ) (t : ℕ) → 1 ≤ t → better_of (chosen_in l t) (ge
 step_at l zero h = absurd (omega arith)
 step_at l (suc k) h = step l k ∙ ap (chosen_in l) (omega arith)
 
-better_tried : (b : Chosen) (n : ℕ) → (better_of b n).tried ≡ b.tried + 1
+pub better_tried : (b : Chosen) (n : ℕ) → (better_of b n).tried ≡ b.tried + 1
 unfolding better_of
 better_tried b n = go (ltb n b.loss)
   where

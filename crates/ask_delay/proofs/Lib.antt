@@ -1,4 +1,5 @@
 -- Laws of delays.
+pub mod Chunks
 pub mod ChoiceLaws
 pub mod AnswerLaws
 pub mod TheDelay

@@ -3,7 +3,7 @@ ghost use Rattle.std.specs.Prelude.{◌≡◌, ◌≤◌, length};
 ghost use Rattle.ask_delay.specs.Choice.{chosen_in, better_of};
 
 // The place of the best try, what it loses, and how many were tried.
-#[derive(Clone, Copy)]
+#[derive(Clone, Copy, Debug, PartialEq, Eq)]
 pub struct Chosen {
     pub place: u32,
     pub loss: u32,
@@ -17,16 +17,13 @@ fn better(best: Chosen, loss: u32) -> Chosen
 {
     let tried = best.tried + 1;
     if loss < best.loss {
-        return Chosen {
+        Chosen {
             place: best.tried,
             loss,
             tried,
-        };
-    }
-    Chosen {
-        place: best.place,
-        loss: best.loss,
-        tried,
+        }
+    } else {
+        Chosen { tried, ..best }
     }
 }
 
@@ -39,10 +36,8 @@ pub fn choose(losses: &[u32], tries: u32) -> Chosen
         loss: losses[0],
         tried: 1,
     };
-    while best.tried < tries {
-        let at = best.tried as usize;
-        let next = better(best, losses[at]);
-        best = next;
+    for loss in &losses[1..tries as usize] {
+        best = better(best, *loss);
     }
     best
 }

@@ -1,4 +1,4 @@
-// The delay that loses least (request 2.14).
+// The delay that loses least.
 #![tactic(auto)]
 
 mod choosing;

@@ -3,10 +3,8 @@ ghost use Rattle.std.specs.Prelude.{◌≡◌, ◌≤◌, length};
 ghost use Rattle.spec_ask.specs.ask_delay.Delay.{delayed_of, delay_of};
 ghost use Rattle.spec_ask.specs.ask_delay.Paint.{lost_by};
 
-use spec_ask::ask_delay::Moved;
-
 // A time under the delay of try k.
-fn under(t: u64, k: u32) -> Moved
+fn under(t: u64, k: u32) -> Option<u64>
     requires { (t ≤ 68719476736) × (k ≤ 12000) }
     ensures { result ≡ delayed_of t (delay_of k) }
 {
@@ -18,12 +16,12 @@ pub fn lost_at(grades: &[u8], start: u64, stop: u64, k: u32) -> bool
     ensures { result ≡ lost_by grades.now start stop (delay_of k) }
 {
     match under(start, k) {
-        Moved::Below => true,
-        Moved::At(s) => match under(stop, k) {
-            Moved::Below => true,
-            Moved::At(e) => {
+        None => true,
+        Some(s) => match under(stop, k) {
+            None => true,
+            Some(e) => {
                 let at = (s + 6000 - start) as usize;
-                base::byte(grades, at) != 2
+                base::get_or(grades, at, 0) != 2
             }
         },
     }

@@ -2,22 +2,20 @@
 ghost use Rattle.std.specs.Prelude.{◌≡◌, ◌≤◌};
 ghost use Rattle.spec_ask.specs.ask_delay.Delay.{delayed_of, delay_of, Near};
 
-use spec_ask::ask_delay::Moved;
-
-// The time t, d units later (earlier where d is below 0), or that it lies below 0.
-pub fn delayed(t: u64, d: i64) -> Moved
+// The time t, d units later, earlier where d is below 0; None where it lies below 0.
+pub fn delayed(t: u64, d: i64) -> Option<u64>
     requires { (t ≤ 68719476736) × Near d }
     ensures { result ≡ delayed_of t d }
 {
     if d < 0 {
         let n = (0 - d) as u64;
         if t < n {
-            return Moved::Below;
+            return None;
         }
-        return Moved::At(t - n);
+        return Some(t - n);
     }
     let n = d as u64;
-    Moved::At(t + n)
+    Some(t + n)
 }
 
 // The delay that try k takes: 0, 1, -1, 2, -2 and so on.
@@ -25,10 +23,9 @@ pub fn delay_at(k: u32) -> i64
     requires { k ≤ 12000 }
     ensures { result ≡ delay_of k }
 {
-    let h = k / 2;
     if k % 2 == 1 {
-        let up = (h + 1) as i64;
-        return up;
+        i64::from(k / 2 + 1)
+    } else {
+        -i64::from(k / 2)
     }
-    0 - (h as i64)
 }

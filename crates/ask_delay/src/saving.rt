@@ -4,47 +4,42 @@ ghost use Rattle.spec_time.specs.caption_time.Kind.{kind_bad};
 ghost use Rattle.spec_time.specs.caption_time.Convert.{timescale_bad};
 ghost use Rattle.spec_map.specs.segment.Segment.{segments_of};
 ghost use Rattle.spec_ask.specs.ask_delay.Loss.{exceeds_all, too_long, any_late, floor_of};
-ghost use Rattle.spec_ask.specs.ask_delay.Tally.{config_with};
 
 use crate::counting::more;
+use spec_caption::caption_fate::Config;
 
 // Whether n ticks exceed every segment's duration.
 fn exceeds_all(map: &[u64], n: u64) -> bool
     ensures { result ≡ exceeds_all n (segments_of map.now) }
 {
-    let mut t = map;
-    while 6 <= t.len() {
-        if n <= base::word(t, 5) {
+    // Kept: (3) `map.chunks_exact(6).all(|s| s[5] < n)` was tried: what the closure answered of each chunk did not reach the clause.
+    for s in map.chunks_exact(6) {
+        if n <= s[5] {
             return false;
         }
-        let u = base::words_rest(t, 6);
-        t = u;
     }
     true
 }
 
 // Whether a caption is longer than every segment.
-fn too_long(map: &[u64], timescale: u32, kind: u32, start: u64, stop: u64) -> bool
-    requires { (timescale_bad timescale ≡ false) × (kind_bad kind ≡ false) × (stop ≤ 68719476736) }
-    ensures { result ≡ too_long (config_with kind timescale) (segments_of map.now) start stop }
+fn too_long(map: &[u64], config: Config, start: u64, stop: u64) -> bool
+    requires { (timescale_bad config.timescale ≡ false) × (kind_bad config.kind ≡ false) × (stop ≤ 68719476736) }
+    ensures { result ≡ too_long config (segments_of map.now) start stop }
 {
-    if start < stop {
-        return exceeds_all(map, caption_time::core_ticks(stop - start, timescale, kind));
-    }
-    false
+    start < stop
+        && exceeds_all(
+            map,
+            caption_time::core_ticks(stop - start, config.timescale, config.kind),
+        )
 }
 
-pub fn floor_of(map: &[u64], timescale: u32, kind: u32, captions: &[u64]) -> u32
-    requires { (timescale_bad timescale ≡ false) × (kind_bad kind ≡ false) × (any_late captions.now ≡ false) × (length captions.now ≤ 8192) }
-    ensures { result ≡ floor_of (config_with kind timescale) (segments_of map.now) captions.now }
+pub fn floor_of(map: &[u64], config: Config, captions: &[u64]) -> u32
+    requires { (timescale_bad config.timescale ≡ false) × (kind_bad config.kind ≡ false) × (any_late captions.now ≡ false) × (length captions.now ≤ 8192) }
+    ensures { result ≡ floor_of config (segments_of map.now) captions.now }
 {
-    let mut t = captions;
     let mut n = 0;
-    while 2 <= t.len() {
-        let long = too_long(map, timescale, kind, base::word(t, 0), base::word(t, 1));
-        n = more(n, long);
-        let u = base::words_rest(t, 2);
-        t = u;
+    for c in captions.chunks_exact(2) {
+        n = more(n, too_long(map, config, c[0], c[1]));
     }
     n
 }

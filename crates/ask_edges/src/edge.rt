@@ -8,15 +8,7 @@ use spec_ask::ask_edges::Edge;
 pub fn edge_at(source: u64, duration: u64, timescale: u32, kind: u32) -> Edge
     ensures { result ≡ edge_within kind timescale source duration }
 {
-    if duration == 0 {
-        return Edge {
-            till: 0,
-            from: 0,
-            low: 0,
-            high: 0,
-        };
-    }
-    if segment::end_bad(source, duration) {
+    if duration == 0 || segment::end_bad(source, duration) {
         return Edge {
             till: 0,
             from: 0,
@@ -25,14 +17,10 @@ pub fn edge_at(source: u64, duration: u64, timescale: u32, kind: u32) -> Edge
         };
     }
     let last = source + duration;
-    let till = caption_time::core_end(last, timescale, kind);
-    let from = caption_time::core_end(source + 1, timescale, kind);
-    let low = caption_time::core_end(source, timescale, kind);
-    let high = caption_time::core_end(last + 1, timescale, kind);
     Edge {
-        till,
-        from,
-        low,
-        high,
+        till: caption_time::core_end(last, timescale, kind),
+        from: caption_time::core_end(source + 1, timescale, kind),
+        low: caption_time::core_end(source, timescale, kind),
+        high: caption_time::core_end(last + 1, timescale, kind),
     }
 }

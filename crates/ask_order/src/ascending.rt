@@ -7,55 +7,56 @@ ghost use Rattle.spec_ask.specs.ask_order.Ascending.{steps_back, after, ascends}
 fn ends_after(start: u64, duration: u64, at: u64) -> bool
     ensures { result ≡ ltb at (start + duration) }
 {
-    if at < start {
-        return true;
-    }
-    at - start < duration
+    at < start || at - start < duration
 }
 
-// The new number, or the old one where a segment has no length.
-fn later(duration: u64, old: u64, new: u64) -> u64
-    ensures { result ≡ after duration old new }
+// Where a segment lies, and how long it is.
+#[derive(Clone, Copy, Debug, PartialEq, Eq)]
+struct Place {
+    source: u64,
+    output: u64,
+    length: u64,
+}
+
+// Whether a segment starts before the end of the last one.
+#[tactic(auto, unfolding(spec_ask::specs::ask_order::Ascending::steps_back))]
+fn steps_back(last: Place, next: Place) -> bool
+    ensures { result ≡ steps_back (last.source + last.length) (last.output + last.length) next.source next.output next.length }
 {
-    if duration == 0 {
-        return old;
-    }
-    new
+    next.length != 0
+        && (ends_after(last.source, last.length, next.source)
+            || ends_after(last.output, last.length, next.output))
 }
 
-// Whether a segment starts before the end of the last one, which has its source, output and length.
-fn steps_back(source: u64, output: u64, length: u64, q: u64, o: u64, d: u64) -> bool
-    ensures { result ≡ steps_back (source + length) (output + length) q o d }
+// The last segment of positive length: a segment without length changes nothing.
+#[tactic(auto, unfolding(spec_ask::specs::ask_order::Ascending::after))]
+fn later(last: Place, next: Place) -> Place
+    ensures source { result.source ≡ after next.length last.source next.source }
+    ensures output { result.output ≡ after next.length last.output next.output }
+    ensures length { result.length ≡ after next.length last.length next.length }
 {
-    if d == 0 {
-        return false;
-    }
-    if ends_after(source, length, q) {
-        return true;
-    }
-    ends_after(output, length, o)
+    if next.length == 0 { last } else { next }
 }
 
-// Whether the map is one that request 2.12 admits.
+// Whether the segments of the map ascend.
 pub fn ascends(map: &[u64]) -> bool
     ensures { result ≡ ascends (segments_of map.now) }
 {
-    let mut t = map;
-    let mut source: u64 = 0;
-    let mut output: u64 = 0;
-    let mut length: u64 = 0;
-    while 6 <= t.len() {
-        let q = base::word(t, 2);
-        let o = base::word(t, 4);
-        let d = base::word(t, 5);
-        if steps_back(source, output, length, q, o, d) {
+    let mut last = Place {
+        source: 0,
+        output: 0,
+        length: 0,
+    };
+    for s in map.chunks_exact(6) {
+        let next = Place {
+            source: s[2],
+            output: s[4],
+            length: s[5],
+        };
+        if steps_back(last, next) {
             return false;
         }
-        source = later(d, source, q);
-        output = later(d, output, o);
-        length = later(d, length, d);
-        let u = base::words_rest(t, 6);
-        t = u;
+        last = later(last, next);
     }
     true
 }

@@ -1,4 +1,4 @@
-// Why a caption is kept or dropped (request 2.8).
+// Why a caption is kept or dropped.
 #![tactic(auto)]
 
 mod causes;

@@ -9,9 +9,7 @@ pub fn fate_code(fate: Counted) -> u64
     ensures { result ≡ fate_code fate }
 {
     match fate {
-        Counted::Nothing => 0,
-        Counted::Passed => 0,
-        Counted::Dropped => 0,
+        Counted::Nothing | Counted::Passed | Counted::Dropped => 0,
         Counted::Shifted => 1,
         Counted::Clipped => 2,
     }

@@ -1,45 +1,53 @@
 // The fate of one caption and the reason.
 ghost use Rattle.std.specs.Prelude.{◌≡◌, length};
+ghost use Rattle.refusals.specs.Numbers.{told};
 ghost use Rattle.spec_ask.specs.ask_reason.Reason.{counted_cut, why_number, why_of, causes_left};
 
-use caption_fate::{Counted, Hit};
+use caption_fate::Counted;
+use refusals::Refusal;
 use spec_ask::ask_reason::Why;
 
-fn why_number(map: &[u64], timescale: u32, kind: u32, start: u64, stop: u64, places: usize) -> u32
-    ensures { result ≡ why_number map.now timescale kind start stop places }
+fn why_number(
+    map: &[u64],
+    timescale: u32,
+    kind: u32,
+    start: u64,
+    stop: u64,
+    places: usize,
+) -> Result<(), Refusal>
+    ensures { told result ≡ why_number map.now timescale kind start stop places }
 {
     if caption_time::timescale_bad(timescale) {
-        return 15;
+        return Err(Refusal::BadMap);
     }
     if segment::map_bad(map) {
-        return 15;
+        return Err(Refusal::BadMap);
     }
     if caption_time::kind_bad(kind) {
-        return 16;
+        return Err(Refusal::BadArgument);
     }
     if base::MOST_UNITS < start {
-        return 16;
+        return Err(Refusal::BadArgument);
     }
     if base::MOST_UNITS < stop {
-        return 16;
+        return Err(Refusal::BadArgument);
     }
     if places < map.len() / 6 {
-        return 16;
+        return Err(Refusal::BadArgument);
     }
-    0
+    Ok(())
 }
 
 // Shifted where nothing was cut off.
+#[tactic(auto, unfolding(spec_ask::specs::ask_reason::Reason::counted_cut))]
 fn counted(start_cut: u64, end_cut: u64) -> Counted
     ensures { result ≡ counted_cut start_cut end_cut }
 {
-    if start_cut != 0 {
-        return Counted::Clipped;
+    if start_cut != 0 || end_cut != 0 {
+        Counted::Clipped
+    } else {
+        Counted::Shifted
     }
-    if end_cut != 0 {
-        return Counted::Clipped;
-    }
-    Counted::Shifted
 }
 
 // What becomes of a caption read as `start` to `stop` in units, and why. Of a dropped one, the causes of all segments stand in `causes`, in list order.
@@ -53,40 +61,39 @@ pub fn reason(
 ) -> Why
     ensures { (result ≡ why_of map.now timescale kind start stop (length causes.old)) × (causes.new ≡ causes_left map.now timescale kind start stop causes.old) }
 {
-    let number = why_number(map, timescale, kind, start, stop, causes.len());
-    if number != 0 {
-        return Why {
-            number,
+    match why_number(map, timescale, kind, start, stop, causes.len()) {
+        Err(r) => Why {
+            number: u32::from(r),
             fate: Counted::Nothing,
             place: 0,
             start_cut: 0,
             end_cut: 0,
-        };
-    }
-    let a = caption_time::core_ticks(start, timescale, kind);
-    let b = caption_time::core_ticks(stop, timescale, kind);
-    match caption_fate::find_hit(map, a, b) {
-        Hit::Miss => {
-            crate::causes::fill(map, a, b, causes);
-            Why {
-                number: 0,
-                fate: Counted::Dropped,
-                place: 0,
-                start_cut: 0,
-                end_cut: 0,
-            }
-        }
-        Hit::At(x) => {
-            let place = x.place;
-            let start_cut = base::minus(x.source, a);
-            let end_cut = base::minus(b, x.source + x.duration);
-            let fate = counted(start_cut, end_cut);
-            Why {
-                number: 0,
-                fate,
-                place,
-                start_cut,
-                end_cut,
+        },
+        Ok(()) => {
+            let a = caption_time::core_ticks(start, timescale, kind);
+            let b = caption_time::core_ticks(stop, timescale, kind);
+            match caption_fate::find_hit(map, a, b) {
+                None => {
+                    crate::causes::fill(map, a, b, causes);
+                    Why {
+                        number: 0,
+                        fate: Counted::Dropped,
+                        place: 0,
+                        start_cut: 0,
+                        end_cut: 0,
+                    }
+                }
+                Some(x) => {
+                    let start_cut = x.source.saturating_sub(a);
+                    let end_cut = b.saturating_sub(x.source + x.duration);
+                    Why {
+                        number: 0,
+                        fate: counted(start_cut, end_cut),
+                        place: x.place,
+                        start_cut,
+                        end_cut,
+                    }
+                }
             }
         }
     }

@@ -1,51 +1,56 @@
 // A caption whose start and end are known only between two ticks each.
 ghost use Rattle.std.specs.Prelude.{◌≡◌};
+ghost use Rattle.refusals.specs.Numbers.{told};
 ghost use Rattle.spec_map.specs.segment.Segment.{segments_of};
 ghost use Rattle.spec_ask.specs.ask_rough.Rough.{kept_at, rough_number, rough_of, number_of, told_of};
 
-use caption_fate::Hit;
+use refusals::Refusal;
 use spec_ask::ask_rough::Judged;
 
-fn rough_number(map: &[u64], start_low: u64, start_high: u64, end_low: u64, end_high: u64) -> u32
-    ensures { result ≡ rough_number map.now start_low start_high end_low end_high }
+fn rough_number(
+    map: &[u64],
+    start_low: u64,
+    start_high: u64,
+    end_low: u64,
+    end_high: u64,
+) -> Result<(), Refusal>
+    ensures { told result ≡ rough_number map.now start_low start_high end_low end_high }
 {
     if segment::map_bad(map) {
-        return 15;
+        return Err(Refusal::BadMap);
     }
     if start_high < start_low {
-        return 16;
+        return Err(Refusal::BadArgument);
     }
     if end_high < end_low {
-        return 16;
+        return Err(Refusal::BadArgument);
     }
-    0
+    Ok(())
 }
 
 // Whether a caption of ticks a to b is kept.
 fn kept_at(map: &[u64], a: u64, b: u64) -> bool
     ensures { result ≡ kept_at (segments_of map.now) a b }
 {
-    match caption_fate::find_hit(map, a, b) {
-        Hit::Miss => false,
-        Hit::At(x) => true,
-    }
+    caption_fate::find_hit(map, a, b).is_some()
 }
 
 // What is sure of a caption that starts between two ticks and ends between two ticks, any of 64 bits.
 pub fn rough(map: &[u64], start_low: u64, start_high: u64, end_low: u64, end_high: u64) -> Judged
     ensures { result ≡ rough_of map.now start_low start_high end_low end_high }
 {
-    let number = rough_number(map, start_low, start_high, end_low, end_high);
-    if number != 0 {
-        return Judged::Refused(number);
+    match rough_number(map, start_low, start_high, end_low, end_high) {
+        Err(r) => Judged::Refused(u32::from(r)),
+        Ok(()) => {
+            if kept_at(map, start_high, end_low) {
+                Judged::SurelyKept
+            } else if kept_at(map, start_low, end_high) {
+                Judged::Unsure
+            } else {
+                Judged::SurelyDropped
+            }
+        }
     }
-    if kept_at(map, start_high, end_low) {
-        return Judged::SurelyKept;
-    }
-    if kept_at(map, start_low, end_high) {
-        return Judged::Unsure;
-    }
-    Judged::SurelyDropped
 }
 
 // An answer's number.
@@ -54,9 +59,7 @@ pub fn number(j: Judged) -> u32
 {
     match j {
         Judged::Refused(k) => k,
-        Judged::SurelyKept => 0,
-        Judged::SurelyDropped => 0,
-        Judged::Unsure => 0,
+        Judged::SurelyKept | Judged::SurelyDropped | Judged::Unsure => 0,
     }
 }
 

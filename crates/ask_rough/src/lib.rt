@@ -1,4 +1,4 @@
-// Times known only roughly (request 2.11).
+// Times known only roughly.
 #![tactic(auto)]
 
 mod judging;

@@ -1,28 +1,30 @@
 -- Laws of fields that are counted byte by byte: a comma is one field fewer that is wanted behind it.
 use mathlib.Core.Path.{◌≡◌, refl, sym, ap, ◌∙◌}
 use mathlib.Core.Bool.{Bool, true, false, cond}
-use mathlib.Core.List.{List, [], ◌∷◌}
+use mathlib.Core.List.{List, [], ◌∷◌, ◌++◌}
 use Prim.Native.Nat.{ℕ, zero, suc, ◌+◌, ◌-◌, ◌≤◌, ◌<◌}
-use native.Mathlib.Nat.{not-suc-le-zero, le_of_suc-le-suc}
-use native.Mathlib.Numerals.{add-one}
+use Rattle.std.proofs.lemmas.List.{take-append-drop}
 use native.Mathlib.Omega.{arith}
-use borrow.Author.Tests.{eq-eqb, ne_eqb, eqb-true, eqb-false, le-leb, lt-leb, lt-ltb, le-ltb, ltb-true, ltb-false, leb-true, leb-false}
+use borrow.Author.Tests.{eq-eqb, ne_eqb, eqb-true, eqb-false, le-leb, lt-leb, ltb-true, ltb-false, leb-true, leb-false}
+use Rattle.std.specs.List.{count_by}
+use Rattle.std.proofs.lemmas.List.Sums.{sum_by-cons}
+use mathlib.Core.Logic.{◌⊎◌, inl, inr}
 use lib.Dec.{eqb, leb, ltb}
-use lib.ListN.{length, take, drop, get_or, length-drop}
-use Rattle.spec_text.specs.pattern.Find.{starts, first, contains, up_to, past}
+use lib.ListN.{length, take, drop}
+use Rattle.spec_text.specs.pattern.Find.{starts, first}
 use Rattle.spec_text.specs.pattern.Piece.{comma}
-use Rattle.spec_ass.specs.ass_columns.Columns.{fields}
-use Rattle.spec_ass.proofs.ass_columns.FieldLaws.{fields_more, fields_last}
+use Rattle.spec_ass.specs.ass_columns.Columns.{fields, field_at}
+use Rattle.spec_ass.proofs.ass_columns.FieldLaws.{fields_more, fields_last, enough_few, enough_again, enough_all, field_absent, field_past, field_short, field_again, field_found}
 
 -- n fields are there
 abbrev There : ℕ → List ℕ → Bool
 There n s = leb n (length (fields n s))
 
-first_comma : (b : ℕ) (u : List ℕ) → eqb 44 b ≡ true → first comma (b ∷ u) ≡ 0
+pub first_comma : (b : ℕ) (u : List ℕ) → eqb 44 b ≡ true → first comma (b ∷ u) ≡ 0
 unfolding first starts
 first_comma b u e = rw e
 
-first_other : (b : ℕ) (u : List ℕ) → eqb 44 b ≡ false → first comma (b ∷ u) ≡ suc (first comma u)
+pub first_other : (b : ℕ) (u : List ℕ) → eqb 44 b ≡ false → first comma (b ∷ u) ≡ suc (first comma u)
 unfolding first starts
 first_other b u e = rw e
 
@@ -87,24 +89,17 @@ head_left n b u = go (eqb b 44) refl
     go true e = comma_head n b u (eq-eqb 44 b (sym (eqb-true b 44 e)))
     go false e = other_head n b u (ne_eqb 44 b (λ q. eqb-false b 44 e (sym q))) ∙ sym (commas_none u n)
 
-byte_left : (n k : ℕ) (s : List ℕ) → k < length s → There n (drop k s) ≡ There (n - cond (eqb (get_or s k 0) 44) 1 0) (drop (suc k) s)
-byte_left n k [] h = absurd (not-suc-le-zero h)
-byte_left n zero (b ∷ s) h = head_left n b s
-byte_left n (suc k) (b ∷ s) h = byte_left n k s (le_of_suc-le-suc h)
+-- the commas of the bytes before a rest
+abbrev is_comma : ℕ → Bool
+is_comma b = eqb b 44
+
+commas_left : (v u : List ℕ) (n : ℕ) → There (n - count_by is_comma v) u ≡ There n (v ++ u)
+commas_left [] u n = commas_none u n
+commas_left (b ∷ v) u n =
+    let z : n - count_by is_comma (b ∷ v) ≡ n - cond (is_comma b) 1 0 - count_by is_comma v = omega (arith, sum_by-cons (λ x. cond (is_comma x) 1 0) b v) in
+    ap (λ (m : ℕ). There m u) z ∙ commas_left v u (n - cond (is_comma b) 1 0) ∙ sym (head_left n b (v ++ u))
 
 -- ---- the loop over 16 bytes
-pub commas_again : (s : List ℕ) (left n k c : ℕ) → There (left - n) (drop k s) ≡ There left s → 16 ≤ length s → k < 16 → c ≡ cond (eqb (get_or s k 0) 44) 1 0
-    → There (left - (n + c)) (drop (k + 1) s) ≡ There left s
-commas_again s left n k c inv l h e =
-    let z : left - (n + c) ≡ left - n - c = omega arith in
-    rw (add-one, z, e) (sym (byte_left (left - n) k s (omega arith)) ∙ inv)
-
-pub commas_all : (s : List ℕ) (left n k r : ℕ) → There (left - n) (drop k s) ≡ There left s → k ≤ 16 → 16 ≤ k → r ≡ left - n → There r (drop 16 s) ≡ There left s
-commas_all s left n k r inv a b e =
-    let z : k ≡ 16 = omega arith in
-    ap (λ (m : ℕ). There m (drop 16 s)) e ∙ ap (λ (m : ℕ). There (left - n) (drop m s)) (sym z) ∙ inv
-
--- ---- the loop of these
 module _ (s t : List ℕ) (c n : ℕ) (inv : There n t ≡ There c s) where
   pub counted_some : n ≤ 1 → true ≡ There c s
   counted_some h = sym (go n h) ∙ inv
@@ -114,11 +109,52 @@ module _ (s t : List ℕ) (c n : ℕ) (inv : There n t ≡ There c s) where
       go (suc zero) h = there_one t
       go (suc (suc n)) h = absurd (omega arith)
 
-  pub counted_again : (r : ℕ) (u : List ℕ) → There r (drop 16 t) ≡ There n t → u ≡ drop 16 t → There r u ≡ There c s
-  counted_again r u e q = ap (There r) q ∙ e ∙ inv
+  pub counted_again : (v u : List ℕ) (r : ℕ) → v ≡ take 16 t → u ≡ drop 16 t → r ≡ n - count_by is_comma v → There r u ≡ There c s
+  counted_again v u r ev eu er =
+      rw (er, ev, eu) (commas_left (take 16 t) (drop 16 t) n ∙ ap (There n) (take-append-drop 16 t) ∙ inv)
 
   pub counted_rest : (r : Bool) → r ≡ There n t → r ≡ There c s
   counted_rest r e = e ∙ inv
 
-pub behind_less : (t u : List ℕ) → 16 ≤ length t → u ≡ drop 16 t → length u < length t
-behind_less t u h e = omega (arith, ap length e, length-drop 16 t)
+-- ---- the loop over the commas, before the comma k
+module _ (s t : List ℕ) (c k : ℕ) (inv : There (c + 1 - k) t ≡ There c s) where
+  pub by_one_few : (i : ℕ) → k < c → i ≡ first comma t → length t ≤ i → false ≡ There c s
+  by_one_few i l e h = enough_few s t c (c + 1 - k) inv i (omega arith) e h
+
+  pub by_one_again : (i : ℕ) (u : List ℕ) → k < c → i ≡ first comma t → i < length t → u ≡ drop (i + 1) t → There (c + 1 - (k + 1)) u ≡ There c s
+  by_one_again i u l e h eu =
+      let z : c + 1 - (k + 1) ≡ c + 1 - k - 1 = omega arith in
+      rw z (enough_again s t c (c + 1 - k) inv i u (omega arith) e h eu)
+
+  pub by_one_all : c ≤ k → true ≡ There c s
+  by_one_all h = enough_all s t c (c + 1 - k) inv (omega arith)
+
+pub by_one_none : (s : List ℕ) (c : ℕ) → There (c + 1 - 1) s ≡ There c s
+by_one_none s c = let z : c + 1 - 1 ≡ c = omega arith in rw z refl
+
+-- ---- the loop to the field at p, before the comma k
+module _ (s t : List ℕ) (c p k : ℕ) (inv : field_at (p + 1 - k) (fields (c + 1 - k) t) ≡ field_at p (fields c s)) (low : p ≤ c) where
+  pub at_short : (i : ℕ) (r : List ℕ) → k < p → i ≡ first comma t → length t ≤ i → r ≡ take 0 t → r ≡ field_at p (fields c s)
+  at_short i r l e h er = field_short s t c p (c + 1 - k) (p + 1 - k) inv (omega arith) (omega arith) i r (omega arith) e h er
+
+  pub at_again : (i : ℕ) (u : List ℕ) → k < p → i ≡ first comma t → i < length t → u ≡ drop (i + 1) t → field_at (p + 1 - (k + 1)) (fields (c + 1 - (k + 1)) u) ≡ field_at p (fields c s)
+  at_again i u l e h eu =
+      let y : p + 1 - (k + 1) ≡ p + 1 - k - 1 = omega arith in
+      let z : c + 1 - (k + 1) ≡ c + 1 - k - 1 = omega arith in
+      rw (y, z) (field_again s t c p (c + 1 - k) (p + 1 - k) inv (omega arith) (omega arith) i u (omega arith) e h eu)
+
+  pub at_found : (i : ℕ) (r : List ℕ) → 1 ≤ p → p ≤ k → k ≤ p → i ≡ cond (leb (c - (p - 1)) 1) (length t) (first comma t) → r ≡ take i t → r ≡ field_at p (fields c s)
+  at_found i r l h h' e er =
+      let z : c - (p - 1) ≡ c + 1 - k = omega arith in
+      field_found s t c p (c + 1 - k) (p + 1 - k) inv (omega arith) (omega arith) i r (omega arith) (rw z at e) er
+
+-- no such place
+pub at_absent : (s r : List ℕ) (c p : ℕ) → (p ≡ 0) ⊎ ((p ≡ 0 → ⊥) × (c < p)) → r ≡ [] → r ≡ field_at p (fields c s)
+at_absent s r c p (inl z) e = field_absent s r c p z e
+at_absent s r c p (inr q) e = field_past s r c p q.1 e
+
+pub at_start : (s : List ℕ) (c p : ℕ) → field_at (p + 1 - 1) (fields (c + 1 - 1) s) ≡ field_at p (fields c s)
+at_start s c p =
+    let y : p + 1 - 1 ≡ p = omega arith in
+    let z : c + 1 - 1 ≡ c = omega arith in
+    rw (y, z) refl

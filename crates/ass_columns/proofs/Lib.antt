@@ -1,1 +1,2 @@
 pub mod CommaLaws
+pub mod PieceLoop

@@ -1,6 +1,6 @@
 // One ASS line: what it says, put through the map.
 ghost use Rattle.std.specs.Prelude.{◌≡◌, ◌&&◌, [], ◌∷◌, ◌++◌, ◌+◌, ◌*◌, ◌≤◌, length, drop};
-ghost use Rattle.spec_base.specs.base.Put.{put};
+ghost use Rattle.spec_base.specs.base.Put.{put, placed_at, place_after};
 ghost use Rattle.spec_text.specs.text.Line.{text_of, terminator_of};
 ghost use Rattle.spec_text.specs.whitespace.White.{trim_tail};
 ghost use Rattle.spec_time.specs.caption_stamp.Read.{time_in};
@@ -19,7 +19,6 @@ ghost use Rattle.spec_ass.specs.ass_line.AssThrough.{columns_after, line_answer_
 use ass_columns::{Columns, columns_of, enough, field, in_section, is_section, names_events};
 use ass_write::{Times, has_tag, write_kept};
 use caption_fate::{Config, Counted, Decision, Retimed, Told, counted_by, refused};
-use caption_stamp::Time;
 
 // What a line tells, and the columns for the next one.
 #[derive(Clone, Copy)]
@@ -28,12 +27,28 @@ pub struct LineTold {
     pub columns: Columns,
 }
 
+// What a caption is put through: the segments of a map, by the groups of its numbers.
+#[derive(Clone, Copy)]
+struct Cut<'a> {
+    config: Config,
+    map: &'a [u64],
+    groups: &'a [u64],
+}
+
+// The parts of a caption line: the word, its fields, and the terminator.
+#[derive(Clone, Copy)]
+struct Parts<'a> {
+    word: &'a [u8],
+    rest: &'a [u8],
+    ending: &'a [u8],
+}
+
 // A line that stays as it is.
 fn stayed(text: &[u8], out: &mut [u8]) -> Told
     requires { 3 * length text.now ≤ length out.old }
     ensures { (result ≡ stayed_with (length text.now)) × (out.new ≡ put text.now out.old) }
 {
-    let written = base::bytes(out, text);
+    let written = base::put(out, text);
     Told {
         number: 0,
         counted: Counted::Nothing,
@@ -47,8 +62,8 @@ fn passing(number: u64, line: u64, text: &[u8], out: &mut [u8], warnings: &mut [
     requires { (3 * length text.now ≤ length out.old) × (4 ≤ length warnings.old) }
     ensures { Tells (answered (emit text.now (warning number line ∷ []) (decided passed))) result out.old out.new warnings.old warnings.new }
 {
-    let written = base::bytes(out, text);
-    let warned = base::pair_at(warnings, 0, number, line);
+    let written = base::put(out, text);
+    let warned = base::put_at(warnings, 0, &[number, line]);
     Told {
         number: 0,
         counted: Counted::Passed,
@@ -61,10 +76,18 @@ fn passing(number: u64, line: u64, text: &[u8], out: &mut [u8], warnings: &mut [
 fn tag_cut(cut: bool, rest: &[u8], columns: usize) -> bool
     ensures { result ≡ (cut && tagged (field_at columns (fields columns rest.now))) }
 {
-    if cut {
-        return has_tag(field(rest, columns, columns));
+    cut && has_tag(field(rest, columns, columns))
+}
+
+// A warning from the place `at` on, where there is one, and the place after it.
+fn warn_at(warns: bool, number: u64, at: usize, line: u64, warnings: &mut [u64]) -> usize
+    ensures { (result ≡ place_after at (places_of (warn_if warns number line)) warnings.old) × (warnings.new ≡ placed_at at (places_of (warn_if warns number line)) warnings.old) }
+{
+    if warns {
+        base::put_at(warnings, at, &[number, line])
+    } else {
+        at
     }
-    false
 }
 
 // Warning 3, and then warning 4.
@@ -72,17 +95,8 @@ fn warn(tag: bool, lost: bool, line: u64, warnings: &mut [u64]) -> usize
     requires { 4 ≤ length warnings.old }
     ensures { (result ≡ length (places_of (warn_if tag 3 line ++ warn_if lost 4 line))) × (warnings.new ≡ put (places_of (warn_if tag 3 line ++ warn_if lost 4 line)) warnings.old) }
 {
-    if tag {
-        let at = base::pair_at(warnings, 0, 3, line);
-        if lost {
-            return base::pair_at(warnings, at, 4, line);
-        }
-        return at;
-    }
-    if lost {
-        return base::pair_at(warnings, 0, 4, line);
-    }
-    0
+    let at = warn_at(tag, 3, 0, line, warnings);
+    warn_at(lost, 4, at, line, warnings)
 }
 
 // A caption that is kept.
@@ -92,25 +106,30 @@ fn keep(
     old: Times,
     r: Retimed,
     line: u64,
-    word: &[u8],
-    rest: &[u8],
-    ending: &[u8],
+    parts: Parts,
     out: &mut [u8],
     warnings: &mut [u64],
 ) -> Told
-    requires { (frame_most (line_frame columns word.now (fields columns.columns rest.now) ending.now) ≤ length out.old) × (4 ≤ length warnings.old) }
-    ensures { Tells (answered (kept_emit kind (line_cue columns line word.now (fields columns.columns rest.now) ending.now old.start old.start_mark old.stop old.stop_mark) r)) result out.old out.new warnings.old warnings.new }
+    requires { (frame_most (line_frame columns parts.word.now (fields columns.columns parts.rest.now) parts.ending.now) ≤ length out.old) × (4 ≤ length warnings.old) }
+    ensures { Tells (answered (kept_emit kind (line_cue columns line parts.entry.word.now (fields columns.columns parts.entry.rest.now) parts.entry.ending.now old.start old.start_mark old.stop old.stop_mark) r)) result out.old out.new warnings.old warnings.new }
 {
     let new = Times {
         start: r.start,
-        start_mark: old.start_mark,
         stop: r.stop,
-        stop_mark: old.stop_mark,
+        ..old
     };
     let lost = r.lost;
-    let tag = tag_cut(r.start_cut, rest, columns.columns);
+    let tag = tag_cut(r.start_cut, parts.rest, columns.columns);
     let counted = counted_by(r);
-    let written = write_kept(out, word, rest, columns, new, kind, ending);
+    let written = write_kept(
+        out,
+        parts.word,
+        parts.rest,
+        columns,
+        new,
+        kind,
+        parts.ending,
+    );
     let warned = warn(tag, lost, line, warnings);
     Told {
         number: 0,
@@ -122,23 +141,19 @@ fn keep(
 
 // A caption whose times are read.
 fn settle(
-    config: Config,
-    map: &[u64],
-    groups: &[u64],
+    cut: Cut,
     columns: Columns,
     old: Times,
     line: u64,
-    word: &[u8],
-    rest: &[u8],
-    ending: &[u8],
+    parts: Parts,
     out: &mut [u8],
     warnings: &mut [u64],
 ) -> Told
-    requires { (frame_most (line_frame columns word.now (fields columns.columns rest.now) ending.now) ≤ length out.old) × (4 ≤ length warnings.old) }
-    ensures { Tells (cue_in config.kind (line_cue columns line word.now (fields columns.columns rest.now) ending.now old.start old.start_mark old.stop old.stop_mark) (decide_in config (segments_by groups.now map.now) old.start old.stop)) result out.old out.new warnings.old warnings.new }
+    requires { (frame_most (line_frame columns parts.word.now (fields columns.columns parts.rest.now) parts.ending.now) ≤ length out.old) × (4 ≤ length warnings.old) }
+    ensures { Tells (cue_in cut.entry.config.kind (line_cue columns line parts.entry.word.now (fields columns.columns parts.entry.rest.now) parts.entry.ending.now old.start old.start_mark old.stop old.stop_mark) (decide_in cut.entry.config (segments_by cut.entry.groups.now cut.entry.map.now) old.start old.stop)) result out.old out.new warnings.old warnings.new }
 {
-    let kind = config.kind;
-    match caption_fate::decide(map, groups, config, old.start, old.stop) {
+    let config = cut.config;
+    match caption_fate::decide(cut.map, cut.groups, config, old.start, old.stop) {
         Decision::Strange => refused(15),
         Decision::Dropped => Told {
             number: 0,
@@ -146,17 +161,13 @@ fn settle(
             written: 0,
             warned: 0,
         },
-        Decision::Kept(r) => keep(
-            kind, columns, old, r, line, word, rest, ending, out, warnings,
-        ),
+        Decision::Kept(r) => keep(config.kind, columns, old, r, line, parts, out, warnings),
     }
 }
 
 // A caption with its fields, on line n: both times must read.
 fn timed(
-    config: Config,
-    map: &[u64],
-    groups: &[u64],
+    cut: Cut,
     columns: Columns,
     n: u64,
     text: &[u8],
@@ -166,34 +177,29 @@ fn timed(
     warnings: &mut [u64],
 ) -> Told
     requires { (3 * length text.now ≤ length out.old) × ((4 ≤ length warnings.old) × ((1 ≤ length word.now) × (length word.now + length rest.now + length (terminator_of text.now) ≤ length text.now))) }
-    ensures { Tells (line_answer_in config (segments_by groups.now map.now) (times_say columns n word.now (fields columns.columns rest.now) (terminator_of text.now) (time_in 0 (field_at columns.start (fields columns.columns rest.now))) (time_in 0 (field_at columns.«end» (fields columns.columns rest.now))))) result out.old out.new warnings.old warnings.new }
+    ensures { Tells (line_answer_in cut.entry.config (segments_by cut.entry.groups.now cut.entry.map.now) (times_say columns n word.now (fields columns.columns rest.now) (terminator_of text.now) (time_in 0 (field_at columns.start (fields columns.columns rest.now))) (time_in 0 (field_at columns.«end» (fields columns.columns rest.now))))) result out.old out.new warnings.old warnings.new }
 {
     let count = columns.columns;
-    let Time::At(start, start_mark) = caption_stamp::read_time(field(rest, count, columns.start), 0)
-    else {
+    let Some(start) = caption_stamp::read_time(field(rest, count, columns.start), 0) else {
         return refused(22);
     };
-    let Time::At(stop, stop_mark) = caption_stamp::read_time(field(rest, count, columns.end), 0)
-    else {
+    let Some(stop) = caption_stamp::read_time(field(rest, count, columns.end), 0) else {
         return refused(22);
     };
     let old = Times {
-        start,
-        start_mark,
-        stop,
-        stop_mark,
+        start: start.units,
+        start_mark: start.mark,
+        stop: stop.units,
+        stop_mark: stop.mark,
     };
-    let end = text::terminator_of(text);
-    settle(
-        config, map, groups, columns, old, n, word, rest, end, out, warnings,
-    )
+    let ending = text::terminator_of(text);
+    let parts = Parts { word, rest, ending };
+    settle(cut, columns, old, n, parts, out, warnings)
 }
 
 // A caption line that begins with `word`.
 fn caption(
-    config: Config,
-    map: &[u64],
-    groups: &[u64],
+    cut: Cut,
     columns: Columns,
     line: u64,
     text: &[u8],
@@ -202,28 +208,22 @@ fn caption(
     warnings: &mut [u64],
 ) -> Told
     requires { (3 * length text.now ≤ length out.old) × ((4 ≤ length warnings.old) × ((1 ≤ length word.now) × (length word.now ≤ length (text_of text.now)))) }
-    ensures { Tells (line_answer_in config (segments_by groups.now map.now) (caption_says columns line text.now word.now (drop (length word.now) (text_of text.now)))) result out.old out.new warnings.old warnings.new }
+    ensures { Tells (line_answer_in cut.entry.config (segments_by cut.entry.groups.now cut.entry.map.now) (caption_says columns line text.now word.now (drop (length word.now) (text_of text.now)))) result out.old out.new warnings.old warnings.new }
 {
-    if columns.start == 0 {
-        return passing(1, line, text, out, warnings);
-    }
-    if columns.end == 0 {
+    if columns.start == 0 || columns.end == 0 {
         return passing(1, line, text, out, warnings);
     }
     let rest = base::rest(text::text_of(text), word.len());
     if enough(rest, columns.columns) {
-        return timed(
-            config, map, groups, columns, line, text, word, rest, out, warnings,
-        );
+        timed(cut, columns, line, text, word, rest, out, warnings)
+    } else {
+        passing(2, line, text, out, warnings)
     }
-    passing(2, line, text, out, warnings)
 }
 
 // A line in Events.
 fn event_line(
-    config: Config,
-    map: &[u64],
-    groups: &[u64],
+    cut: Cut,
     columns: Columns,
     n: u32,
     text: &[u8],
@@ -231,46 +231,22 @@ fn event_line(
     warnings: &mut [u64],
 ) -> LineTold
     requires { (3 * length text.now ≤ length out.old) × (4 ≤ length warnings.old) }
-    ensures told { Tells (line_answer_in config (segments_by groups.now map.now) (word_says columns n text.now (text_of text.now))) result.told out.old out.new warnings.old warnings.new }
+    ensures told { Tells (line_answer_in cut.entry.config (segments_by cut.entry.groups.now cut.entry.map.now) (word_says columns n text.now (text_of text.now))) result.told out.old out.new warnings.old warnings.new }
     ensures columns { result.columns ≡ columns_after columns (word_says columns n text.now (text_of text.now)) }
 {
-    let at = n as u64 + 1;
+    let at = u64::from(n) + 1;
     let t = text::text_of(text);
     if pattern::starts_with(t, b"Format:") {
         let told = stayed(text, out);
-        let format = columns_of(base::rest(t, 7));
-        let next = format.columns;
-        return LineTold {
-            told,
-            columns: next,
-        };
+        let columns = columns_of(base::rest(t, 7)).columns;
+        return LineTold { told, columns };
     }
     if pattern::starts_with(t, b"Dialogue:") {
-        let told = caption(
-            config,
-            map,
-            groups,
-            columns,
-            at,
-            text,
-            b"Dialogue:",
-            out,
-            warnings,
-        );
+        let told = caption(cut, columns, at, text, b"Dialogue:", out, warnings);
         return LineTold { told, columns };
     }
     if pattern::starts_with(t, b"Comment:") {
-        let told = caption(
-            config,
-            map,
-            groups,
-            columns,
-            at,
-            text,
-            b"Comment:",
-            out,
-            warnings,
-        );
+        let told = caption(cut, columns, at, text, b"Comment:", out, warnings);
         return LineTold { told, columns };
     }
     let told = stayed(text, out);
@@ -281,10 +257,7 @@ fn event_line(
 fn trims_to_section(s: &[u8]) -> bool
     ensures { result ≡ bracketed (trim_tail s.now) }
 {
-    if base::byte(s, 0) != b'[' {
-        return false;
-    }
-    is_section(whitespace::trim_tail(s))
+    base::get_or(s, 0, 0) == b'[' && is_section(whitespace::trim_tail(s))
 }
 
 // What becomes of a line: `text` is the line with its terminator and without a BOM, and `n` lines came before it.
@@ -301,26 +274,23 @@ pub fn line(
     ensures told { Tells (line_in config (segments_by groups.now map.now) columns n text.now (length out.old) (length warnings.old)) result.told out.old out.new warnings.old warnings.new }
     ensures columns { result.columns ≡ columns_next columns n text.now (length out.old) (length warnings.old) }
 {
-    if out.len() / 3 < text.len() {
-        let told = refused(16);
-        return LineTold { told, columns };
-    }
-    if warnings.len() < 4 {
+    if out.len() / 3 < text.len() || warnings.len() < 4 {
         let told = refused(16);
         return LineTold { told, columns };
     }
     let s = whitespace::trim_head(text::text_of(text));
     if trims_to_section(s) {
-        let t = whitespace::trim_tail(s);
-        let next = in_section(names_events(t), columns);
+        let columns = in_section(names_events(whitespace::trim_tail(s)), columns);
         let told = stayed(text, out);
-        return LineTold {
-            told,
-            columns: next,
-        };
+        return LineTold { told, columns };
     }
     if columns.events {
-        return event_line(config, map, groups, columns, n, text, out, warnings);
+        let cut = Cut {
+            config,
+            map,
+            groups,
+        };
+        return event_line(cut, columns, n, text, out, warnings);
     }
     let told = stayed(text, out);
     LineTold { told, columns }

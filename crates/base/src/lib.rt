@@ -6,12 +6,12 @@ mod limits;
 mod part;
 mod write;
 
-pub use amount::{larger, left_in, minus, smaller};
+pub use amount::left_in;
 pub use limits::{
     LEAST_OUTPUT, LEAST_PLACES, MOST_BLOCK, MOST_COLUMNS, MOST_FRAME, MOST_FRAMES, MOST_HELD,
     MOST_HOURS, MOST_LINE, MOST_LIST_BYTES, MOST_MINUTES, MOST_PIECE, MOST_PLACES, MOST_SECONDS,
     MOST_SEGMENTS, MOST_SHEET_TIMESCALE, MOST_TAKEN, MOST_TICKS, MOST_TIMESCALE, MOST_TRIMS,
     MOST_UNITS, MOST_WORK,
 };
-pub use part::{byte, front, last_part, less, rest, word, words_front, words_rest};
-pub use write::{bytes, bytes_at, clear, pair_at, words};
+pub use part::{front, get_or, last_part, rest};
+pub use write::{put, put_at};

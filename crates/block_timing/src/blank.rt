@@ -6,11 +6,9 @@ ghost use Rattle.spec_cue.specs.block_timing.Style.{blank_in};
 pub fn is_blank_in(kind: u32, line: &[u8]) -> bool
     ensures { result ≡ blank_in kind line.now }
 {
-    if kind == 1 {
-        return text::is_blank(line);
+    match kind {
+        1 => text::is_blank(line),
+        2 => text::text_of(line).is_empty(),
+        _ => false,
     }
-    if kind == 2 {
-        return text::text_of(line).len() == 0;
-    }
-    false
 }

@@ -7,13 +7,7 @@ ghost use Rattle.spec_cue.specs.block_timing.Header.{parts_word, is_header, head
 fn parts_word(s: &[u8]) -> bool
     ensures { result ≡ parts_word s.now }
 {
-    if s.len() == 0 {
-        return true;
-    }
-    if s[0] == 32 {
-        return true;
-    }
-    s[0] == 9
+    matches!(s, [] | [b' ' | b'\t', ..])
 }
 
 // Whether a line, with its terminator and without a BOM, is a header.
@@ -21,21 +15,12 @@ pub fn is_header(line: &[u8]) -> bool
     ensures { result ≡ is_header line.now }
 {
     let t = text::text_of(line);
-    if pattern::starts_with(t, b"WEBVTT") {
-        return parts_word(base::rest(t, 6));
-    }
-    false
+    pattern::starts_with(t, b"WEBVTT") && parts_word(base::rest(t, 6))
 }
 
 // Whether a header is due: no line has ended, and the open block has no bytes.
 pub fn header_due(kind: u32, n: u32, block: &[u8]) -> bool
     ensures { result ≡ header_due kind n (lines_of block.now) }
 {
-    if kind != 2 {
-        return false;
-    }
-    if n != 0 {
-        return false;
-    }
-    block.len() == 0
+    kind == 2 && n == 0 && block.is_empty()
 }

@@ -6,22 +6,18 @@ ghost use Rattle.spec_cue.specs.block_timing.Style.{stamp_head, stamp_in, stamps
 fn stamp_head(s: &[u8]) -> bool
     ensures { result ≡ stamp_head s.now }
 {
-    if base::byte(s, 0) == 60 {
-        return text::is_digit(base::byte(s, 1));
-    }
-    false
+    matches!(s, [b'<', b'0'..=b'9', ..])
 }
 
 // Whether they stand anywhere.
+// Kept: (4) `has_tag` of ass_write is alike in shape alone: a search for another thing.
 fn stamp_in(s: &[u8]) -> bool
     ensures { result ≡ stamp_in s.now }
 {
-    let mut i = 0;
-    while i < s.len() {
+    for i in 0..s.len() {
         if stamp_head(base::rest(s, i)) {
             return true;
         }
-        i += 1;
     }
     false
 }
@@ -30,8 +26,5 @@ fn stamp_in(s: &[u8]) -> bool
 pub fn stamps_in(kind: u32, after: &[u8]) -> bool
     ensures { result ≡ stamps_in kind after.now }
 {
-    if kind == 2 {
-        return stamp_in(after);
-    }
-    false
+    kind == 2 && stamp_in(after)
 }

@@ -13,7 +13,7 @@ fn two<W: Write>(to: &mut W, kind: u32, text: &[u8]) -> io::Result<()>
     let mut told = [7u64; 3];
     let number = c_api::retimer_cues(kind, text, &mut rows, &mut told);
     let row = [
-        number as u64,
+        u64::from(number),
         told[0],
         told[1],
         told[2],
@@ -42,7 +42,7 @@ fn short<W: Write>(to: &mut W, text: &[u8]) -> io::Result<()>
     let mut rows = [7u64; 5];
     let mut told = [7u64; 2];
     let number = c_api::retimer_cues(1, text, &mut rows, &mut told);
-    print_line(to, b"cues", &[number as u64, told[0], told[1], rows[0]])?;
+    print_line(to, b"cues", &[u64::from(number), told[0], told[1], rows[0]])?;
     Ok(())
 }
 

@@ -16,9 +16,13 @@ fn open<W: Write>(
     ensures grows { Grows (W.contents to.old) (W.contents to.new) }
 {
     let number = c_api::retimer_open(kind, timescale, map, session);
-    let first = base::byte(session, 0);
-    let last = base::byte(session, 9212);
-    print_line(to, b"open", &[number as u64, first as u64, last as u64])?;
+    let first = base::get_or(session, 0, 0);
+    let last = base::get_or(session, 9212, 0);
+    print_line(
+        to,
+        b"open",
+        &[u64::from(number), u64::from(first), u64::from(last)],
+    )?;
     Ok(())
 }
 
@@ -33,9 +37,13 @@ fn told<W: Write>(
 ) -> io::Result<()>
     ensures grows { Grows (W.contents to.old) (W.contents to.new) }
 {
-    let kind = base::word(warnings, 0);
-    let line = base::word(warnings, 1);
-    print_line(to, b"call", &[number as u64, written, warned, kind, line])?;
+    let kind = base::get_or(warnings, 0, 0);
+    let line = base::get_or(warnings, 1, 0);
+    print_line(
+        to,
+        b"call",
+        &[u64::from(number), written, warned, kind, line],
+    )?;
     streams::write_text(to, base::front(out, written as usize))?;
     streams::write_text(to, b"\n")
 }

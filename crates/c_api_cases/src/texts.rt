@@ -8,6 +8,7 @@ use std::io::Write;
 fn text<W: Write>(to: &mut W, kind: u32, map: &[u64], text: &[u8]) -> io::Result<()>
     ensures grows { Grows (W.contents to.old) (W.contents to.new) }
 {
+    // Kept: (1) no heap: the memory is fixed.
     let mut out = [0u8; 33473];
     let mut warnings = [0u64; 4174];
     let mut told = [0u64; 7];
@@ -16,7 +17,7 @@ fn text<W: Write>(to: &mut W, kind: u32, map: &[u64], text: &[u8]) -> io::Result
         to,
         b"text",
         &[
-            number as u64,
+            u64::from(number),
             told[0],
             told[1],
             told[2],
@@ -47,6 +48,7 @@ fn text<W: Write>(to: &mut W, kind: u32, map: &[u64], text: &[u8]) -> io::Result
 fn short<W: Write>(to: &mut W, map: &[u64], text: &[u8]) -> io::Result<()>
     ensures grows { Grows (W.contents to.old) (W.contents to.new) }
 {
+    // Kept: (1) no heap: the memory is fixed.
     let mut out = [0u8; 33473];
     let mut warnings = [0u64; 4174];
     let mut told = [7u64; 6];
@@ -55,7 +57,7 @@ fn short<W: Write>(to: &mut W, map: &[u64], text: &[u8]) -> io::Result<()>
         to,
         b"text",
         &[
-            number as u64,
+            u64::from(number),
             told[0],
             told[1],
             told[2],

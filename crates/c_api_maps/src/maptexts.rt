@@ -5,14 +5,6 @@ use number_lines::print_line;
 use std::io;
 use std::io::Write;
 
-fn small(n: u8) -> u64 {
-    n as u64
-}
-
-fn wide(n: u32) -> u64 {
-    n as u64
-}
-
 // The four numbers go to `row`.
 fn read_into(
     text: &[u8],
@@ -61,16 +53,16 @@ fn read<W: Write>(to: &mut W, text: &[u8]) -> io::Result<()>
         &mut path_length,
     );
     let line = [
-        number as u64,
-        wide(row[0]),
-        wide(row[1]),
-        wide(row[2]),
-        wide(row[3]),
+        u64::from(number),
+        u64::from(row[0]),
+        u64::from(row[1]),
+        u64::from(row[2]),
+        u64::from(row[3]),
         numbers,
         path_length,
-        small(path[0]),
-        small(path[1]),
-        small(path[2]),
+        u64::from(path[0]),
+        u64::from(path[1]),
+        u64::from(path[2]),
         map[0],
         map[1],
         map[2],
@@ -103,7 +95,7 @@ fn read_short<W: Write>(to: &mut W, text: &[u8]) -> io::Result<()>
     print_line(
         to,
         b"short",
-        &[number as u64, map[0], small(path[0]), numbers],
+        &[u64::from(number), map[0], u64::from(path[0]), numbers],
     )?;
     Ok(())
 }
@@ -127,7 +119,7 @@ fn path_short<W: Write>(to: &mut W, text: &[u8]) -> io::Result<()>
     print_line(
         to,
         b"short",
-        &[number as u64, map[0], small(path[0]), path_length],
+        &[u64::from(number), map[0], u64::from(path[0]), path_length],
     )?;
     Ok(())
 }
@@ -136,6 +128,7 @@ pub fn show<W: Write>(to: &mut W) -> io::Result<()>
     ensures grows { Grows (W.contents to.old) (W.contents to.new) }
 {
     let map = [3u64, 6, 3003, 3, 0, 3003];
+    // Kept: (1) no heap: the memory is fixed.
     let mut text = [0u8; 400];
     let mut written: u64 = 91;
     let number = c_api::retimer_map_write(
@@ -148,7 +141,7 @@ pub fn show<W: Write>(to: &mut W) -> io::Result<()>
         &mut text,
         &mut written,
     );
-    print_line(to, b"write", &[number as u64, written])?;
+    print_line(to, b"write", &[u64::from(number), written])?;
     let n = written as usize;
     streams::write_text(to, base::front(&text, n))?;
     read(to, base::front(&text, n))?;
@@ -165,6 +158,6 @@ pub fn show<W: Write>(to: &mut W) -> io::Result<()>
         &mut [0u8; 9],
         &mut written,
     );
-    print_line(to, b"write", &[few as u64, written])?;
+    print_line(to, b"write", &[u64::from(few), written])?;
     Ok(())
 }

@@ -11,7 +11,7 @@ pub fn ticks<W: Write>(to: &mut W, value: u64, timescale: u32, kind: u32) -> io:
 {
     let number = c_api::retimer_units_number(value, timescale, kind);
     let ticks = c_api::retimer_units_to_ticks(value, timescale, kind);
-    print_line(to, b"ticks", &[number as u64, ticks])?;
+    print_line(to, b"ticks", &[u64::from(number), ticks])?;
     Ok(())
 }
 
@@ -22,6 +22,6 @@ pub fn units<W: Write>(to: &mut W, value: u64, timescale: u32, kind: u32) -> io:
     let number = c_api::retimer_ticks_number(value, timescale, kind);
     let down = c_api::retimer_ticks_to_units_floor(value, timescale, kind);
     let up = c_api::retimer_ticks_to_units_ceil(value, timescale, kind);
-    print_line(to, b"units", &[number as u64, down, up])?;
+    print_line(to, b"units", &[u64::from(number), down, up])?;
     Ok(())
 }

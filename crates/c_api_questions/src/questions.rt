@@ -30,7 +30,7 @@ pub fn why<W: Write>(to: &mut W, map: &[u64], start: u64, stop: u64) -> io::Resu
         to,
         b"why",
         &[
-            number as u64,
+            u64::from(number),
             fate,
             place,
             start_cut,
@@ -65,7 +65,11 @@ pub fn census<W: Write>(
         &mut clipped,
         &mut dropped,
     );
-    print_line(to, b"census", &[number as u64, shifted, clipped, dropped])?;
+    print_line(
+        to,
+        b"census",
+        &[u64::from(number), shifted, clipped, dropped],
+    )?;
     Ok(())
 }
 
@@ -73,19 +77,12 @@ pub fn census<W: Write>(
 fn print_delay<W: Write>(to: &mut W, delay: i64, numbers: &[u64]) -> io::Result<()>
     ensures grows { Grows (W.contents to.old) (W.contents to.new) }
 {
-    if delay == -6 {
-        print_line(to, b" -6", numbers)?;
-        return Ok(());
-    }
-    if delay == 0 {
-        print_line(to, b" 0", numbers)?;
-        return Ok(());
-    }
-    if delay == 91 {
-        print_line(to, b" 91", numbers)?;
-        return Ok(());
-    }
-    print_line(to, b" another", numbers)?;
+    match delay {
+        -6 => print_line(to, b" -6", numbers)?,
+        0 => print_line(to, b" 0", numbers)?,
+        91 => print_line(to, b" 91", numbers)?,
+        _ => print_line(to, b" another", numbers)?,
+    };
     Ok(())
 }
 
@@ -101,8 +98,12 @@ pub fn delay<W: Write>(to: &mut W, map: &[u64], captions: &[u64], budget: u32) -
         map, 30000, 0, captions, budget, &mut delay, &mut loss, &mut tried, &mut off,
     );
     streams::write_text(to, b"delay ")?;
-    streams::write_number(to, number as u64)?;
-    print_delay(to, delay, &[loss as u64, tried as u64, off as u64])
+    streams::write_number(to, u64::from(number))?;
+    print_delay(
+        to,
+        delay,
+        &[u64::from(loss), u64::from(tried), u64::from(off)],
+    )
 }
 
 // A start and an end known between two ticks each: number and judgement.
@@ -125,6 +126,6 @@ pub fn rough<W: Write>(
         end_high,
         &mut judgement,
     );
-    print_line(to, b"rough", &[number as u64, judgement])?;
+    print_line(to, b"rough", &[u64::from(number), judgement])?;
     Ok(())
 }

@@ -5,47 +5,33 @@ use number_lines::print_line;
 use std::io;
 use std::io::Write;
 
-fn small(n: u8) -> u64 {
-    n as u64
-}
-
 // A word, low byte first, at the place `at`.
-fn word_at(sheet: &mut [u8], at: usize, a: u8, b: u8, c: u8, d: u8) {
-    base::bytes_at(sheet, at, &[a, b, c, d]);
+fn word_at(sheet: &mut [u8], at: usize, word: u32) {
+    base::put_at(sheet, at, &word.to_le_bytes());
 }
 
-// Record i: its first word's low and high byte, and the duration 1001.
-fn record(sheet: &mut [u8], i: u8, high: u8) {
+// Record i: its decode index, with the top bit at a sync frame, and the duration 1001.
+fn record(sheet: &mut [u8], i: u8, sync: bool) {
     let at = 516 + 8 * (i as usize);
-    word_at(sheet, at, i, 0, 0, high);
-    word_at(sheet, at + 4, 233, 3, 0, 0);
+    let top = if sync { 2147483648 } else { 0 };
+    word_at(sheet, at, top + u32::from(i));
+    word_at(sheet, at + 4, 1001);
 }
 
-fn first_records(sheet: &mut [u8]) {
-    record(sheet, 0, 128);
-    record(sheet, 1, 0);
-    record(sheet, 2, 0);
-    record(sheet, 3, 128);
-    record(sheet, 4, 0);
-}
-
-fn last_records(sheet: &mut [u8]) {
-    record(sheet, 5, 0);
-    record(sheet, 6, 128);
-    record(sheet, 7, 0);
-    record(sheet, 8, 0);
-    record(sheet, 9, 0);
+fn records(sheet: &mut [u8]) {
+    for i in 0..10u8 {
+        record(sheet, i, matches!(i, 0 | 3 | 6));
+    }
 }
 
 // Block 0 sums to 30010; block 1 to 1 + 45 + 3 * 2^31 + 10 * 1001 = 2147493704, wrapped at 2^32.
 fn fill(sheet: &mut [u8]) {
-    word_at(sheet, 4, 48, 117, 0, 0);
-    word_at(sheet, 8, 10, 0, 0, 0);
-    word_at(sheet, 508, 58, 117, 0, 0);
-    word_at(sheet, 512, 1, 0, 0, 0);
-    first_records(sheet);
-    last_records(sheet);
-    word_at(sheet, 1020, 72, 39, 0, 128);
+    word_at(sheet, 4, 30000);
+    word_at(sheet, 8, 10);
+    word_at(sheet, 508, 30010);
+    word_at(sheet, 512, 1);
+    records(sheet);
+    word_at(sheet, 1020, 2147493704);
 }
 
 fn show_map<W: Write>(to: &mut W, sheet: &[u8], list: &[u8], direction: u32) -> io::Result<()>
@@ -68,11 +54,11 @@ fn show_map<W: Write>(to: &mut W, sheet: &[u8], list: &[u8], direction: u32) -> 
         to,
         b"map",
         &[
-            number as u64,
-            timescale as u64,
+            u64::from(number),
+            u64::from(timescale),
             count,
-            small(work[1]),
-            small(work[2]),
+            u64::from(work[1]),
+            u64::from(work[2]),
         ],
     )?;
     print_line(
@@ -91,6 +77,7 @@ fn show_map<W: Write>(to: &mut W, sheet: &[u8], list: &[u8], direction: u32) -> 
 pub fn show<W: Write>(to: &mut W) -> io::Result<()>
     ensures grows { Grows (W.contents to.old) (W.contents to.new) }
 {
+    // Kept: (1) no heap: the memory is fixed.
     let mut sheet = [0u8; 1024];
     fill(&mut sheet);
     let mut work = [7u8; 3];
@@ -98,11 +85,11 @@ pub fn show<W: Write>(to: &mut W) -> io::Result<()>
     print_line(
         to,
         b"sheet",
-        &[number as u64, small(work[1]), small(work[2])],
+        &[u64::from(number), u64::from(work[1]), u64::from(work[2])],
     )?;
     let good = c_api::retimer_list_check(b"Trim(0,2) ++ Trim(6,8)");
     let bad = c_api::retimer_list_check(b"Trim(2,0)");
-    print_line(to, b"list", &[good as u64, bad as u64])?;
+    print_line(to, b"list", &[u64::from(good), u64::from(bad)])?;
     show_map(to, &sheet, b"Trim(0,2) ++ Trim(6,8)", 0)?;
     show_map(to, &sheet, b"Trim(2,0)", 0)?;
     show_map(to, &sheet, b"", 2)

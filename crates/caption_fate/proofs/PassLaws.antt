@@ -1,11 +1,11 @@
 -- Laws of the segments that a search passes over.
 use mathlib.Core.Path.{◌≡◌, refl, sym, ap, ◌∙◌}
-use mathlib.Core.Bool.{Bool, true, false, not, cond}
+use mathlib.Core.Bool.{Bool, true, false, cond}
 use mathlib.Core.List.{List}
 use Prim.Native.Nat.{ℕ, suc, ◌+◌, ◌*◌, ◌-◌, ◌≤◌, ◌<◌}
 use native.Mathlib.Omega.{arith}
 use native.Mathlib.Numerals.{add-one}
-use borrow.Author.Tests.{le-ltb, leb-true, leb-false, le-leb, lt-leb}
+use borrow.Author.Tests.{le-ltb, leb-true}
 use lib.Dec.{ltb, leb}
 use lib.ListN.{length, drop, get_or, length-drop}
 use lib.Seq.{drop-drop, get_or-drop}
@@ -16,48 +16,6 @@ use Rattle.caption_fate.specs.Passing.{four_ended, Passed}
 use Rattle.spec_caption.proofs.caption_fate.HitLaws.{head_of, find_cut}
 
 -- ---- segments that end at or before a are passed over
-pub ended_no : (q d a : ℕ) → a < q → false ≡ leb (q + d) a
-ended_no q d a h = sym (lt-leb (q + d) a (omega arith))
-
-pub ended_yes : (q d a : ℕ) → q ≤ a → leb d (a - q) ≡ leb (q + d) a
-ended_yes q d a h = go (leb d (a - q)) refl
-  where
-    go : (t : Bool) → leb d (a - q) ≡ t → t ≡ leb (q + d) a
-    go true e = sym (le-leb (q + d) a (omega (arith, h, leb-true d (a - q) e)))
-    go false e = sym (lt-leb (q + d) a (omega (arith, h, leb-false d (a - q) e)))
-
-not_yes : (x : Bool) → not x ≡ true → x ≡ false
-not_yes true e = sym e
-not_yes false e = refl
-
-not_no : (x : Bool) → not x ≡ false → x ≡ true
-not_no true e = refl
-not_no false e = sym e
-
-module _ (t : List ℕ) (a : ℕ) where
-  pub four_0 : length t < 24 → false ≡ four_ended t a
-  unfolding four_ended
-  four_0 h = rw (lt-leb 24 (length t) h)
-
-  module _ (l : 24 ≤ length t) (x : Bool) (f : x ≡ leb (get_or t 2 0 + get_or t 5 0) a) where
-    pub four_1 : not x ≡ true → false ≡ four_ended t a
-    unfolding four_ended
-    four_1 p = rw (le-leb 24 (length t) l, sym f, not_yes x p)
-
-    module _ (p : not x ≡ false) (y : Bool) (g : y ≡ leb (get_or t 8 0 + get_or t 11 0) a) where
-      pub four_2 : not y ≡ true → false ≡ four_ended t a
-      unfolding four_ended
-      four_2 q = rw (le-leb 24 (length t) l, sym f, not_no x p, sym g, not_yes y q)
-
-      module _ (q : not y ≡ false) (z : Bool) (h : z ≡ leb (get_or t 14 0 + get_or t 17 0) a) where
-        pub four_3 : not z ≡ true → false ≡ four_ended t a
-        unfolding four_ended
-        four_3 r = rw (le-leb 24 (length t) l, sym f, not_no x p, sym g, not_no y q, sym h, not_yes z r)
-
-        pub four_4 : (v : Bool) → not z ≡ false → v ≡ leb (get_or t 20 0 + get_or t 23 0) a → v ≡ four_ended t a
-        unfolding four_ended
-        four_4 v r k = rw (le-leb 24 (length t) l, sym f, not_no x p, sym g, not_no y q, sym h, not_no z r) k
-
 record FourEnded (t : List ℕ) (a : ℕ) : Type 0 where
   pub long : 24 ≤ length t
   pub first : get_or t 2 0 + get_or t 5 0 ≤ a

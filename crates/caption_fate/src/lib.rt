@@ -3,10 +3,9 @@
 
 mod meeting;
 mod retiming;
-mod setting;
 mod telling;
 
-pub use meeting::{find_hit, meets};
+pub use meeting::{ended, find_hit, meets};
 pub use retiming::decide;
-pub use spec_caption::caption_fate::{Config, Counted, Decision, Hit, Met, Retimed, Told};
+pub use spec_caption::caption_fate::{Config, Counted, Decision, Met, Retimed, Told};
 pub use telling::{counted_by, refused};

@@ -7,16 +7,13 @@ ghost use Rattle.spec_caption.specs.caption_fate.Grouped.{bounded_by, segments_b
 ghost use Rattle.spec_caption.specs.caption_fate.Lost.{lost_rule};
 ghost use Rattle.spec_caption.specs.caption_fate.Decide.{retimed_by, decide_in};
 
-use spec_caption::caption_fate::{Config, Decision, Hit, Met, Retimed};
+use spec_caption::caption_fate::{Config, Decision, Met, Retimed};
 
 // Whether one of the segments meets the ticks a to b: the part-lost rule of those behind the one that is hit.
 fn lost_rule(behind: &[u64], a: u64, b: u64) -> bool
     ensures { result ≡ lost_rule (segments_of behind.now) a b }
 {
-    match crate::meeting::find_hit(behind, a, b) {
-        Hit::Miss => false,
-        Hit::At(_) => true,
-    }
+    crate::meeting::find_hit(behind, a, b).is_some()
 }
 
 // The same of the segments behind the place, with the bounds of their groups or without bounds.
@@ -24,10 +21,11 @@ fn lost_behind(map: &[u64], groups: &[u64], place: usize, a: u64, b: u64) -> boo
     requires { 6 * place + 6 ≤ length map.now }
     ensures { result ≡ lost_rule (bounded_by groups.now (place + 1) (segments_of (drop (6 * place + 6) map.now))) a b }
 {
-    if groups.len() == 0 {
-        return lost_rule(base::words_rest(map, 6 * place + 6), a, b);
+    if groups.is_empty() {
+        lost_rule(&map[6 * place + 6..], a, b)
+    } else {
+        crate::meeting::met_behind(map, groups, place, a, b)
     }
-    crate::meeting::met_behind(map, groups, place, a, b)
 }
 
 // The end was cut, and a part of the caption was lost by it: `place` is that of the segment that was hit.
@@ -35,10 +33,7 @@ fn lost_part(cut: bool, map: &[u64], groups: &[u64], place: usize, a: u64, b: u6
     requires { 6 * place + 6 ≤ length map.now }
     ensures { result ≡ (cut && lost_rule (bounded_by groups.now (place + 1) (segments_of (drop (6 * place + 6) map.now))) a b) }
 {
-    if cut {
-        return lost_behind(map, groups, place, a, b);
-    }
-    false
+    cut && lost_behind(map, groups, place, a, b)
 }
 
 // A caption of ticks a to b that the segment x meets, within the limits.
@@ -50,19 +45,15 @@ fn retime(x: Met, map: &[u64], groups: &[u64], config: Config, a: u64, b: u64) -
     let source = x.source;
     let output = x.output;
     let last = source + x.duration;
-    let from = output + (base::larger(a, source) - source);
-    let to = output + (base::smaller(b, last) - source);
-    let start = caption_time::core_start(from, config.timescale, config.kind);
-    let stop = caption_time::core_end(to, config.timescale, config.kind);
-    let start_cut = a < source;
+    let from = output + (a.max(source) - source);
+    let to = output + (b.min(last) - source);
     let end_cut = last < b;
-    let lost = lost_part(end_cut, map, groups, x.place, a, b);
     Retimed {
-        start,
-        stop,
-        start_cut,
+        start: caption_time::core_start(from, config.timescale, config.kind),
+        stop: caption_time::core_end(to, config.timescale, config.kind),
+        start_cut: a < source,
         end_cut,
-        lost,
+        lost: lost_part(end_cut, map, groups, x.place, a, b),
     }
 }
 
@@ -73,16 +64,12 @@ pub fn decide(map: &[u64], groups: &[u64], config: Config, s: u64, e: u64) -> De
     let from = caption_time::core_ticks(s, config.timescale, config.kind);
     let to = caption_time::core_ticks(e, config.timescale, config.kind);
     match crate::meeting::find_by(map, groups, from, to) {
-        Hit::Miss => Decision::Dropped,
-        Hit::At(x) => {
-            if segment::end_bad(x.source, x.duration) {
+        None => Decision::Dropped,
+        Some(x) => {
+            if segment::end_bad(x.source, x.duration) || segment::end_bad(x.output, x.duration) {
                 return Decision::Strange;
             }
-            if segment::end_bad(x.output, x.duration) {
-                return Decision::Strange;
-            }
-            let r = retime(x, map, groups, config, from, to);
-            Decision::Kept(r)
+            Decision::Kept(retime(x, map, groups, config, from, to))
         }
     }
 }

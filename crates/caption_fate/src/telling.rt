@@ -22,11 +22,9 @@ pub fn refused(number: u32) -> Told
 pub fn counted_by(r: Retimed) -> Counted
     ensures { result ≡ counted_of (decided (fate_for r)) }
 {
-    if r.start_cut {
-        return Counted::Clipped;
+    if r.start_cut || r.end_cut {
+        Counted::Clipped
+    } else {
+        Counted::Shifted
     }
-    if r.end_cut {
-        return Counted::Clipped;
-    }
-    Counted::Shifted
 }

@@ -7,9 +7,9 @@ ghost use Rattle.spec_ass.specs.ass_line.Line.{times_say, caption_says, word_say
 ghost use Rattle.spec_ass.specs.ass_line.AssThrough.{columns_after};
 ghost use Rattle.spec_rows.specs.caption_rows.Said.{caption_said, line_said, last_words};
 
-use crate::said::without;
+use crate::said::{nothing, without};
 use ass_columns::{Columns, columns_of, enough, field, in_section, is_section, names_events};
-use caption_stamp::Time;
+use refusals::Refusal;
 use spec_rows::caption_rows::Said;
 
 // What a line gives, and the columns for the next one.
@@ -39,13 +39,11 @@ fn passing(number: u64, line: u64, at: usize, size: usize) -> Said
 fn words_length(columns: Columns, rest: &[u8]) -> usize
     ensures { result ≡ last_words columns (fields columns.columns rest.now) }
 {
-    if columns.columns == columns.end {
-        return 0;
+    if columns.columns == columns.end || columns.columns == columns.start {
+        0
+    } else {
+        field(rest, columns.columns, columns.columns).len()
     }
-    if columns.columns == columns.start {
-        return 0;
-    }
-    field(rest, columns.columns, columns.columns).len()
 }
 
 // A caption with its fields: `rest` stands behind its word; its line begins at `from` and has `size` bytes without the terminator.
@@ -54,13 +52,11 @@ fn timed(columns: Columns, line: u64, from: usize, size: usize, rest: &[u8]) -> 
     ensures { result ≡ line_said line from size (times_say columns line [] (fields columns.columns rest.now) [] (time_in 0 (field_at columns.start (fields columns.columns rest.now))) (time_in 0 (field_at columns.«end» (fields columns.columns rest.now)))) }
 {
     let count = columns.columns;
-    let Time::At(start, start_mark) = caption_stamp::read_time(field(rest, count, columns.start), 0)
-    else {
-        return without(22, line);
+    let Some(start) = caption_stamp::read_time(field(rest, count, columns.start), 0) else {
+        return without(Refusal::BadTime, line);
     };
-    let Time::At(stop, stop_mark) = caption_stamp::read_time(field(rest, count, columns.end), 0)
-    else {
-        return without(22, line);
+    let Some(stop) = caption_stamp::read_time(field(rest, count, columns.end), 0) else {
+        return without(Refusal::BadTime, line);
     };
     let words = words_length(columns, rest);
     Said {
@@ -68,9 +64,9 @@ fn timed(columns: Columns, line: u64, from: usize, size: usize, rest: &[u8]) -> 
         caption: true,
         line,
         warned: 0,
-        start,
-        stop,
-        at: from + base::less(size, words),
+        start: start.units,
+        stop: stop.units,
+        at: from + size.saturating_sub(words),
         size: words,
     }
 }
@@ -81,17 +77,15 @@ fn caption(columns: Columns, line: u64, from: usize, text: &[u8], skip: usize) -
     ensures { result ≡ line_said line from (length (text_of text.now)) (caption_says columns line text.now [] (drop skip (text_of text.now))) }
 {
     let t = text::text_of(text);
-    if columns.start == 0 {
-        return passing(1, line, from, t.len());
-    }
-    if columns.end == 0 {
+    if columns.start == 0 || columns.end == 0 {
         return passing(1, line, from, t.len());
     }
     let rest = base::rest(t, skip);
     if enough(rest, columns.columns) {
-        return timed(columns, line, from, t.len(), rest);
+        timed(columns, line, from, t.len(), rest)
+    } else {
+        passing(2, line, from, t.len())
     }
-    passing(2, line, from, t.len())
 }
 
 // A line in Events.
@@ -103,13 +97,9 @@ fn event_line(columns: Columns, n: usize, from: usize, text: &[u8]) -> LineRead
     let line = (n + 1) as u64;
     let t = text::text_of(text);
     if pattern::starts_with(t, b"Format:") {
-        let said = without(0, 0);
-        let format = columns_of(base::rest(t, 7));
-        let next = format.columns;
-        return LineRead {
-            said,
-            columns: next,
-        };
+        let said = nothing();
+        let columns = columns_of(base::rest(t, 7)).columns;
+        return LineRead { said, columns };
     }
     if pattern::starts_with(t, b"Dialogue:") {
         let said = caption(columns, line, from, text, 9);
@@ -119,7 +109,7 @@ fn event_line(columns: Columns, n: usize, from: usize, text: &[u8]) -> LineRead
         let said = caption(columns, line, from, text, 8);
         return LineRead { said, columns };
     }
-    let said = without(0, 0);
+    let said = nothing();
     LineRead { said, columns }
 }
 
@@ -131,16 +121,13 @@ pub fn read_line(columns: Columns, n: usize, from: usize, text: &[u8]) -> LineRe
 {
     let t = whitespace::trimmed(text::text_of(text));
     if is_section(t) {
-        let next = in_section(names_events(t), columns);
-        let said = without(0, 0);
-        return LineRead {
-            said,
-            columns: next,
-        };
+        let columns = in_section(names_events(t), columns);
+        let said = nothing();
+        return LineRead { said, columns };
     }
     if columns.events {
         return event_line(columns, n, from, text);
     }
-    let said = without(0, 0);
+    let said = nothing();
     LineRead { said, columns }
 }

@@ -9,15 +9,18 @@ use spec_rows::caption_rows::Said;
 fn six_at(rows: &mut [u64], at: usize, said: Said) -> usize
     ensures { (result ≡ place_after at (six_said said) rows.old) × (rows.new ≡ placed_at at (six_said said) rows.old) }
 {
-    if rows.len() < at {
+    if rows.len().saturating_sub(at) < 6 {
         return at;
     }
-    if rows.len() - at < 6 {
-        return at;
-    }
-    base::pair_at(rows, at, said.line, said.warned);
-    base::pair_at(rows, at + 2, said.start, said.stop);
-    base::pair_at(rows, at + 4, said.at as u64, said.size as u64);
+    let row = [
+        said.line,
+        said.warned,
+        said.start,
+        said.stop,
+        said.at as u64,
+        said.size as u64,
+    ];
+    rows[at..at + 6].copy_from_slice(&row);
     at + 6
 }
 
@@ -26,9 +29,10 @@ pub fn row_at(rows: &mut [u64], at: usize, said: Said) -> usize
     ensures { (result ≡ place_after at (rows_said said) rows.old) × (rows.new ≡ placed_at at (rows_said said) rows.old) }
 {
     if said.caption {
-        return six_at(rows, at, said);
+        six_at(rows, at, said)
+    } else {
+        at
     }
-    at
 }
 
 // One more, where there is a caption.
@@ -36,8 +40,5 @@ pub fn counted(captions: usize, caption: bool) -> usize
     requires { captions + 1 < 2 ^ 64 }
     ensures { result ≡ captions + cond caption 1 0 }
 {
-    if caption {
-        return captions + 1;
-    }
-    captions
+    captions + usize::from(caption)
 }

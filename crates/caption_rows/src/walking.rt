@@ -1,5 +1,6 @@
 // A whole text, line by line.
 ghost use Rattle.std.specs.Prelude.{◌≡◌, [], ◌+◌, ◌≤◌, ◌<◌, ◌^◌, length, drop};
+ghost use Rattle.refusals.specs.Numbers.{number_of, told};
 ghost use Rattle.spec_base.specs.base.Limits.{most_taken};
 ghost use Rattle.spec_text.specs.text.Line.{lines_of};
 ghost use Rattle.spec_ass.specs.ass_columns.Columns.{no_columns};
@@ -9,8 +10,9 @@ ghost use Rattle.spec_rows.specs.caption_rows.Walk.{ass_turn, ass_next, ass_walk
 use crate::closed::read_block;
 use crate::dialogue::{LineRead, read_line};
 use crate::rows::{counted, row_at};
-use crate::said::without;
+use crate::said::{nothing, without};
 use ass_columns::Columns;
+use refusals::Refusal;
 use spec_rows::caption_rows::{Said, Walked};
 
 // The open block after a line: where it begins, and how many lines came before it.
@@ -31,18 +33,25 @@ fn stopped(number: u32, line: u64, captions: usize) -> Walked
     }
 }
 
+// A fault of the first line.
+fn stopped_first(why: Refusal) -> Walked
+    ensures { result ≡ record { number = number_of why; line = 1; captions = 0 } }
+{
+    stopped(u32::from(why), 1, 0)
+}
+
 // 19, then 20; `mark` bytes of BOM stand before the line.
-fn line_fault(mark: usize, line: &[u8]) -> u32
+fn line_fault(mark: usize, line: &[u8]) -> Result<(), Refusal>
     requires { mark + length line.now < 2 ^ 64 }
-    ensures { result ≡ line_fault mark line.now }
+    ensures { told result ≡ line_fault mark line.now }
 {
     if base::MOST_LINE < mark + line.len() {
-        return 19;
+        Err(Refusal::LongLine)
+    } else if utf8::is_utf8(line) {
+        Ok(())
+    } else {
+        Err(Refusal::NotUtf8)
     }
-    if utf8::is_utf8(line) {
-        return 0;
-    }
-    20
 }
 
 // The line that begins at byte `at`.
@@ -57,7 +66,7 @@ fn line_at(text: &[u8], at: usize) -> &[u8]
 fn between(text: &[u8], from: usize, to: usize) -> &[u8]
     ensures { result.now ≡ between from to text.now }
 {
-    base::front(base::rest(text, from), base::less(to, from))
+    base::front(base::rest(text, from), to.saturating_sub(from))
 }
 
 // An ASS line; n lines came before it.
@@ -66,15 +75,15 @@ fn ass_turn(mark: usize, columns: Columns, n: usize, at: usize, line: &[u8]) -> 
     ensures said { result.said ≡ ass_turn mark columns n at line.now }
     ensures columns { result.columns ≡ ass_next mark columns n line.now }
 {
-    let fault = line_fault(mark, line);
-    if fault != 0 {
-        let said = without(fault, (n + 1) as u64);
+    if let Err(why) = line_fault(mark, line) {
+        let said = without(why, (n + 1) as u64);
         return LineRead { said, columns };
     }
     read_line(columns, n, at, line)
 }
 
 // The lines from byte `mark` on.
+// Kept: a chain is no plainer: a step is as long as its line, and a fault ends the walk with what was counted.
 fn walk_ass(text: &[u8], mark: usize, rows: &mut [u64]) -> Walked
     requires { (mark ≤ length text.now) × (length text.now ≤ most_taken) }
     ensures { WalkedBy (ass_walk mark no_columns 0 mark (lines_of (drop mark text.now))) result rows.old rows.new }
@@ -122,9 +131,8 @@ fn block_turn(
     ensures from { result.from ≡ block_from kind mark from block.now line.now }
     ensures first { result.first ≡ block_first kind mark first n line.now }
 {
-    let fault = line_fault(mark, line);
-    if fault != 0 {
-        let said = without(fault, (n + 1) as u64);
+    if let Err(why) = line_fault(mark, line) {
+        let said = without(why, (n + 1) as u64);
         return Turn { said, from, first };
     }
     if block_timing::is_blank_in(kind, line) {
@@ -136,14 +144,15 @@ fn block_turn(
         };
     }
     if base::MOST_BLOCK < block.len() + line.len() {
-        let said = without(21, (first + 1) as u64);
+        let said = without(Refusal::LongBlock, (first + 1) as u64);
         return Turn { said, from, first };
     }
-    let said = without(0, 0);
+    let said = nothing();
     Turn { said, from, first }
 }
 
 // The blocks from byte `start` on; `mark` bytes of BOM and `lines` lines stand before it.
+// Kept: a chain is no plainer: a step is as long as its line, and a fault ends the walk with what was counted.
 fn walk_blocks(
     kind: u32,
     text: &[u8],
@@ -192,17 +201,17 @@ fn walk_vtt(text: &[u8], mark: usize, rows: &mut [u64]) -> Walked
     ensures { WalkedBy (vtt_walk mark mark (lines_of (drop mark text.now))) result rows.old rows.new }
 {
     if text.len() <= mark {
-        return stopped(24, 1, 0);
+        return stopped_first(Refusal::FirstLine);
     }
     let line = line_at(text, mark);
-    let fault = line_fault(mark, line);
-    if fault != 0 {
-        return stopped(fault, 1, 0);
+    if let Err(why) = line_fault(mark, line) {
+        return stopped_first(why);
     }
     if block_timing::is_header(line) {
-        return walk_blocks(2, text, mark + line.len(), 0, 1, rows);
+        walk_blocks(2, text, mark + line.len(), 0, 1, rows)
+    } else {
+        stopped_first(Refusal::FirstLine)
     }
-    stopped(24, 1, 0)
 }
 
 // How many bytes of BOM stand before a text.
@@ -210,9 +219,10 @@ fn mark_length(text: &[u8]) -> usize
     ensures { result ≡ bom_length text.now }
 {
     if pattern::starts_with(text, b"\xEF\xBB\xBF") {
-        return 3;
+        3
+    } else {
+        0
     }
-    0
 }
 
 // A whole text of a known kind.
@@ -221,11 +231,9 @@ pub fn walk(kind: u32, text: &[u8], rows: &mut [u64]) -> Walked
     ensures { WalkedBy (walk_of kind text.now) result rows.old rows.new }
 {
     let mark = mark_length(text);
-    if kind == 0 {
-        return walk_ass(text, mark, rows);
+    match kind {
+        0 => walk_ass(text, mark, rows),
+        2 => walk_vtt(text, mark, rows),
+        _ => walk_blocks(kind, text, mark, mark, 0, rows),
     }
-    if kind == 2 {
-        return walk_vtt(text, mark, rows);
-    }
-    walk_blocks(kind, text, mark, mark, 0, rows)
 }

@@ -10,12 +10,10 @@ fn put_digits(out: &mut [u8], n: u64, k: usize)
     requires { k ≤ length out.old }
     ensures { out.new ≡ put (pad k n) out.old }
 {
-    let mut i = k;
     let mut rest = n;
-    while 0 < i {
-        i -= 1;
-        out[i] = 48 + (rest % 10) as u8;
-        rest = rest / 10;
+    for i in (0..k).rev() {
+        out[i] = b'0' + (rest % 10) as u8;
+        rest /= 10;
     }
 }
 
@@ -23,10 +21,9 @@ fn put_digits(out: &mut [u8], n: u64, k: usize)
 pub fn last_digits(out: &mut [u8], n: u64, k: usize)
     ensures { out.new ≡ placed (pad k n) out.old }
 {
-    if out.len() < k {
-        return;
+    if k <= out.len() {
+        put_digits(out, n, k);
     }
-    put_digits(out, n, k);
 }
 
 // A mark, and then k digits of n.
@@ -42,10 +39,10 @@ fn put_part(out: &mut [u8], mark: u8, n: u64, k: usize)
 pub fn digits(n: u64) -> usize
     ensures { result ≡ width n }
 {
-    let mut w: usize = 1;
+    let mut w = 1;
     let mut rest = n;
     while 10 <= rest {
-        rest = rest / 10;
+        rest /= 10;
         w += 1;
     }
     w
@@ -55,8 +52,7 @@ pub fn digits(n: u64) -> usize
 fn digits_of(n: u64, least: usize) -> usize
     ensures { result ≡ widest least n }
 {
-    let w = digits(n);
-    if w < least { least } else { w }
+    digits(n).max(least)
 }
 
 fn write_with(units: u64, unit: u64, frac: usize, least: usize, mark: u8, out: &mut [u8]) -> usize
@@ -93,7 +89,7 @@ pub fn write_time(units: u64, kind: u32, mark: u8, out: &mut [u8]) -> usize
     }
     write_with(
         units,
-        units_of(kind) as u64,
+        u64::from(units_of(kind)),
         fraction_digits(kind),
         hour_digits(kind),
         mark,

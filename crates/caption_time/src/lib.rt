@@ -9,4 +9,3 @@ pub use convert::{
     timescale_bad, units_number, units_to_ticks,
 };
 pub use kind::{fraction_digits, hour_digits, kind_bad, mark_of, units_of};
-pub use spec_time::caption_time::Converted;

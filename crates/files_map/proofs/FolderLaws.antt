@@ -26,18 +26,11 @@ pub path_current : (f n p p' : List ℕ) (r : ℕ) → length f ≡ 0 → (r ≡
     → (r ≡ placed_length (path_below f n) p) × (p' ≡ placed (path_below f n) p)
 path_current f n p p' r h e = rw (path_alone f n h) e
 
-pub path_unfit : (f n p : List ℕ) → (length f ≡ 0 → ⊥) → length p < length f + 1 + length n
+pub path_short : (f n p : List ℕ) → (length f ≡ 0 → ⊥) → length p - length f ≤ length n
     → (0 ≡ placed_length (path_below f n) p) × (p ≡ placed (path_below f n) p)
-path_unfit f n p h l =
+path_short f n p h l =
     let k : length p < length (path_below f n) = omega (arith, path_length f n h) in
     (sym (length_no (path_below f n) p k), sym (placed_no (path_below f n) p k))
-
-pub path_long : (f n p : List ℕ) → (length f ≡ 0 → ⊥) → length p < length f → (0 ≡ placed_length (path_below f n) p) × (p ≡ placed (path_below f n) p)
-path_long f n p h l = path_unfit f n p h (omega arith)
-
-pub path_short : (f n p : List ℕ) → (length f ≡ 0 → ⊥) → length f ≤ length p → length p - length f ≤ length n
-    → (0 ≡ placed_length (path_below f n) p) × (p ≡ placed (path_below f n) p)
-path_short f n p h l k = path_unfit f n p h (omega arith)
 
 pub path_written : (f n p p₁ p₂ p₃ : List ℕ) (a b c : ℕ) → (length f ≡ 0 → ⊥) → length f ≤ length p → length n < length p - length f
     → (a ≡ place_after 0 f p) × (p₁ ≡ placed_at 0 f p) → (b ≡ place_after a (47 ∷ []) p₁) × (p₂ ≡ placed_at a (47 ∷ []) p₁) → (c ≡ place_after b n p₂) × (p₃ ≡ placed_at b n p₂)

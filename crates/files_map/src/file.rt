@@ -14,8 +14,18 @@ use std::{fs, io};
 // The bytes of a file, as many as a program looks at: one more than a sheet or a list may have.
 #[derive(Clone, Copy)]
 pub struct File {
+    // Kept: (1) no heap: the memory is fixed.
     pub bytes: [u8; 65537],
     pub length: usize,
+}
+
+impl File {
+    // The bytes that the file holds.
+    pub fn held(&self) -> &[u8]
+        ensures { result.now ≡ take self.now.length self.now.bytes }
+    {
+        base::front(&self.bytes, self.length)
+    }
 }
 
 // The path of the file `name` in a folder, at the start of `path`, and its length; an empty folder is the current one. Where it does not fit,
@@ -23,23 +33,21 @@ pub struct File {
 pub fn path_below(folder: &[u8], name: &[u8], path: &mut [u8]) -> usize
     ensures { (result ≡ placed_length (path_below folder.now name.now) path.old) × (path.new ≡ placed (path_below folder.now name.now) path.old) }
 {
-    if folder.len() == 0 {
-        return base::bytes(path, name);
+    if folder.is_empty() {
+        return base::put(path, name);
     }
-    if path.len() < folder.len() {
+    if path.len().saturating_sub(folder.len()) <= name.len() {
         return 0;
     }
-    if path.len() - folder.len() <= name.len() {
-        return 0;
-    }
-    let a = base::bytes_at(path, 0, folder);
-    let b = base::bytes_at(path, a, b"/");
-    base::bytes_at(path, b, name)
+    let a = base::put_at(path, 0, folder);
+    let b = base::put_at(path, a, b"/");
+    base::put_at(path, b, name)
 }
 
 // Opens the file `name` in a folder for reading; none where it cannot be opened, where its path does not fit, or where that is not UTF-8, as
 // std's paths are.
 pub fn open_below<R: Files>(rt: &R, folder: &[u8], name: &[u8]) -> Option<R::File> {
+    // Kept: (1) no heap: the memory is fixed.
     let mut path = [0u8; 4096];
     let k = path_below(folder, name, &mut path);
     if k == 0 {
@@ -73,12 +81,13 @@ pub fn read_full<R: Read>(from: &mut R, buf: &mut [u8]) -> io::Result<usize>
 pub fn load<R: Files>(rt: &R, folder: &[u8], name: &[u8]) -> io::Result<File>
     ensures { IfOk result (λ file. Held file.bytes file.length) }
 {
+    // Kept: (1) no heap: the memory is fixed.
     let mut read = [0u8; 65537];
     let mut bytes = [0u8; 65537];
     let Some(mut opened) = open_below(rt, folder, name) else {
         return Ok(File { bytes, length: 0 });
     };
     let n = read_full(&mut opened, &mut read)?;
-    let length = base::bytes(&mut bytes, base::front(&read, n));
+    let length = base::put(&mut bytes, base::front(&read, n));
     Ok(File { bytes, length })
 }

@@ -7,43 +7,43 @@ ghost use Rattle.streams.specs.Left.{Grows};
 use std::io;
 use std::io::Write;
 
-// Prints a name, a number and a line end, and answers the number.
+// Prints a name, a number and a line end.
+pub fn print_named<W: Write>(to: &mut W, name: &[u8], n: u64) -> io::Result<()>
+    ensures grows { Grows (W.contents to.old) (W.contents to.new) }
+{
+    streams::write_text(to, name)?;
+    streams::write_number(to, n)?;
+    streams::write_text(to, b"\n")
+}
+
+// The same of a smaller number, which it answers.
 pub fn print_number<W: Write>(to: &mut W, name: &[u8], n: u32) -> io::Result<u32>
     ensures value { IfOk result (λ r. r ≡ n) }
     ensures grows { Grows (W.contents to.old) (W.contents to.new) }
 {
-    streams::write_text(to, name)?;
-    streams::write_number(to, n as u64)?;
-    streams::write_text(to, b"\n")?;
+    print_named(to, name, u64::from(n))?;
     Ok(n)
 }
 
-// Six numbers in a line, from the place `at` on.
-fn print_segment<W: Write>(to: &mut W, map: &[u64], at: usize) -> io::Result<()>
+// Numbers in a line, a space between each two.
+fn print_row<W: Write>(to: &mut W, row: &[u64]) -> io::Result<()>
     ensures grows { Grows (W.contents to.old) (W.contents to.new) }
 {
-    let mut k: usize = 0;
-    while k < 6 {
+    for (k, n) in row.iter().enumerate() {
         if 0 < k {
             streams::write_text(to, b" ")?;
         }
-        let row = base::words_rest(map, at);
-        streams::write_number(to, base::word(row, k))?;
-        k += 1;
+        streams::write_number(to, *n)?;
     }
     streams::write_text(to, b"\n")
 }
 
-fn print_segments<W: Write>(to: &mut W, map: &[u64], count: usize) -> io::Result<()>
+// Prints rows of six numbers, each in a line.
+pub fn print_rows<W: Write>(to: &mut W, numbers: &[u64]) -> io::Result<()>
     ensures grows { Grows (W.contents to.old) (W.contents to.new) }
 {
-    let mut t = map;
-    let mut left = count;
-    while 0 < left {
-        print_segment(to, t, 0)?;
-        let u = base::words_rest(t, 6);
-        t = u;
-        left -= 1;
+    for row in numbers.chunks_exact(6) {
+        print_row(to, row)?;
     }
     Ok(())
 }
@@ -60,6 +60,7 @@ pub fn print_map_of<W: Write>(
     ensures work_after { work.new ≡ map_work sheet.now direction 6144 work.old }
     ensures grows { Grows (W.contents to.old) (W.contents to.new) }
 {
+    // Kept: (1) no heap: the memory is fixed.
     let mut map = [0u64; 6144];
     let made = segmap::make(sheet, list, direction, work, &mut map);
     let number = made.number;
@@ -67,7 +68,7 @@ pub fn print_map_of<W: Write>(
         return print_number(to, b"refused ", number);
     }
     print_number(to, b"timescale ", made.timescale)?;
-    print_segments(to, &map, made.count)?;
+    print_rows(to, crate::segments::first_segments(&map, made.count))?;
     Ok(0)
 }
 
@@ -79,6 +80,7 @@ pub fn print_map<W: Write>(to: &mut W, sheet: &[u8], list: &[u8]) -> io::Result<
     if 65536 < sheet.len() {
         return print_number(to, b"refused ", 11);
     }
+    // Kept: (1) no heap: the memory is fixed.
     let mut work = [0; base::MOST_WORK];
     print_map_of(to, sheet, list, 0, &mut work)
 }

@@ -6,7 +6,8 @@ pub fn first_segments(map: &[u64], count: usize) -> &[u64]
     ensures { result.now ≡ take (6 * count) map.now }
 {
     if count <= map.len() / 6 {
-        return &map[..6 * count];
+        &map[..6 * count]
+    } else {
+        map
     }
-    map
 }

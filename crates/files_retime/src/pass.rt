@@ -48,12 +48,12 @@ pub fn pass<R: Read, W: Write>(
     ensures grows { Grows (W.contents to.old) (W.contents to.new) }
     ensures drains { Drains (R.remaining from.old) (R.remaining from.new) }
 {
+    // Kept: (1) no heap: the memory is fixed.
     let mut out = [0u8; 32768];
     let mut warnings = [0u64; 4096];
     let mut piece = [0u8; 1024];
     let mut at = session;
-    let mut left: u32 = 1073741825;
-    while 0 < left {
+    for _ in 0..1073741825u32 {
         let n = files_map::read_full(from, &mut piece)?;
         if n == 0 {
             return end(to, at, map, writing, &mut out, &mut warnings);
@@ -64,7 +64,6 @@ pub fn pass<R: Read, W: Write>(
             return Ok(fed.number);
         }
         at = fed.session;
-        left -= 1;
     }
     end(to, at, map, writing, &mut out, &mut warnings)
 }

@@ -66,6 +66,7 @@ fn retimed<R: Files, W: Write>(
     if 65536 < sheet.len() {
         return Ok(11);
     }
+    // Kept: (1) no heap: the memory is fixed.
     let mut map = [0u64; 6144];
     let mut work = [0; base::MOST_WORK];
     let made = segmap::make(sheet, list, 0, &mut work, &mut map);

@@ -3,25 +3,25 @@ ghost use Rattle.std.specs.Prelude.{◌≡◌, IfOk};
 ghost use Rattle.files_why.specs.Page.{page_number};
 ghost use Rattle.streams.specs.Left.{Grows};
 
-use crate::question::asked;
+use crate::question::{Unread, asked};
 use crate::sentence::print_answer;
 use std::io;
 use std::io::Write;
 
 // Why a line is not answered.
-fn print_unread<W: Write>(to: &mut W, number: u32) -> io::Result<()>
+fn print_unread<W: Write>(to: &mut W, unread: Unread) -> io::Result<()>
     ensures grows { Grows (W.contents to.old) (W.contents to.new) }
 {
-    if number == 16 {
-        return streams::write_text(
+    match unread {
+        Unread::Kind => streams::write_text(
             to,
             b"  can't be read: it begins with none of `ass`, `srt` and `vtt`\n",
-        );
+        ),
+        Unread::Times => streams::write_text(
+            to,
+            b"  can't be read: behind the kind stand a start and an end, as in the captions\n",
+        ),
     }
-    streams::write_text(
-        to,
-        b"  can't be read: behind the kind stand a start and an end, as in the captions\n",
-    )
 }
 
 // One line, and its answer below it; nothing for a blank one.
@@ -33,23 +33,20 @@ fn print_line<W: Write>(to: &mut W, line: &[u8], map: &[u64], timescale: u32) ->
     }
     streams::write_text(to, whitespace::trimmed(line))?;
     streams::write_text(to, b"\n")?;
-    let q = asked(line);
-    if q.number != 0 {
-        return print_unread(to, q.number);
+    match asked(line) {
+        Ok(q) => print_answer(to, q, map, timescale),
+        Err(unread) => print_unread(to, unread),
     }
-    print_answer(to, q, map, timescale)
 }
 
 fn print_lines<W: Write>(to: &mut W, times: &[u8], map: &[u64], timescale: u32) -> io::Result<()>
     ensures grows { Grows (W.contents to.old) (W.contents to.new) }
 {
     let mut t = times;
-    while 0 < t.len() {
-        let n = text::line_length(t);
-        let line = base::front(t, n);
+    while !t.is_empty() {
+        let (line, rest) = t.split_at(text::line_length(t));
         print_line(to, line, map, timescale)?;
-        let u = base::rest(t, n);
-        t = u;
+        t = rest;
     }
     Ok(())
 }
@@ -62,6 +59,7 @@ fn told<W: Write>(to: &mut W, sheet: &[u8], list: &[u8], times: &[u8]) -> io::Re
     if 65536 < sheet.len() {
         return Ok(11);
     }
+    // Kept: (1) no heap: the memory is fixed.
     let mut map = [0u64; 6144];
     let mut work = [0; base::MOST_WORK];
     let made = segmap::make(sheet, list, 0, &mut work, &mut map);

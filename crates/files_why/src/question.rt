@@ -1,32 +1,38 @@
 // A line of `times.txt` read.
 ghost use Rattle.std.specs.Prelude.{◌≡◌};
-ghost use Rattle.files_why.specs.Question.{kind_of, word_of, behind_word, unread, both_read, question_of};
+ghost use Rattle.files_why.specs.Question.{kind_of, word_of, behind_word, both_read, question_of};
 
-use caption_stamp::Time;
+use caption_stamp::Stamp;
 
-// 0, 16 where the line names no kind, or 22 where a time does not read; the caption's kind and times in units, and the mark of its start.
-#[derive(Clone, Copy)]
+// Why a line does not read: it names no kind, or a time does not read.
+#[derive(Clone, Copy, Debug, PartialEq, Eq)]
+pub enum Unread {
+    Kind,
+    Times,
+}
+
+// The caption's kind and times in units, and the mark of its start.
+#[derive(Clone, Copy, Debug, PartialEq, Eq)]
 pub struct Question {
-    pub number: u32,
     pub kind: u32,
     pub start: u64,
     pub stop: u64,
     pub mark: u8,
 }
 
-fn kind_of(w: &[u8]) -> u32
+// The number of the kind that a word names.
+fn kind_of(w: &[u8]) -> Option<u32>
     ensures { result ≡ kind_of w.now }
 {
     if pattern::equals(w, b"ass") {
-        return 0;
+        Some(0)
+    } else if pattern::equals(w, b"srt") {
+        Some(1)
+    } else if pattern::equals(w, b"vtt") {
+        Some(2)
+    } else {
+        None
     }
-    if pattern::equals(w, b"srt") {
-        return 1;
-    }
-    if pattern::equals(w, b"vtt") {
-        return 2;
-    }
-    3
 }
 
 fn word_of(t: &[u8]) -> &[u8]
@@ -41,45 +47,28 @@ fn behind_word(t: &[u8]) -> &[u8]
     whitespace::trimmed(pattern::past(t, b" "))
 }
 
-fn unread(number: u32) -> Question
-    ensures { result ≡ unread number }
-{
-    Question {
-        number,
-        kind: 0,
-        start: 0,
-        stop: 0,
-        mark: 0,
-    }
-}
-
-fn both_read(kind: u32, start: Time, stop: Time) -> Question
+fn both_read(kind: u32, start: Option<Stamp>, stop: Option<Stamp>) -> Result<Question, Unread>
     ensures { result ≡ both_read kind start stop }
 {
-    let Time::At(s, mark) = start else {
-        return unread(22);
+    let (Some(s), Some(e)) = (start, stop) else {
+        return Err(Unread::Times);
     };
-    let Time::At(e, _) = stop else {
-        return unread(22);
-    };
-    Question {
-        number: 0,
+    Ok(Question {
         kind,
-        start: s,
-        stop: e,
-        mark,
-    }
+        start: s.units,
+        stop: e.units,
+        mark: s.mark,
+    })
 }
 
 // What a line asks.
-pub fn asked(line: &[u8]) -> Question
+pub fn asked(line: &[u8]) -> Result<Question, Unread>
     ensures { result ≡ question_of line.now }
 {
     let t = whitespace::trimmed(line);
-    let kind = kind_of(word_of(t));
-    if caption_time::kind_bad(kind) {
-        return unread(16);
-    }
+    let Some(kind) = kind_of(word_of(t)) else {
+        return Err(Unread::Kind);
+    };
     let u = behind_word(t);
     let start = caption_stamp::read_time(word_of(u), kind);
     let stop = caption_stamp::read_time(behind_word(u), kind);

@@ -45,16 +45,15 @@ fn print_kept<W: Write>(
     streams::write_text(to, b"\n")
 }
 
+// Kept: causes are numbers, since `ask_reason::reason` writes them to places that a caller from C lends.
 fn print_cause<W: Write>(to: &mut W, cause: u64) -> io::Result<()>
     ensures grows { Grows (W.contents to.old) (W.contents to.new) }
 {
-    if cause == 1 {
-        return streams::write_text(to, b" has no length\n");
+    match cause {
+        1 => streams::write_text(to, b" has no length\n"),
+        2 => streams::write_text(to, b" ends at or before the caption's start\n"),
+        _ => streams::write_text(to, b" starts at or after the caption's end\n"),
     }
-    if cause == 2 {
-        return streams::write_text(to, b" ends at or before the caption's start\n");
-    }
-    streams::write_text(to, b" starts at or after the caption's end\n")
 }
 
 // A caption that is dropped: a line for each segment.
@@ -68,13 +67,10 @@ fn print_causes<W: Write>(
     ensures grows { Grows (W.contents to.old) (W.contents to.new) }
 {
     streams::write_text(to, b"  dropped: it meets no kept segment\n")?;
-    let n = map.len() / 6;
-    let mut i: usize = 0;
-    while i < n {
+    for i in 0..map.len() / 6 {
         streams::write_text(to, b"    ")?;
         print_segment(to, map, i, timescale, q)?;
-        print_cause(to, base::word(causes, i))?;
-        i += 1;
+        print_cause(to, base::get_or(causes, i, 0))?;
     }
     Ok(())
 }
@@ -88,20 +84,15 @@ pub fn print_answer<W: Write>(
 ) -> io::Result<()>
     ensures grows { Grows (W.contents to.old) (W.contents to.new) }
 {
+    // Kept: (1) no heap: the memory is fixed.
     let mut causes = [0u64; 1024];
     let why = ask_reason::reason(map, timescale, q.kind, q.start, q.stop, &mut causes);
     if why.number != 0 {
         files_map::print_number(to, b"  refused ", why.number)?;
         return Ok(());
     }
-    let fate = why.fate;
-    match fate {
-        Counted::Dropped => {
-            print_causes(to, &causes, map, timescale, q)?;
-        }
-        _ => {
-            print_kept(to, why, map, timescale, q)?;
-        }
+    match why.fate {
+        Counted::Dropped => print_causes(to, &causes, map, timescale, q),
+        _ => print_kept(to, why, map, timescale, q),
     }
-    Ok(())
 }

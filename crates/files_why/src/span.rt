@@ -8,6 +8,7 @@ use std::io::Write;
 fn print_units<W: Write>(to: &mut W, units: u64, kind: u32, mark: u8) -> io::Result<()>
     ensures grows { Grows (W.contents to.old) (W.contents to.new) }
 {
+    // Kept: (1) no heap: the memory is fixed.
     let mut text = [0u8; 64];
     let n = caption_stamp::write_time(units, kind, mark, &mut text);
     streams::write_text(to, base::front(&text, n))
@@ -17,11 +18,10 @@ fn print_units<W: Write>(to: &mut W, units: u64, kind: u32, mark: u8) -> io::Res
 pub fn print_length<W: Write>(to: &mut W, ticks: u64, timescale: u32, q: Question) -> io::Result<()>
     ensures grows { Grows (W.contents to.old) (W.contents to.new) }
 {
-    let c = caption_time::ticks_to_units_ceil(ticks, timescale, q.kind);
-    if c.number != 0 {
-        return streams::write_text(to, b"more than 2^53 ticks");
+    match caption_time::ticks_to_units_ceil(ticks, timescale, q.kind) {
+        Ok(units) => print_units(to, units, q.kind, q.mark),
+        Err(_) => streams::write_text(to, b"more than 2^53 ticks"),
     }
-    print_units(to, c.value, q.kind, q.mark)
 }
 
 // From a tick, rounded down, to a tick, rounded up.
@@ -34,18 +34,10 @@ fn print_span<W: Write>(
 ) -> io::Result<()>
     ensures grows { Grows (W.contents to.old) (W.contents to.new) }
 {
-    let a = caption_time::ticks_to_units_floor(from, timescale, q.kind);
-    print_units(to, a.value, q.kind, q.mark)?;
+    let units = caption_time::ticks_to_units_floor(from, timescale, q.kind).unwrap_or(0);
+    print_units(to, units, q.kind, q.mark)?;
     streams::write_text(to, b" to ")?;
     print_length(to, until, timescale, q)
-}
-
-// Where a start and a duration end, at most at the largest number.
-fn end_of(start: u64, duration: u64) -> u64 {
-    if u64::MAX - start < duration {
-        return u64::MAX;
-    }
-    start + duration
 }
 
 // The segment at a place of the list, counted from 1, and its times: `segment 2 of 3 (.. to .. of the recording, .. to .. of the cut)`.
@@ -66,12 +58,12 @@ pub fn print_segment<W: Write>(
     streams::write_text(to, b" of ")?;
     streams::write_number(to, (map.len() / 6) as u64)?;
     streams::write_text(to, b" (")?;
-    let row = base::words_rest(map, 6 * place);
-    let source = base::word(row, 2);
-    let output = base::word(row, 4);
-    let duration = base::word(row, 5);
-    print_span(to, source, end_of(source, duration), timescale, q)?;
+    let row = base::rest(map, 6 * place);
+    let source = base::get_or(row, 2, 0);
+    let output = base::get_or(row, 4, 0);
+    let duration = base::get_or(row, 5, 0);
+    print_span(to, source, source.saturating_add(duration), timescale, q)?;
     streams::write_text(to, b" of the recording, ")?;
-    print_span(to, output, end_of(output, duration), timescale, q)?;
+    print_span(to, output, output.saturating_add(duration), timescale, q)?;
     streams::write_text(to, b" of the cut)")
 }

@@ -1,21 +1,21 @@
 -- Laws of the reader's number, of what is written of a map's text, and of the answer.
 use mathlib.Core.Path.{◌≡◌, refl, sym, ap, ◌∙◌}
 use mathlib.Core.Bool.{Bool, true, false, ◌&&◌, cond, not, true≢false}
-use mathlib.Core.List.{List, [], ◌∷◌}
+use mathlib.Core.List.{List, [], ◌∷◌, ◌++◌}
 use Prim.Native.Nat.{ℕ, suc, ◌*◌, ◌%◌, ◌≤◌, ◌<◌}
 use native.Mathlib.Omega.{arith}
 use borrow.Author.Tests.{leb-true, eq-eqb, ne_eqb, not-true, not-false, lt-ltb, le-ltb, ltb-true, ltb-false}
 use lib.Dec.{eqb, leb, ltb}
-use lib.ListN.{length, take, get_or}
+use lib.ListN.{length, take, drop, get_or}
 use lib.Seq.{length-take-le}
 use Rattle.spec_base.specs.base.Limits.{most_frame, most_segments}
 use Rattle.spec_base.specs.base.Refusal.{◌or_else◌, fault_unless}
 use Rattle.spec_base.specs.base.Put.{put, placed, placed_length}
-use Rattle.spec_base.proofs.base.Laws.{yes!, no!, and_left, and_right}
-use Rattle.spec_base.proofs.base.PutLaws.{take_put, put_nil, placed_yes, length_yes}
+use Rattle.spec_base.proofs.base.Laws.{yes!, no!, and_left, and_right, and_false}
+use Rattle.spec_base.proofs.base.PutLaws.{take_put, put_nil}
 use Rattle.spec_base.proofs.base.Refusals.{stops_bad, goes_bad, stops_over, goes_under, last_over, last_under, stops_good, goes_good}
 use Rattle.spec_time.specs.caption_time.Convert.{timescale_bad}
-use Rattle.spec_map.specs.segment.Segment.{map_bad}
+use Rattle.spec_map.specs.segment.Segment.{map_bad, flat_of}
 use Rattle.spec_map.proofs.segment.SegmentLaws.{left_many, flat_length}
 use Rattle.spec_text.specs.utf8.Utf8.{utf8}
 use Rattle.spec_json.specs.json.Space.{padded}
@@ -28,11 +28,10 @@ use Rattle.map_json_read.specs.declared.fields.Heads.{Heads}
 use Rattle.map_json_read.specs.declared.fields.HeadSlots.{HeadSlots}
 use Rattle.map_json_read.specs.declared.reading.Parts.{Parts}
 use Rattle.spec_map_json.specs.declared.map_json_read.Taken.{Taken}
-use Rattle.map_json_read.specs.Slots.{heads_in}
-use Rattle.map_json_segments.specs.Listed.{ListRead, list_said_in}
-use Rattle.map_json_read.specs.Steps.{object_of, HeadsOf, flat_in, Gathered, PartsOf, said_number, list_bad, ask_number, Asked, Gives}
+use Rattle.map_json_read.specs.Slots.{heads_good, heads_in}
+use Rattle.map_json_segments.specs.Listed.{list_said_in}
+use Rattle.map_json_read.specs.Steps.{object_of, HeadsOf, flat_in, all_said, Gathered, PartsOf, said_number, list_bad, ask_number, Asked, Gives}
 use Rattle.spec_map_json.specs.map_json_read.MapRead.{none_taken, read_number, Reads}
-use Rattle.map_json_segments.proofs.ListLaws.{list_back}
 use Rattle.map_json_segments.proofs.NumberLaws.{said_value}
 use Rattle.map_json_read.proofs.PartLaws.{object_says}
 
@@ -71,9 +70,9 @@ module _ (ms : List Member) (g : fields_said ms ≡ true) where
   good_frames = and_left (short frames_name ms) _ behind_path
 
 -- ---- the number, test by test
-pub bad_over : (count : ℕ) (room : List ℕ) → 1024 < count → true ≡ list_bad count room
+pub bad_over : (count : ℕ) (room : List ℕ) → 1024 < count → ltb 1024 count ≡ list_bad count room
 unfolding list_bad
-bad_over count room h = yes! _ (lt-ltb most_segments count h) refl
+bad_over count room h = yes! _ (lt-ltb most_segments count h) (lt-ltb 1024 count h)
 
 pub bad_within : (count n : ℕ) (room front : List ℕ) (b : Bool) → count ≤ 1024 → n ≡ 6 * count → front ≡ take n room → b ≡ map_bad front → b ≡ list_bad count room
 unfolding list_bad
@@ -114,30 +113,30 @@ module _ (p : Parts) (places bytes : ℕ) (room : List ℕ) (t : Bool) (et : t �
           }
 
 -- ---- what is written
-pub placed_front : (n : ℕ) (l front to to' : List ℕ) → front ≡ take n l → to' ≡ placed front to → to' ≡ placed (take n l) to
-placed_front n l front to to' e p = p ∙ ap (λ (x : List ℕ). placed x to) e
+-- a front of what is read, at the front of what is lent
+put_front : (n : ℕ) (l to t : List ℕ) → n ≤ length l → t ≡ take n l → t ++ drop n to ≡ put (take n l) to
+unfolding put
+put_front n l to t h e =
+    let k : n ≡ length (take n l) = sym (length-take-le n l h) in
+    ap (λ (x : List ℕ). x ++ drop n to) e ∙ ap (λ (j : ℕ). take n l ++ drop j to) k
 
-pub length_front : (n k : ℕ) (l front to : List ℕ) → front ≡ take n l → k ≡ placed_length front to → k ≡ placed_length (take n l) to
-length_front n k l front to e p = p ∙ ap (λ (x : List ℕ). placed_length x to) e
-
-pub give_all : (p : Parts) (n k : ℕ) (room map map' said_all path path' : List ℕ)
-    → 6 * p.count ≤ length room → length room ≤ length map → p.path_len ≤ length said_all → length said_all ≤ length path
-    → n ≡ 6 * p.count → map' ≡ placed (take n room) map → k ≡ placed_length (take p.path_len said_all) path → path' ≡ placed (take p.path_len said_all) path
+pub give_all : (p : Parts) (n : ℕ) (room map front said_all path start : List ℕ)
+    → 6 * p.count ≤ length room → p.path_len ≤ length said_all
+    → n ≡ 6 * p.count → front ≡ take n room → start ≡ take p.path_len said_all
     → Gives p.heads (take p.path_len said_all) (take (6 * p.count) room)
-    (record { number = 0; timescale = p.heads.timescale; rate_num = p.heads.rate_num; rate_den = p.heads.rate_den; frames = p.heads.frames; places = n; path_len = k }) map map' path path'
-give_all p n k room map map' said_all path path' nr l b c en em ek eq =
-    let t : length (take (6 * p.count) room) ≡ 6 * p.count = length-take-le (6 * p.count) room nr in
-    let u : length (take p.path_len said_all) ≡ p.path_len = length-take-le p.path_len said_all b in
+    (record { number = 0; timescale = p.heads.timescale; rate_num = p.heads.rate_num; rate_den = p.heads.rate_den; frames = p.heads.frames; places = n; path_len = p.path_len })
+    map (front ++ drop n map) path (start ++ drop p.path_len path)
+give_all p n room map front said_all path start nr b en em eq =
     record {
       number = refl;
       timescale = refl;
       rate_num = refl;
       rate_den = refl;
       frames = refl;
-      places = en ∙ sym t;
-      numbers = em ∙ ap (λ (j : ℕ). placed (take j room) map) en ∙ placed_yes (take (6 * p.count) room) map (omega arith);
-      path_length = ek ∙ length_yes (take p.path_len said_all) path (omega arith);
-      path_bytes = eq ∙ placed_yes (take p.path_len said_all) path (omega arith);
+      places = en ∙ sym (length-take-le (6 * p.count) room nr);
+      numbers = put_front n room map front (omega arith) em ∙ ap (λ (j : ℕ). put (take j room) map) en;
+      path_length = sym (length-take-le p.path_len said_all b);
+      path_bytes = put_front p.path_len said_all path start b eq;
     }
 
 -- ---- the answer
@@ -167,44 +166,53 @@ unfolding segments_from
 segments_length [] = refl
 segments_length (e ∷ es) = ap suc (segments_length es)
 
-gathered_of : (x : HeadSlots) (input list room room' said said' : List ℕ) (h : Heads) (p l g₁ g : Bool) (count k : ℕ) → h ≡ heads_in x
-    → p ≡ path_said input → ListRead (list_said list) (elements_of 9 list) l count room room' → g₁ ≡ (p && l) → g ≡ (h.good && g₁)
+-- what is gathered, test by test
+module _ (x : HeadSlots) (input list : List ℕ) where
+  pub no_head : heads_good x ≡ false → all_said x input list ≡ false
+  no_head e = ap (λ (t : Bool). t && (path_said input && list_said list)) e
+
+  pub no_path : (f : Bool) → f ≡ path_said input → not f ≡ true → all_said x input list ≡ false
+  no_path f e h = ap (λ (t : Bool). heads_good x && (t && list_said list)) (sym e ∙ not-true f h) ∙ sym (and_false (heads_good x))
+
+  pub no_list : list_said list ≡ false → all_said x input list ≡ false
+  no_list e = ap (λ (t : Bool). heads_good x && (path_said input && t)) e ∙ ap (λ (t : Bool). heads_good x && t) (sym (and_false (path_said input))) ∙ sym (and_false (heads_good x))
+
+lent_list : (list room : List ℕ) → length room ≡ 6 * most_segments → list_said_in (length room) list ≡ list_said list
+unfolding list_said_in
+lent_list list room h = ap (λ (t : Bool). t && list_said list) (eq-eqb (length room) (6 * most_segments) h)
+
+pub no_list_in : (x : HeadSlots) (input list room : List ℕ) → length room ≡ 6 * most_segments → list_said_in (length room) list ≡ false → all_said x input list ≡ false
+no_list_in x input list room h e = no_list x input list (sym (lent_list list room h) ∙ e)
+
+pub gathered_all : (x : HeadSlots) (input list room room' said said' : List ℕ) (h : Heads) (p : Bool) (count k : ℕ) → length room ≡ 6 * most_segments
+    → (heads_good x ≡ true) × (h ≡ heads_in x) → p ≡ path_said input → not p ≡ false
+    → (list_said_in (length room) list ≡ true) × (count ≡ length (elements_of 9 list)) × (count ≤ most_segments → room' ≡ put (flat_of (segments_from (elements_of 9 list))) room)
     → k ≡ placed_length (string_bytes input) said → said' ≡ placed (string_bytes input) said
-    → Gathered x input list (record { good = g; heads = h; count = count; path_len = k }) room room' said said'
-gathered_of x input list room room' said said' h p l g₁ g count k eh ep L e₁ eg ek es =
+    → Gathered x input list (record { heads = h; count = count; path_len = k }) room room' said said'
+gathered_all x input list room room' said said' h p count k f eh ep hp L ek es =
     record {
-      good_is = eg ∙ ap (λ (y : Bool). h.good && y) (e₁ ∙ ap (λ (y : Bool). y && l) ep ∙ ap (λ (y : Bool). path_said input && y) L.good_is);
-      heads_are = eh;
-      count_is = λ z. L.count_is (l_good z);
-      numbers = λ z c. L.numbers (l_good z) c;
+      said_is = ap (λ (t : Bool). t && (path_said input && list_said list)) eh.0 ∙ ap (λ (t : Bool). t && list_said list) (sym ep ∙ not-false p hp) ∙ sym (lent_list list room f) ∙ L.0;
+      heads_are = eh.1;
+      count_is = L.1;
+      numbers = L.2;
       path_length = ek;
       path_bytes = es;
     }
-  where
-    l_good : g ≡ true → l ≡ true
-    l_good z = and_right p l (sym e₁ ∙ and_right h.good g₁ (sym eg ∙ z))
 
-pub gathered_all : (x : HeadSlots) (input list room room' said said' : List ℕ) (h : Heads) (p l g₁ g : Bool) (count k : ℕ) → length room ≡ 6 * most_segments → h ≡ heads_in x
-    → p ≡ path_said input → ListRead (list_said_in (length room) list) (elements_of 9 list) l count room room' → g₁ ≡ (p && l) → g ≡ (h.good && g₁)
-    → k ≡ placed_length (string_bytes input) said → said' ≡ placed (string_bytes input) said
-    → Gathered x input list (record { good = g; heads = h; count = count; path_len = k }) room room' said said'
-gathered_all x input list room room' said said' h p l g₁ g count k f eh ep L e₁ eg ek es =
-    gathered_of x input list room room' said said' h p l g₁ g count k eh ep (list_back list room room' l count f L) e₁ eg ek es
+pub read_23 : (text map path : List ℕ) (r : Taken) → fields_said (members_of 10 (object_of text)) ≡ false → r ≡ none_taken 23 → Reads text r map map path path
+unfolding read_number
+read_23 text map path r k q = refused_all text r map path 23 (λ z. omega arith) q (stops_good 23 _ refl refl (sym (object_says text) ∙ k))
 
 module _ (text room room' said₀ said₁ map path : List ℕ) (p : Parts) (P : PartsOf (members_of 10 (object_of text)) p room room' said₀ said₁) where
   abbrev ms : List Member
   ms = members_of 10 (object_of text)
 
-  text_is : p.good ≡ is_map_text text
-  text_is = P.good_is ∙ object_says text
+  text_is : is_map_text text ≡ true
+  text_is = sym (object_says text) ∙ P.said_is
 
-  pub read_23 : (r : Taken) → not p.good ≡ true → r ≡ none_taken 23 → Reads text r map map path path
-  unfolding read_number
-  read_23 r k q = refused_all text r map path 23 (λ z. omega arith) q (stops_good 23 _ refl text_is (not-true p.good k))
-
-  module _ (k : not p.good ≡ false) (n : ℕ) (a : Asked p (length map) (length path) room' n) where
+  module _ (n : ℕ) (a : Asked p (length map) (length path) room' n) where
     said : fields_said ms ≡ true
-    said = sym P.good_is ∙ not-false p.good k
+    said = P.said_is
 
     H : HeadsOf ms p.heads
     H = P.heads_are
@@ -212,10 +220,10 @@ module _ (text room room' said₀ said₁ map path : List ℕ) (p : Parts) (P : 
     flat_count : length (flat_in ms) ≡ 6 * p.count
     flat_count =
         flat_length (segments_from (elements_of 9 (field_of segments_name ms)))
-        ∙ ap (λ (j : ℕ). 6 * j) (segments_length (elements_of 9 (field_of segments_name ms)) ∙ sym (P.count_is (not-false p.good k)))
+        ∙ ap (λ (j : ℕ). 6 * j) (segments_length (elements_of 9 (field_of segments_name ms)) ∙ sym P.count_is)
 
     flat_front : p.count ≤ most_segments → take (6 * p.count) room' ≡ flat_in ms
-    flat_front c = ap (λ (j : ℕ). take j room') (sym flat_count) ∙ ap (take (length (flat_in ms))) (P.numbers (not-false p.good k) c) ∙ take_put (flat_in ms) room
+    flat_front c = ap (λ (j : ℕ). take j room') (sym flat_count) ∙ ap (take (length (flat_in ms))) (P.numbers c) ∙ take_put (flat_in ms) room
 
     list_bad_is : list_bad p.count room' ≡ map_bad (flat_in ms)
     unfolding list_bad
@@ -234,7 +242,7 @@ module _ (text room room' said₀ said₁ map path : List ℕ) (p : Parts) (P : 
     -- the fields of the object are those of the text
     same : object_of text ≡ bare 11 text
     unfolding object_of is_map_text
-    same = go (utf8 text) (eqb (padded (value_width 11) text) (length text)) (eqb (get_or (bare 11 text) 0 0) 0x7B) (fields_said (fields text)) (sym text_is ∙ not-false p.good k)
+    same = go (utf8 text) (eqb (padded (value_width 11) text) (length text)) (eqb (get_or (bare 11 text) 0 0) 0x7B) (fields_said (fields text)) text_is
       where
         go : (u w o x : Bool) → (u && (w && (o && x))) ≡ true → cond (u && (w && o)) (bare 11 text) [] ≡ bare 11 text
         go true true true x e = refl
@@ -248,7 +256,7 @@ module _ (text room room' said₀ said₁ map path : List ℕ) (p : Parts) (P : 
     number_is : n ≡ read_number text (length map) (length path)
     unfolding read_number map_said
     number_is =
-        goes_good 23 _ n text_is (not-false p.good k)
+        goes_good 23 _ n (sym text_is) refl
         (a.is_number ∙ ap (λ (d : ℕ). ask_number d p.count room' (length map) (length path)) scale_said
         ∙ ap (λ (b : Bool). fault_unless (not (timescale_bad (number_of timescale_name ms))) 15 or_else (fault_unless (not b) 15 or_else (fault_unless (leb (6 * most_segments) (length map)) 16 or_else fault_unless (leb most_path (length path)) 16))) list_bad_is
         ∙ ap (λ (x : List Member). said_number x (length map) (length path)) same_fields)
@@ -266,7 +274,7 @@ module _ (text room room' said₀ said₁ map path : List ℕ) (p : Parts) (P : 
       path_small : p.path_len ≤ most_path
       path_small =
           let w : length (string_bytes (field_of input_name ms)) ≤ most_path = leb-true _ most_path (and_right (eqb (get_or (field_of input_name ms) 0 0) 0x22) _ (good_path ms said)) in
-          let q : p.path_len ≡ length (string_bytes (field_of input_name ms)) = P.path_length (not-false p.good k) in
+          let q : p.path_len ≡ length (string_bytes (field_of input_name ms)) = P.path_length in
           omega arith
 
       pub path_whole : length said₁ ≡ most_path → p.path_len ≤ length said₁
@@ -281,7 +289,7 @@ module _ (text room room' said₀ said₁ map path : List ℕ) (p : Parts) (P : 
           let w : eqb r.number 0 ≡ true = eq-eqb r.number 0 v.number in
           let fl : take (6 * p.count) room' ≡ flat_in (fields text) = flat_front (a.count_fits z) ∙ ap flat_in same_fields in
           let pa : take p.path_len said₁ ≡ string_bytes (field_of input_name (fields text)) =
-          ap (λ (j : ℕ). take j said₁) (P.path_length (not-false p.good k)) ∙ ap (take (length (string_bytes (field_of input_name ms)))) (P.path_bytes (not-false p.good k))
+          ap (λ (j : ℕ). take j said₁) P.path_length ∙ ap (take (length (string_bytes (field_of input_name ms)))) P.path_bytes
           ∙ take_put (string_bytes (field_of input_name ms)) said₀ ∙ ap (λ (x : List Member). string_bytes (field_of input_name x)) same_fields in
           record {
             number = v.number ∙ sym z ∙ number_is;

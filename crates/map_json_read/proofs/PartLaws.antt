@@ -2,40 +2,29 @@
 use mathlib.Core.Path.{◌≡◌, refl, sym, ap, ◌∙◌}
 use mathlib.Core.Bool.{Bool, true, false, ◌&&◌, cond, not}
 use mathlib.Core.List.{List, []}
-use Prim.Native.Nat.{ℕ, zero, suc, ◌+◌, ◌-◌, ◌≤◌, ◌<◌}
+use Prim.Native.Nat.{ℕ, zero, suc, ◌+◌, ◌-◌}
 use native.Mathlib.Omega.{arith}
-use borrow.Author.Tests.{not-true, not-false, eq-eqb, ne_eqb, eqb-true, eqb-false, le-leb, lt-leb}
-use lib.Dec.{eqb, leb}
+use borrow.Author.Tests.{not-true, not-false, eq-eqb, ne_eqb, eqb-true, eqb-false}
+use lib.Dec.{eqb}
 use lib.ListN.{length, take, drop, get_or, length-drop}
 use lib.Seq.{drop-drop, get_or-take}
 use Rattle.spec_text.specs.utf8.Utf8.{utf8}
 use Rattle.spec_json.specs.json.Space.{spaces, padded}
 use Rattle.spec_json.specs.json.Num.{is_plain}
-use Rattle.spec_json.specs.json.Str.{string_bytes}
 use Rattle.spec_json.specs.json.Value.{value_width, row_items}
 use Rattle.spec_json.specs.json.Walk.{item_width, row_of}
 use Rattle.spec_json.specs.json.Member.{Member, bare, members_of, values_of, field_of}
 use Rattle.spec_json.proofs.json.ItemLaws.{value_le, lead_space, item_some}
 use Rattle.spec_json.proofs.json.FrontRows.{members_front, row_object, row_members, no_row}
-use Rattle.spec_map_json.specs.map_json_write.Names.{timescale_name, rate_num_name, rate_den_name, input_name, frames_name, segments_name, most_path}
+use Rattle.spec_map_json.specs.map_json_write.Names.{timescale_name, rate_num_name, rate_den_name, input_name, frames_name, segments_name}
 use Rattle.spec_map_json.specs.map_json_write.Reads.{short, path_said, list_said, shallow, fields_said, is_map_text}
-use Rattle.map_json_read.specs.declared.fields.Heads.{Heads}
 use Rattle.map_json_read.specs.declared.walk.Walk.{Walk}
 use Rattle.map_json_segments.specs.Slots.{gathered}
 use Rattle.map_json_read.specs.Slots.{none_walked, walked_after}
 use Rattle.map_json_segments.specs.Fields.{members_in}
-use Rattle.map_json_read.specs.Walk.{no_walk, walked_of, WalkIn}
-use Rattle.map_json_read.specs.Steps.{object_of, HeadsOf}
+use Rattle.map_json_read.specs.Walk.{walked_of, WalkIn}
+use Rattle.map_json_read.specs.Steps.{object_of}
 use Rattle.spec_base.proofs.base.Laws.{and_left, and_right, and_false}
-use Rattle.spec_json.proofs.json.Tests.{and_yes}
-
--- ---- a path
-module _ (v : List ℕ) (o : Bool) (n : ℕ) (eo : o ≡ eqb (get_or v 0 0) 0x22) (h : not o ≡ false) (en : n ≡ length (string_bytes v)) where
-  pub path_short : n ≤ 1024 → true ≡ path_said v
-  path_short l = and_yes (sym eo ∙ not-false o h) (sym (ap (λ (k : ℕ). leb k most_path) (sym en) ∙ le-leb n most_path l))
-
-  pub path_long : 1024 < n → false ≡ path_said v
-  path_long l = and_yes (sym eo ∙ not-false o h) (sym (ap (λ (k : ℕ). leb k most_path) (sym en) ∙ lt-leb n most_path l))
 
 -- ---- parts of a text
 pub row_is_behind : (text a r : List ℕ) (n : ℕ) → n ≡ spaces text → a ≡ drop n text → r ≡ drop 1 a → r ≡ drop 1 (drop (spaces text) text)
@@ -65,30 +54,8 @@ bare_text s e = go (tests s)
     go true = e
     go false = no_members
 
-none_walked_lem : (s r : List ℕ) (x : Walk) → x ≡ no_walk → members_of 10 (object_of s) ≡ [] → walked_of r x ≡ gathered walked_after none_walked (members_of 10 (object_of s))
-unfolding gathered
-none_walked_lem s r x ex e = ap (walked_of r) ex ∙ sym (ap (gathered walked_after none_walked) e)
-
 -- the object at the head of the text, and what is behind it
-pub begins_raw : (text : List ℕ) (u o : Bool) → u ≡ utf8 text → not u ≡ true → false ≡ (utf8 text && o)
-begins_raw text u o eu h = ap (λ (x : Bool). x && o) (sym (sym eu ∙ not-true u h))
-
-pub begins_as : (text t : List ℕ) (n : ℕ) (u r : Bool) → u ≡ utf8 text → not u ≡ false → n ≡ spaces text → t ≡ drop n text → r ≡ eqb (get_or t 0 0) 0x7B
-    → r ≡ (utf8 text && eqb (get_or (drop (spaces text) text) 0 0) 0x7B)
-begins_as text t n u r eu h en et er =
-    er ∙ ap (λ (x : List ℕ). eqb (get_or x 0 0) 0x7B) (et ∙ ap (λ (j : ℕ). drop j text) en) ∙ ap (λ (x : Bool). x && eqb (get_or (drop (spaces text) text) 0 0) 0x7B) (sym (sym eu ∙ not-false u h))
-
-module _ (s u : List ℕ) (at k : ℕ) (eu : u ≡ drop at s) (ek : k ≡ spaces u) where
-  same : eqb (spaces (drop at s)) (length (drop at s)) ≡ eqb k (length u)
-  same = ap (λ (x : List ℕ). eqb (spaces x) (length x)) (sym eu) ∙ ap (λ (j : ℕ). eqb j (length u)) (sym ek)
-
-  pub ends_yes : k ≡ length u → true ≡ eqb (spaces (drop at s)) (length (drop at s))
-  ends_yes h = sym (same ∙ eq-eqb k (length u) h)
-
-  pub ends_no : (k ≡ length u → ⊥) → false ≡ eqb (spaces (drop at s)) (length (drop at s))
-  ends_no h = sym (same ∙ ne_eqb k (length u) h)
-
-module _ (text s : List ℕ) (es : s ≡ drop 1 (drop (spaces text) text)) (r : Walk) (f : Bool) (ef : f ≡ (utf8 text && eqb (get_or (drop (spaces text) text) 0 0) 0x7B)) where
+module _ (text s : List ℕ) (es : s ≡ drop 1 (drop (spaces text) text)) (f : Bool) (ef : f ≡ (utf8 text && eqb (get_or (drop (spaces text) text) 0 0) 0x7B)) where
   bare_as : bare 11 text ≡ take (value_width 11 (drop (spaces text) text)) (drop (spaces text) text)
   unfolding bare
   bare_as = refl
@@ -100,8 +67,8 @@ module _ (text s : List ℕ) (es : s ≡ drop 1 (drop (spaces text) text)) (r : 
   empty_bare : value_width 11 (drop (spaces text) text) ≡ 0 → members_of 10 (object_of text) ≡ []
   empty_bare e = bare_text text (ap (members_of 10) (bare_as ∙ ap (λ (k : ℕ). take k (drop (spaces text) text)) e) ∙ no_members)
 
-  pub text_other : not f ≡ true → r ≡ no_walk → walked_of s r ≡ gathered walked_after none_walked (members_of 10 (object_of text))
-  text_other h er = none_walked_lem text s r er (go (value_width 11 (drop (spaces text) text)) refl)
+  pub text_other : not f ≡ true → members_of 10 (object_of text) ≡ []
+  text_other h = go (value_width 11 (drop (spaces text) text)) refl
     where
       apart : (u o : Bool) → (u && o) ≡ false → (u && (eqb (padded (value_width 11) text) (length text) && o)) ≡ false
       apart true o e = ap (λ (b : Bool). eqb (padded (value_width 11) text) (length text) && b) e ∙ sym (and_false (eqb (padded (value_width 11) text) (length text)))
@@ -113,30 +80,30 @@ module _ (text s : List ℕ) (es : s ≡ drop 1 (drop (spaces text) text)) (r : 
           empty_text text (ap (λ (b : ℕ). utf8 text && (eqb (padded (value_width 11) text) (length text) && eqb b 0x7B)) (first_byte k e)
           ∙ apart (utf8 text) (eqb (get_or (drop (spaces text) text) 0 0) 0x7B) (sym ef ∙ not-true f h))
 
-  module _ (h : not f ≡ false) (x : Walk) (X : WalkIn s x) where
+  module _ (h : not f ≡ false) where
     clean : utf8 text ≡ true
     clean = and_left (utf8 text) _ (sym ef ∙ not-false f h)
 
     brace : get_or (drop (spaces text) text) 0 0 ≡ 0x7B
     brace = eqb-true _ _ (and_right (utf8 text) _ (sym ef ∙ not-false f h))
 
-    pub text_none : x.whole ≡ 0 → r ≡ no_walk → walked_of s r ≡ gathered walked_after none_walked (members_of 10 (object_of text))
-    text_none z er = none_walked_lem text s r er (go (value_width 11 (drop (spaces text) text)) refl)
+    pub text_none : row_of 10 0x7B s ≡ 0 → members_of 10 (object_of text) ≡ []
+    text_none z = go (value_width 11 (drop (spaces text) text)) refl
       where
         e₀ : row_of 10 0x7B (drop 1 (drop (spaces text) text)) ≡ 0
-        e₀ = ap (row_of 10 0x7B) (sym es) ∙ sym X.whole_is ∙ z
+        e₀ = ap (row_of 10 0x7B) (sym es) ∙ z
 
         go : (k : ℕ) → value_width 11 (drop (spaces text) text) ≡ k → members_of 10 (object_of text) ≡ []
         go zero e = empty_bare e
         go (suc k) e =
             bare_text text (ap (members_of 10) bare_as ∙ members_front 10 (drop (spaces text) text) (value_width 11 (drop (spaces text) text)) k brace e (omega arith) ∙ no_row 10 (drop (spaces text) text) brace k e₀ e)
 
-    module _ (z : x.whole ≡ 0 → ⊥) (g : Bool) (eg : g ≡ eqb (spaces (drop x.whole s)) (length (drop x.whole s))) where
+    module _ (x : Walk) (X : WalkIn s x) (g : Bool) (eg : g ≡ eqb (spaces (drop x.whole s)) (length (drop x.whole s))) where
       row_is : row_of 10 0x7B (drop 1 (drop (spaces text) text)) ≡ suc (x.whole - 1)
-      row_is = let p : x.whole ≡ suc (x.whole - 1) = omega arith in ap (row_of 10 0x7B) (sym es) ∙ sym X.whole_is ∙ p
+      row_is = let z = X.some in let p : x.whole ≡ suc (x.whole - 1) = omega arith in ap (row_of 10 0x7B) (sym es) ∙ sym X.whole_is ∙ p
 
       value_wide : value_width 11 (drop (spaces text) text) ≡ suc x.whole
-      value_wide = row_object 10 (drop (spaces text) text) brace (x.whole - 1) row_is ∙ omega arith
+      value_wide = row_object 10 (drop (spaces text) text) brace (x.whole - 1) row_is ∙ (let z = X.some in omega arith)
 
       last : drop x.whole s ≡ drop (spaces text + suc x.whole) text
       last =
@@ -156,16 +123,16 @@ module _ (text s : List ℕ) (es : s ≡ drop 1 (drop (spaces text) text)) (r : 
           let c : length (drop x.whole s) ≡ length text - (spaces text + suc x.whole) = ap length last ∙ length-drop (spaces text + suc x.whole) text in
           omega (arith, value_wide)
 
-      pub text_more : not g ≡ true → r ≡ no_walk → walked_of s r ≡ gathered walked_after none_walked (members_of 10 (object_of text))
-      text_more q er =
-          let w : spaces (drop x.whole s) ≡ length (drop x.whole s) → ⊥ = eqb-false _ _ (sym eg ∙ not-true g q) in
-          none_walked_lem text s r er (empty_text text (ap (λ (b : Bool). utf8 text && (b && eqb (get_or (bare 11 text) 0 0) 0x7B))
-          (ne_eqb (padded (value_width 11) text) (length text) (λ (p : padded (value_width 11) text ≡ length text). w (omega (arith, p, width_is, size_is)))) ∙ sym (and_false (utf8 text))))
+      pub text_more : g ≡ false → members_of 10 (object_of text) ≡ []
+      text_more q =
+          let w : spaces (drop x.whole s) ≡ length (drop x.whole s) → ⊥ = eqb-false _ _ (sym eg ∙ q) in
+          empty_text text (ap (λ (b : Bool). utf8 text && (b && eqb (get_or (bare 11 text) 0 0) 0x7B))
+          (ne_eqb (padded (value_width 11) text) (length text) (λ (p : padded (value_width 11) text ≡ length text). w (omega (arith, p, width_is, size_is)))) ∙ sym (and_false (utf8 text)))
 
-      pub text_done : not g ≡ false → walked_of s x ≡ gathered walked_after none_walked (members_of 10 (object_of text))
+      pub text_done : g ≡ true → walked_of s x ≡ gathered walked_after none_walked (members_of 10 (object_of text))
       unfolding object_of
       text_done q =
-          let w : spaces (drop x.whole s) ≡ length (drop x.whole s) = eqb-true _ _ (sym eg ∙ not-false g q) in
+          let w : spaces (drop x.whole s) ≡ length (drop x.whole s) = eqb-true _ _ (sym eg ∙ q) in
           let a : tests text ≡ true =
           ap (λ (b : Bool). b && (eqb (padded (value_width 11) text) (length text) && eqb (get_or (bare 11 text) 0 0) 0x7B)) clean
           ∙ ap (λ (b : Bool). b && eqb (get_or (bare 11 text) 0 0) 0x7B) (eq-eqb (padded (value_width 11) text) (length text) (omega (arith, w, width_is, size_is)))
@@ -173,11 +140,15 @@ module _ (text s : List ℕ) (es : s ≡ drop 1 (drop (spaces text) text)) (r : 
           let ms : members_of 10 (object_of text) ≡ members_in 10 s =
           ap (λ (b : Bool). members_of 10 (cond b (bare 11 text) [])) a ∙ ap (members_of 10) bare_as
           ∙ members_front 10 (drop (spaces text) text) (value_width 11 (drop (spaces text) text)) x.whole brace value_wide (omega (arith, value_wide)) ∙ row_members 10 (drop (spaces text) text) brace (x.whole - 1) row_is ∙ ap (members_in 10) (sym es) in
-          X.walked_is z ∙ ap (gathered walked_after none_walked) (sym ms)
+          X.walked_is ∙ ap (gathered walked_after none_walked) (sym ms)
 
 no_object : fields_said (members_of 10 []) ≡ false
 unfolding fields_said members_of row_items spaces field_of values_of is_plain
 no_object = refl
+
+-- what no members say
+pub nothing_said : (ms : List Member) → ms ≡ [] → fields_said ms ≡ false
+nothing_said ms e = ap fields_said (e ∙ sym no_members) ∙ no_object
 
 pub object_says : (s : List ℕ) → fields_said (members_of 10 (object_of s)) ≡ is_map_text s
 unfolding is_map_text object_of
@@ -206,10 +177,6 @@ and_order true true false f s p l = refl
 and_order true false c f s p l = refl
 and_order false b c f s p l = refl
 
-pub fields_all : (ms : List Member) (h : Heads) (input list : List ℕ) (p l g₁ g : Bool) → HeadsOf ms h → input ≡ field_of input_name ms → list ≡ field_of segments_name ms
-    → p ≡ path_said input → l ≡ list_said list → g₁ ≡ (p && l) → g ≡ (h.good && g₁) → g ≡ fields_said ms
+pub fields_all : (ms : List Member) → (((short timescale_name ms && (short rate_num_name ms && short rate_den_name ms)) && (short frames_name ms && shallow ms)) && (path_said (field_of input_name ms) && list_said (field_of segments_name ms))) ≡ fields_said ms
 unfolding fields_said
-fields_all ms h input list p l g₁ g H ei el ep eq e₁ eg =
-    eg ∙ ap (λ (x : Bool). h.good && x) (e₁ ∙ ap (λ (x : Bool). x && l) (ep ∙ ap path_said ei) ∙ ap (λ (x : Bool). path_said (field_of input_name ms) && x) (eq ∙ ap list_said el))
-    ∙ ap (λ (x : Bool). x && (path_said (field_of input_name ms) && list_said (field_of segments_name ms))) H.good_is
-    ∙ and_order (short timescale_name ms) (short rate_num_name ms) (short rate_den_name ms) (short frames_name ms) (shallow ms) (path_said (field_of input_name ms)) (list_said (field_of segments_name ms))
+fields_all ms = and_order (short timescale_name ms) (short rate_num_name ms) (short rate_den_name ms) (short frames_name ms) (shallow ms) (path_said (field_of input_name ms)) (list_said (field_of segments_name ms))

@@ -11,20 +11,19 @@ use Rattle.spec_json.specs.json.Str.{string_bytes}
 use Rattle.spec_json.specs.json.Value.{value_width}
 use Rattle.spec_json.specs.json.Member.{Member, bare, elements_of, field_of}
 use Rattle.spec_map_json.specs.map_json_write.Names.{timescale_name, rate_num_name, rate_den_name, input_name, frames_name, segments_name, most_path}
-use Rattle.spec_map_json.specs.map_json_write.Reads.{short, number_of, shallow, segments_from, path_said, list_said, fields_said}
+use Rattle.spec_map_json.specs.map_json_write.Reads.{number_of, segments_from, path_said, list_said, fields_said}
 use Rattle.map_json_read.specs.declared.fields.Heads.{Heads}
 use Rattle.map_json_read.specs.declared.fields.HeadSlots.{HeadSlots}
 use Rattle.map_json_read.specs.declared.reading.Parts.{Parts}
 use Rattle.spec_map_json.specs.declared.map_json_read.Taken.{Taken}
 use Rattle.map_json_segments.specs.Fields.{field_in}
-use Rattle.map_json_read.specs.Slots.{heads_in}
+use Rattle.map_json_read.specs.Slots.{heads_good, heads_in}
 
 -- the object that a text is; nothing where it is none
 unfoldable pub object_of : List ℕ → List ℕ
 object_of s = cond (utf8 s && (eqb (padded (value_width 11) s) (length s) && eqb (get_or (bare 11 s) 0 0) 0x7B)) (bare 11 s) []
 
 pub record HeadsOf (ms : List Member) (h : Heads) : Type 0 where
-  pub good_is : h.good ≡ ((short timescale_name ms && (short rate_num_name ms && short rate_den_name ms)) && (short frames_name ms && shallow ms))
   pub scale_is : h.timescale ≡ (field_in timescale_name most_frame ms).value
   pub num_is : h.rate_num ≡ (field_in rate_num_name most_frame ms).value
   pub den_is : h.rate_den ≡ (field_in rate_den_name most_frame ms).value
@@ -34,21 +33,25 @@ pub record HeadsOf (ms : List Member) (h : Heads) : Type 0 where
 abbrev pub flat_in : List Member → List ℕ
 flat_in ms = flat_of (segments_from (elements_of 9 (field_of segments_name ms)))
 
+-- whether all is said, of a map's slots, its path's field and its list
+abbrev pub all_said : HeadSlots → (input list : List ℕ) → Bool
+all_said x input list = heads_good x && (path_said input && list_said list)
+
 pub record Gathered (x : HeadSlots) (input list : List ℕ) (p : Parts) (room room' said said' : List ℕ) : Type 0 where
-  pub good_is : p.good ≡ (p.heads.good && (path_said input && list_said list))
+  pub said_is : all_said x input list ≡ true
   pub heads_are : p.heads ≡ heads_in x
-  pub count_is : p.good ≡ true → p.count ≡ length (elements_of 9 list)
-  pub numbers : p.good ≡ true → p.count ≤ most_segments → room' ≡ put (flat_of (segments_from (elements_of 9 list))) room
+  pub count_is : p.count ≡ length (elements_of 9 list)
+  pub numbers : p.count ≤ most_segments → room' ≡ put (flat_of (segments_from (elements_of 9 list))) room
   pub path_length : p.path_len ≡ placed_length (string_bytes input) said
   pub path_bytes : said' ≡ placed (string_bytes input) said
 
 pub record PartsOf (ms : List Member) (p : Parts) (room room' said said' : List ℕ) : Type 0 where
-  pub good_is : p.good ≡ fields_said ms
+  pub said_is : fields_said ms ≡ true
   pub heads_are : HeadsOf ms p.heads
-  pub count_is : p.good ≡ true → p.count ≡ length (elements_of 9 (field_of segments_name ms))
-  pub numbers : p.good ≡ true → p.count ≤ most_segments → room' ≡ put (flat_in ms) room
-  pub path_length : p.good ≡ true → p.path_len ≡ length (string_bytes (field_of input_name ms))
-  pub path_bytes : p.good ≡ true → said' ≡ put (string_bytes (field_of input_name ms)) said
+  pub count_is : p.count ≡ length (elements_of 9 (field_of segments_name ms))
+  pub numbers : p.count ≤ most_segments → room' ≡ put (flat_in ms) room
+  pub path_length : p.path_len ≡ length (string_bytes (field_of input_name ms))
+  pub path_bytes : said' ≡ put (string_bytes (field_of input_name ms)) said
 
 abbrev pub said_number : List Member → (places bytes : ℕ) → ℕ
 said_number ms places bytes =

@@ -1,35 +1,43 @@
 // The fields of a map's text, and the depth of the others.
-ghost use Rattle.std.specs.Prelude.{◌≡◌, ◌||◌, not, cond, eqb};
+ghost use Rattle.std.specs.Prelude.{◌≡◌, true, false, MatchOption};
 ghost use Rattle.spec_json.specs.json.Str.{string_bytes};
 ghost use Rattle.spec_json.specs.json.Value.{is_value};
 ghost use Rattle.spec_map_json.specs.map_json_write.Reads.{path_said};
-ghost use Rattle.map_json_read.specs.Slots.{head_named, no_heads, heads_by, word_of, heads_in};
+ghost use Rattle.map_json_read.specs.Slots.{head_named, head_number, no_heads, heads_by, word_of, heads_good, heads_in};
 
-use map_json_segments::number::{Slot, all_three, both, has_number, no_slot, opens, slot_if};
+use map_json_segments::number::{MOST_FRAME, Slot, number_in, slot_with};
 
-// Which field of a map a key names, 1 to 6; 0: none.
-pub fn head_named(key: &[u8]) -> u64
-    ensures { result ≡ head_named (string_bytes key.now) }
+// The fields of a map.
+#[derive(Clone, Copy, Debug, PartialEq, Eq)]
+pub enum Head {
+    Timescale,
+    RateNum,
+    RateDen,
+    Input,
+    Frames,
+    Segments,
+}
+
+// Which field of a map a key names.
+#[tactic(auto, unfolding(crate::specs::Slots::head_named))]
+pub fn head_named(key: &[u8]) -> Option<Head>
+    ensures { head_number result ≡ head_named (string_bytes key.now) }
 {
     if json_strings::name_is(key, b"video_timescale") {
-        return 1;
+        Some(Head::Timescale)
+    } else if json_strings::name_is(key, b"frame_rate_num") {
+        Some(Head::RateNum)
+    } else if json_strings::name_is(key, b"frame_rate_den") {
+        Some(Head::RateDen)
+    } else if json_strings::name_is(key, b"input") {
+        Some(Head::Input)
+    } else if json_strings::name_is(key, b"total_frames") {
+        Some(Head::Frames)
+    } else if json_strings::name_is(key, b"segments") {
+        Some(Head::Segments)
+    } else {
+        None
     }
-    if json_strings::name_is(key, b"frame_rate_num") {
-        return 2;
-    }
-    if json_strings::name_is(key, b"frame_rate_den") {
-        return 3;
-    }
-    if json_strings::name_is(key, b"input") {
-        return 4;
-    }
-    if json_strings::name_is(key, b"total_frames") {
-        return 5;
-    }
-    if json_strings::name_is(key, b"segments") {
-        return 6;
-    }
-    0
 }
 
 // Whether `s` is one value with nothing around it.
@@ -37,44 +45,25 @@ fn is_value(depth: usize, s: &[u8]) -> bool
     ensures { result ≡ is_value depth s.now }
 {
     let w = json_values::value_width(depth, s);
-    if w == 0 {
-        return false;
-    }
-    w == s.len()
-}
-
-// A known field, or a value that is at most 8 deep.
-fn fits_eight(n: u64, v: &[u8]) -> bool
-    ensures { result ≡ (not (eqb n 0) || is_value 8 v.now) }
-{
-    if n != 0 {
-        return true;
-    }
-    is_value(8, v)
+    w != 0 && w == s.len()
 }
 
 // A path of at most 1,024 bytes.
 pub fn path_good(v: &[u8]) -> bool
     ensures { result ≡ path_said v.now }
 {
-    if !opens(v, 0x22) {
-        return false;
-    }
-    if json_strings::string_size(v) <= 1024 {
-        return true;
-    }
-    false
+    base::get_or(v, 0, 0) == b'"' && json_strings::string_size(v) <= 1024
 }
 
-// The slots of a map's numbers, whether its path and its list were seen (0: not), and whether the members so far are known or at most 8 deep.
+// The slots of a map's numbers, whether its path and its list were seen, and whether the members so far are known or at most 8 deep.
 #[derive(Clone, Copy)]
 pub struct HeadSlots {
     pub timescale: Slot,
     pub rate_num: Slot,
     pub rate_den: Slot,
     pub frames: Slot,
-    pub path: u64,
-    pub list: u64,
+    pub path: bool,
+    pub list: bool,
     pub shallow: bool,
 }
 
@@ -82,45 +71,49 @@ pub fn no_heads() -> HeadSlots
     ensures { result ≡ no_heads }
 {
     HeadSlots {
-        timescale: no_slot(),
-        rate_num: no_slot(),
-        rate_den: no_slot(),
-        frames: no_slot(),
-        path: 0,
-        list: 0,
+        timescale: Slot::Missing,
+        rate_num: Slot::Missing,
+        rate_den: Slot::Missing,
+        frames: Slot::Missing,
+        path: false,
+        list: false,
         shallow: true,
     }
 }
 
-// Whether the field `k` was seen, behind a member whose key names the field `n`.
-fn seen_if(seen: u64, n: u64, k: u64) -> u64
-    ensures { result ≡ cond (eqb n k) 1 seen }
-{
-    if n == k {
-        return 1;
-    }
-    seen
-}
-
 // The slots behind a member whose key names the field `n`.
-pub fn heads_after(x: HeadSlots, n: u64, v: &[u8]) -> HeadSlots
-    ensures { result ≡ heads_by n x v.now }
+pub(crate) fn heads_after(x: HeadSlots, n: Option<Head>, v: &[u8]) -> HeadSlots
+    ensures { result ≡ heads_by (head_number n) x v.now }
 {
-    HeadSlots {
-        timescale: slot_if(x.timescale, n, 1, v, 4294967295),
-        rate_num: slot_if(x.rate_num, n, 2, v, 4294967295),
-        rate_den: slot_if(x.rate_den, n, 3, v, 4294967295),
-        frames: slot_if(x.frames, n, 5, v, 4294967295),
-        path: seen_if(x.path, n, 4),
-        list: seen_if(x.list, n, 6),
-        shallow: both(x.shallow, fits_eight(n, v)),
+    match n {
+        Some(Head::Timescale) => HeadSlots {
+            timescale: slot_with(x.timescale, v, MOST_FRAME),
+            ..x
+        },
+        Some(Head::RateNum) => HeadSlots {
+            rate_num: slot_with(x.rate_num, v, MOST_FRAME),
+            ..x
+        },
+        Some(Head::RateDen) => HeadSlots {
+            rate_den: slot_with(x.rate_den, v, MOST_FRAME),
+            ..x
+        },
+        Some(Head::Input) => HeadSlots { path: true, ..x },
+        Some(Head::Frames) => HeadSlots {
+            frames: slot_with(x.frames, v, MOST_FRAME),
+            ..x
+        },
+        Some(Head::Segments) => HeadSlots { list: true, ..x },
+        None => HeadSlots {
+            shallow: x.shallow && is_value(8, v),
+            ..x
+        },
     }
 }
 
-// The numbers of a map that are no segment's, and whether all are good and no other member is too deep.
-#[derive(Clone, Copy)]
+// The numbers of a map that are no segment's.
+#[derive(Clone, Copy, Debug, PartialEq, Eq)]
 pub struct Heads {
-    pub good: bool,
     pub timescale: u32,
     pub rate_num: u32,
     pub rate_den: u32,
@@ -128,24 +121,24 @@ pub struct Heads {
 }
 
 // A number of 32 bits; 0 where it is larger.
-fn word(x: Slot) -> u32
-    ensures { result ≡ word_of x.value }
+#[tactic(auto, unfolding(crate::specs::Slots::word_of))]
+fn word(n: u64) -> u32
+    ensures { result ≡ word_of n }
 {
-    if 4294967295 < x.value {
-        return 0;
-    }
-    x.value as u32
+    u32::try_from(n).unwrap_or(0)
 }
 
-pub fn heads_of(x: HeadSlots) -> Heads
-    ensures { result ≡ heads_in x }
+// They, where all are there and no other member is too deep.
+pub fn heads_of(x: HeadSlots) -> Option<Heads>
+    ensures { MatchOption result (heads_good x ≡ false) (λ h. (heads_good x ≡ true) × (h ≡ heads_in x)) }
 {
-    let front = all_three(x.timescale, x.rate_num, x.rate_den);
-    Heads {
-        good: both(front, both(has_number(x.frames), x.shallow)),
-        timescale: word(x.timescale),
-        rate_num: word(x.rate_num),
-        rate_den: word(x.rate_den),
-        frames: word(x.frames),
+    if !x.shallow {
+        return None;
     }
+    Some(Heads {
+        timescale: word(number_in(x.timescale)?),
+        rate_num: word(number_in(x.rate_num)?),
+        rate_den: word(number_in(x.rate_den)?),
+        frames: word(number_in(x.frames)?),
+    })
 }

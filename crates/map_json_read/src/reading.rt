@@ -1,24 +1,26 @@
 // A map read.
-ghost use Rattle.std.specs.Prelude.{◌≡◌, ◌*◌, ◌≤◌, length, take, drop};
+ghost use Rattle.std.specs.Prelude.{◌≡◌, ◌*◌, ◌≤◌, false, length, take, drop, MatchOption};
+ghost use Rattle.refusals.specs.Numbers.{number_of, told};
 ghost use Rattle.spec_base.specs.base.Limits.{most_segments};
-ghost use Rattle.spec_base.specs.base.Put.{placed, placed_length};
 ghost use Rattle.spec_json.specs.json.Space.{spaces};
 ghost use Rattle.spec_json.specs.json.Member.{members_of};
 ghost use Rattle.spec_map_json.specs.map_json_write.Names.{most_path};
 ghost use Rattle.spec_map_json.specs.map_json_read.MapRead.{none_taken, Reads};
-ghost use Rattle.map_json_read.specs.Steps.{object_of, Gathered, PartsOf, list_bad, Asked, Gives};
+ghost use Rattle.spec_map_json.specs.map_json_write.Reads.{fields_said};
+ghost use Rattle.map_json_read.specs.Walk.{span_in};
+ghost use Rattle.map_json_read.specs.Steps.{object_of, all_said, Gathered, PartsOf, list_bad, Asked, Gives};
 
 use crate::fields::{HeadSlots, Heads, heads_of, path_good};
-use crate::walk::walk_text;
+use crate::walk::{Span, walk_text};
 use map_json_segments::list::list_into;
-use map_json_segments::number::both;
+use refusals::Refusal;
 use spec_map_json::map_json_read::Taken;
 
-fn refused(number: u32) -> Taken
-    ensures { result ≡ none_taken number }
+fn refused(why: Refusal) -> Taken
+    ensures { result ≡ none_taken (number_of why) }
 {
     Taken {
-        number,
+        number: u32::from(why),
         timescale: 0,
         rate_num: 0,
         rate_den: 0,
@@ -28,29 +30,36 @@ fn refused(number: u32) -> Taken
     }
 }
 
-// What the object of a map says: whether it is one, the numbers that are no segment's, how many segments it has and how long its path is.
+// What the object of a map says: the numbers that are no segment's, how many segments it has and how long its path is.
 #[derive(Clone, Copy)]
 pub struct Parts {
-    pub good: bool,
     pub heads: Heads,
     pub count: usize,
     pub path_len: usize,
 }
 
 // They, of a map's slots, its path's field and its list; the numbers of the segments go to `room`, and the path to `said`.
-fn gather(x: HeadSlots, input: &[u8], list: &[u8], room: &mut [u64], said: &mut [u8]) -> Parts
+fn gather(
+    x: HeadSlots,
+    input: &[u8],
+    list: &[u8],
+    room: &mut [u64],
+    said: &mut [u8],
+) -> Option<Parts>
     requires { length room.old ≡ 6 * most_segments }
-    ensures { Gathered x input.now list.now result room.old room.new said.old said.new }
+    ensures { MatchOption result (all_said x input.now list.now ≡ false) (λ p. Gathered x input.now list.now p room.old room.new said.old said.new) }
 {
-    let h = heads_of(x);
-    let l = list_into(list, room);
-    let k = json_strings::string_bytes(input, said);
-    Parts {
-        good: both(h.good, both(path_good(input), l.good)),
-        heads: h,
-        count: l.count,
-        path_len: k,
+    let heads = heads_of(x)?;
+    if !path_good(input) {
+        return None;
     }
+    let count = list_into(list, room)?;
+    let path_len = json_strings::string_bytes(input, said);
+    Some(Parts {
+        heads,
+        count,
+        path_len,
+    })
 }
 
 // What stands behind the first byte of a text that is no white space.
@@ -60,65 +69,48 @@ fn row_of(text: &[u8]) -> &[u8]
     base::rest(base::rest(text, json_values::spaces(text)), 1)
 }
 
-// The `width` bytes from the place `at` on.
-fn span(s: &[u8], at: usize, width: usize) -> &[u8]
-    ensures { result.now ≡ take width (drop at s.now) }
+// What stands in `s` at `p`.
+fn part<'a>(s: &'a [u8], p: Span) -> &'a [u8]
+    ensures { result.now ≡ span_in s.now p }
 {
-    base::front(base::rest(s, at), width)
+    base::front(base::rest(s, p.at), p.len)
 }
 
 // They, of a text.
-fn parts_of(text: &[u8], room: &mut [u64], said: &mut [u8]) -> Parts
+fn parts_of(text: &[u8], room: &mut [u64], said: &mut [u8]) -> Option<Parts>
     requires { (length room.old ≡ 6 * most_segments) × (length said.old ≡ most_path) }
-    ensures { PartsOf (members_of 10 (object_of text.now)) result room.old room.new said.old said.new }
+    ensures { MatchOption result (fields_said (members_of 10 (object_of text.now)) ≡ false) (λ p. PartsOf (members_of 10 (object_of text.now)) p room.old room.new said.old said.new) }
 {
     let s = row_of(text);
-    let x = walk_text(text, s);
-    let input = span(s, x.path_at, x.path_len);
-    let list = span(s, x.list_at, x.list_len);
-    gather(x.heads, input, list, room, said)
+    let x = walk_text(text, s)?;
+    gather(x.heads, part(s, x.path), part(s, x.list), room, said)
 }
 
 // Whether `count` segments whose numbers stand in `room` break a limit of maps.
 fn list_bad(count: usize, room: &[u64]) -> bool
     ensures { result ≡ list_bad count room.now }
 {
-    if 1024 < count {
-        return true;
-    }
-    segment::map_bad(base::words_front(room, 6 * count))
+    1024 < count || segment::map_bad(base::front(room, 6 * count))
 }
 
 // The number of a text that is a map's: 15, then 16.
-fn said_number(p: Parts, room: &[u64], places: usize, bytes: usize) -> u32
-    ensures { Asked p places bytes room.now result }
+fn said_number(p: Parts, room: &[u64], places: usize, bytes: usize) -> Result<(), Refusal>
+    ensures { Asked p places bytes room.now (told result) }
 {
     let h = p.heads;
     if caption_time::timescale_bad(h.timescale) {
-        return 15;
+        return Err(Refusal::BadMap);
     }
     if list_bad(p.count, room) {
-        return 15;
+        return Err(Refusal::BadMap);
     }
     if places < 6144 {
-        return 16;
+        return Err(Refusal::BadArgument);
     }
     if bytes < 1024 {
-        return 16;
+        return Err(Refusal::BadArgument);
     }
-    0
-}
-
-fn numbers_into(map: &mut [u64], room: &[u64], n: usize)
-    ensures { map.new ≡ placed (take n room.now) map.old }
-{
-    base::words(map, base::words_front(room, n));
-}
-
-fn path_into(path: &mut [u8], said: &[u8], n: usize) -> usize
-    ensures { (result ≡ placed_length (take n said.now) path.old) × (path.new ≡ placed (take n said.now) path.old) }
-{
-    base::bytes(path, base::front(said, n))
+    Ok(())
 }
 
 // What a map says, written: the numbers of its segments stand in `room`, and its path in `said`.
@@ -128,8 +120,8 @@ fn give(p: Parts, said: &[u8], room: &[u64], map: &mut [u64], path: &mut [u8]) -
 {
     let h = p.heads;
     let places = 6 * p.count;
-    numbers_into(map, room, places);
-    let k = path_into(path, said, p.path_len);
+    map[..places].copy_from_slice(&room[..places]);
+    path[..p.path_len].copy_from_slice(&said[..p.path_len]);
     Taken {
         number: 0,
         timescale: h.timescale,
@@ -137,7 +129,7 @@ fn give(p: Parts, said: &[u8], room: &[u64], map: &mut [u64], path: &mut [u8]) -
         rate_den: h.rate_den,
         frames: h.frames,
         places,
-        path_len: k,
+        path_len: p.path_len,
     }
 }
 
@@ -146,15 +138,14 @@ fn give(p: Parts, said: &[u8], room: &[u64], map: &mut [u64], path: &mut [u8]) -
 pub fn read_map(text: &[u8], map: &mut [u64], path: &mut [u8]) -> Taken
     ensures { Reads text.now result map.old map.new path.old path.new }
 {
+    // Kept: (1) no heap: the memory is fixed.
     let mut room = [0u64; 6144];
     let mut said = [0u8; 1024];
-    let p = parts_of(text, &mut room, &mut said);
-    if !p.good {
-        return refused(23);
-    }
-    let n = said_number(p, &room, map.len(), path.len());
-    if n != 0 {
-        return refused(n);
+    let Some(p) = parts_of(text, &mut room, &mut said) else {
+        return refused(Refusal::NoMapText);
+    };
+    if let Err(why) = said_number(p, &room, map.len(), path.len()) {
+        return refused(why);
     }
     give(p, &said, &room, map, path)
 }

@@ -1,17 +1,16 @@
 -- Laws of fields that are numbers.
-use mathlib.Core.Path.{◌≡◌, refl, sym, ap, ◌∙◌}
+use mathlib.Core.Path.{◌≡◌, refl, sym, ap}
 use mathlib.Core.Bool.{Bool, true, false, cond, true≢false}
 use mathlib.Core.List.{List, [], ◌∷◌}
 use Prim.Native.Nat.{ℕ, ◌≤◌}
 use native.Mathlib.Omega.{arith}
-use borrow.Author.Tests.{leb-true, eq-eqb, ne_eqb}
+use borrow.Author.Tests.{leb-true}
 use lib.Dec.{eqb}
 use Rattle.spec_text.specs.text.Number.{value_from, digits}
 use Rattle.spec_json.specs.json.Num.{is_plain}
 use Rattle.map_json_segments.specs.Fields.{field_is}
 use Rattle.spec_base.proofs.base.Laws.{and_right}
 
--- ---- both of two
 -- a plain number is at most its limit
 pub plain_most : (most : ℕ) (s : List ℕ) → is_plain most s ≡ true → value_from 0 s ≤ most
 unfolding is_plain
@@ -27,10 +26,3 @@ field_most most s = go (is_plain most s) refl
 
 pub said_value : (most : ℕ) (s : List ℕ) → is_plain most s ≡ true → (field_is most s).value ≡ value_from 0 s
 said_value most s e = ap (λ (t : Bool). cond t (value_from 0 s) 0) e
-
--- ---- a first byte
-pub opens_yes : (x y b : ℕ) → x ≡ y → x ≡ b → true ≡ eqb y b
-opens_yes x y b e h = sym (eq-eqb y b (sym e ∙ h))
-
-pub opens_no : (x y b : ℕ) → x ≡ y → (x ≡ b → ⊥) → false ≡ eqb y b
-opens_no x y b e h = sym (ne_eqb y b (λ q. h (e ∙ q)))

@@ -4,70 +4,55 @@ use mathlib.Core.Bool.{Bool, true, false, ◌&&◌, cond}
 use mathlib.Core.List.{List, [], ◌∷◌}
 use Prim.Native.Nat.{ℕ}
 use native.Mathlib.Omega.{arith}
-use borrow.Author.Tests.{eq-eqb, ne_eqb}
+use borrow.Author.Tests.{eq-eqb}
 use lib.Dec.{eqb}
 use lib.ListN.{get_or}
+use Rattle.std.specs.Prelude.{Option, Some, None}
 use Rattle.spec_base.specs.base.Limits.{most_frame}
-use Rattle.spec_base.proofs.base.Laws.{yes!, no!, and_assoc, and_left, and_right}
+use Rattle.spec_base.proofs.base.Laws.{and_assoc, and_left, and_right}
 use Rattle.spec_text.specs.pattern.Find.{equals}
 use Rattle.spec_text.specs.text.Number.{value_from}
 use Rattle.spec_map.specs.segment.Segment.{numbers_of}
-use Rattle.spec_json.specs.declared.json.Plain.{Plain}
-use Rattle.spec_json.specs.declared.json.Plain.TheVariants.{Value, Bad}
 use Rattle.spec_json.specs.json.Num.{is_plain}
 use Rattle.spec_json.specs.json.Plain.{plain_of}
 use Rattle.spec_json.specs.json.Str.{string_bytes}
 use Rattle.spec_json.specs.json.Member.{Member, members_of, values_of, single, field_of}
 use Rattle.spec_map_json.specs.map_json_write.Names.{first_name, last_name, source_name, count_name, output_name, duration_name, most_word}
 use Rattle.spec_map_json.specs.map_json_write.Reads.{short, long, segment_said, segment_from}
-use Rattle.map_json_segments.specs.declared.number.Numbers.{Numbers}
 use Rattle.map_json_segments.specs.declared.number.Slot.{Slot}
+use Rattle.map_json_segments.specs.declared.number.Slot.TheVariants.{Missing, Given, Refused}
 use Rattle.map_json_segments.specs.declared.number.Slots.{Slots}
-use Rattle.map_json_segments.specs.Slots.{no_slot, bad_slot, slot_with, field_named, slot_after, no_slots, slots_after, numbers_in, gathered, slots_from}
+use Rattle.map_json_segments.specs.Slots.{is_given, given, slot_with, field_named, slot_after, no_slots, slots_after, all_given, numbers_in, gathered, slots_from}
 use Rattle.map_json_segments.specs.Fields.{Digits, field_is, field_in, six_numbers}
 use Rattle.map_json_segments.proofs.NumberLaws.{said_value}
 use Rattle.map_json_segments.proofs.NameLaws.{field_1, field_2, field_3, field_4, field_5, field_6}
 
--- ---- one value more
-pub slot_over : (most : ℕ) (x : Slot) (v : List ℕ) → (x.state ≡ 0 → ⊥) → bad_slot ≡ slot_with most x v
-unfolding slot_with
-slot_over most x v h = no! _ (ne_eqb x.state 0 h) refl
-
-module _ (most : ℕ) (x : Slot) (v : List ℕ) (p : Plain) (h : x.state ≡ 0) (e : p ≡ plain_of most v) where
-  pub slot_said : (n : ℕ) → p ≡ Value n → ◌≡◌ {A = Slot} (record { state = 1; value = n }) (slot_with most x v)
+-- ---- a first value
+module _ (most : ℕ) (v : List ℕ) (p : Option ℕ) (e : p ≡ plain_of most v) where
+  pub slot_said : (n : ℕ) → p ≡ Some n → Given n ≡ slot_with most Missing v
   unfolding slot_with plain_of
-  slot_said n q = yes! _ (eq-eqb x.state 0 h) (go (is_plain most v) (sym e ∙ q))
+  slot_said n q = go (is_plain most v) (sym e ∙ q)
     where
-      go : (t : Bool) → cond t (Value (value_from 0 v)) Bad ≡ Value n → ◌≡◌ {A = Slot} (record { state = 1; value = n }) (cond t (record { state = 1; value = value_from 0 v }) bad_slot)
-      go true q = ap (λ (k : ℕ). record { state = 1; value = k }) (sym (value_is q))
+      go : (t : Bool) → cond t (Some (value_from 0 v)) None ≡ Some n → Given n ≡ cond t (Given (value_from 0 v)) Refused
+      go true q = ap Given (sym (value_is q))
         where
-          value_is : Value (value_from 0 v) ≡ Value n → value_from 0 v ≡ n
+          value_is : Some (value_from 0 v) ≡ Some n → value_from 0 v ≡ n
           value_is q = cc
       go false q = let z : ◌≡◌ {A = ℕ} 0 1 = cc in absurd (omega arith)
 
-  pub slot_unsaid : p ≡ Bad → bad_slot ≡ slot_with most x v
+  pub slot_unsaid : p ≡ None → Refused ≡ slot_with most Missing v
   unfolding slot_with plain_of
-  slot_unsaid q = yes! _ (eq-eqb x.state 0 h) (go (is_plain most v) (sym e ∙ q))
+  slot_unsaid q = go (is_plain most v) (sym e ∙ q)
     where
-      go : (t : Bool) → cond t (Value (value_from 0 v)) Bad ≡ Bad → bad_slot ≡ cond t (record { state = 1; value = value_from 0 v }) bad_slot
+      go : (t : Bool) → cond t (Some (value_from 0 v)) None ≡ None → Refused ≡ cond t (Given (value_from 0 v)) Refused
       go true q = let z : ◌≡◌ {A = ℕ} 0 1 = cc in absurd (omega arith)
       go false q = refl
 
 -- ---- one member more
-pub if_hit : (most n k : ℕ) (x r : Slot) (v : List ℕ) → n ≡ k → r ≡ slot_with most x v → r ≡ cond (eqb n k) (slot_with most x v) x
-if_hit most n k x r v h e = yes! _ (eq-eqb n k h) e
-
-pub if_miss : (most n k : ℕ) (x : Slot) (v : List ℕ) → (n ≡ k → ⊥) → x ≡ cond (eqb n k) (slot_with most x v) x
-if_miss most n k x v h = no! _ (ne_eqb n k h) refl
-
 -- a slot by the number of its name
 pub by_number : (most n k : ℕ) (x : Slot) (name : List ℕ) (m : Member) → eqb n k ≡ equals name m.name → cond (eqb n k) (slot_with most x m.value) x ≡ slot_after name most x m
 unfolding slot_after
 by_number most n k x name m e = ap (λ (t : Bool). cond t (slot_with most x m.value) x) e
-
-pub none_all : (a b c d e f : Slot) → a ≡ no_slot → b ≡ no_slot → c ≡ no_slot → d ≡ no_slot → e ≡ no_slot → f ≡ no_slot
-    → ◌≡◌ {A = Slots} (record { first = a; last = b; source = c; frames = d; output = e; duration = f }) no_slots
-none_all a b c d e f ea eb ec ed ee ef = λ i. record { first = ea i; last = eb i; source = ec i; frames = ed i; output = ee i; duration = ef i }
 
 pub after_all : (x : Slots) (key v : List ℕ) (n : ℕ) (a b c d e f : Slot) → n ≡ field_named (string_bytes key)
     → a ≡ cond (eqb n 1) (slot_with most_frame x.first v) x.first → b ≡ cond (eqb n 2) (slot_with most_frame x.last v) x.last → c ≡ cond (eqb n 3) (slot_with most_word x.source v) x.source
@@ -86,7 +71,7 @@ after_all x key v n a b c d e f en ea eb ec ed ee ef =
 
 -- ---- what a slot has at the end
 abbrev pub digits_of : Slot → Digits
-digits_of x = record { good = eqb x.state 1; value = x.value }
+digits_of x = record { good = is_given x; value = given x }
 
 module _ (n : List ℕ) (most : ℕ) where
   abbrev slot_from : Slot → List (List ℕ) → Slot
@@ -103,36 +88,36 @@ module _ (n : List ℕ) (most : ℕ) where
       go true ih = ih (slot_with most x m.value)
       go false ih = ih x
 
-  still_bad : (vs : List (List ℕ)) → slot_from bad_slot vs ≡ bad_slot
+  still_bad : (vs : List (List ℕ)) → slot_from Refused vs ≡ Refused
   unfolding slot_with
   still_bad [] = refl
   still_bad (v ∷ vs) = still_bad vs
 
-  twice_bad : (v w : List ℕ) → slot_with most (slot_with most no_slot v) w ≡ bad_slot
+  twice_bad : (v w : List ℕ) → slot_with most (slot_with most Missing v) w ≡ Refused
   unfolding slot_with
   twice_bad v w = go (is_plain most v)
     where
-      go : (t : Bool) → cond (eqb (cond t (record { state = 1; value = value_from 0 v }) bad_slot).state 0) (cond (is_plain most w) (record { state = 1; value = value_from 0 w }) bad_slot) bad_slot ≡ bad_slot
+      go : (t : Bool) → slot_with most (cond t (Given (value_from 0 v)) Refused) w ≡ Refused
       go true = refl
       go false = refl
 
-  once : (v : List ℕ) → digits_of (slot_with most no_slot v) ≡ field_is most v
+  once : (v : List ℕ) → digits_of (slot_with most Missing v) ≡ field_is most v
   unfolding slot_with
   once v = go (is_plain most v)
     where
-      go : (t : Bool) → ◌≡◌ {A = Digits} (digits_of (cond t (record { state = 1; value = value_from 0 v }) bad_slot)) (record { good = t; value = cond t (value_from 0 v) 0 })
+      go : (t : Bool) → ◌≡◌ {A = Digits} (digits_of (cond t (Given (value_from 0 v)) Refused)) (record { good = t; value = cond t (value_from 0 v) 0 })
       go true = refl
       go false = refl
 
-  by_single : (vs : List (List ℕ)) → digits_of (slot_from no_slot vs) ≡ field_is most (single vs)
+  by_single : (vs : List (List ℕ)) → digits_of (slot_from Missing vs) ≡ field_is most (single vs)
   unfolding is_plain
   by_single [] = refl
   by_single (v ∷ []) = once v
   by_single (v ∷ w ∷ vs) = ap (λ (x : Slot). digits_of (slot_from x vs)) (twice_bad v w) ∙ ap digits_of (still_bad vs)
 
-  pub slot_field : (ms : List Member) → digits_of (gathered (slot_after n most) no_slot ms) ≡ field_in n most ms
+  pub slot_field : (ms : List Member) → digits_of (gathered (slot_after n most) Missing ms) ≡ field_in n most ms
   unfolding field_of
-  slot_field ms = ap digits_of (by_values no_slot ms) ∙ by_single (values_of n ms)
+  slot_field ms = ap digits_of (by_values Missing ms) ∙ by_single (values_of n ms)
 
 -- one part of several
 pub part : {S T : Type 0} (after : S → Member → S) (one : T → Member → T) (get : S → T) → ((x : S) (m : Member) → get (after x m) ≡ one (get x) m)
@@ -167,17 +152,14 @@ module _ (ms : List Member) (x : Slots) (e : x ≡ slots_from no_slots ms) where
   duration_is = ap (λ (y : Slots). digits_of y.duration) e ∙ ap digits_of (part slots_after (slot_after duration_name most_word) (λ (y : Slots). y.duration) (λ y m. refl) no_slots ms) ∙ slot_field duration_name most_word ms
 
 -- ---- the six numbers of a segment
-pub three_all : (A B C a b c g₁ g : Bool) → a ≡ A → b ≡ B → c ≡ C → g₁ ≡ (b && c) → g ≡ (a && g₁) → g ≡ (A && (B && C))
-three_all A B C a b c g₁ g ea eb ec e₁ eg = cc
-
 and_six : (a b c d : Bool) → ((a && (b && c)) && d) ≡ (a && (b && (c && d)))
 and_six true b c d = and_assoc b c d
 and_six false b c d = refl
 
-pub good_of : (x : Slot) (y : Digits) → digits_of x ≡ y → eqb x.state 1 ≡ y.good
+pub good_of : (x : Slot) (y : Digits) → digits_of x ≡ y → is_given x ≡ y.good
 good_of x y e = ap (λ (d : Digits). d.good) e
 
-pub value_of : (x : Slot) (y : Digits) → digits_of x ≡ y → x.value ≡ y.value
+pub value_of : (x : Slot) (y : Digits) → digits_of x ≡ y → given x ≡ y.value
 value_of x y e = ap (λ (d : Digits). d.value) e
 
 all_six : (O a b c d e f o p q g₁ g A B C D E F : Bool) → a ≡ A → b ≡ B → c ≡ C → d ≡ D → e ≡ E → f ≡ F → p ≡ (a && (b && c)) → q ≡ (d && (e && f)) → o ≡ O → g₁ ≡ (p && q) → g ≡ (o && g₁)
@@ -185,38 +167,30 @@ all_six : (O a b c d e f o p q g₁ g A B C D E F : Bool) → a ≡ A → b ≡ 
 all_six O a b c d e f o p q g₁ g A B C D E F ea eb ec ed ee ef ep eq eo e₁ eg =
     let w : ((A && (B && C)) && (D && (E && F))) ≡ (A && (B && (C && (D && (E && F))))) = and_six A B C (D && (E && F)) in cc
 
-pub numbers_all_lem : (x : Slots) (p q g : Bool) (w : ℕ) → p ≡ (eqb x.first.state 1 && (eqb x.last.state 1 && eqb x.source.state 1))
-    → q ≡ (eqb x.frames.state 1 && (eqb x.output.state 1 && eqb x.duration.state 1)) → g ≡ (p && q)
-    → ◌≡◌ {A = Numbers} (record { good = g; first = x.first.value; last = x.last.value; source = x.source.value; frames = x.frames.value; output = x.output.value; duration = x.duration.value; whole = w }) (numbers_in x w)
-unfolding numbers_in
-numbers_all_lem x p q g w ep eq eg =
-    let z : g ≡ ((eqb x.first.state 1 && (eqb x.last.state 1 && eqb x.source.state 1)) && (eqb x.frames.state 1 && (eqb x.output.state 1 && eqb x.duration.state 1))) = cc in
-    λ i. record { good = z i; first = x.first.value; last = x.last.value; source = x.source.value; frames = x.frames.value; output = x.output.value; duration = x.duration.value; whole = w }
-
 module _ (v : List ℕ) (x : Slots) (ex : x ≡ slots_from no_slots (members_of 8 v)) where
   abbrev ms : List Member
   ms = members_of 8 v
 
-  pub good_numbers : (w : ℕ) → get_or v 0 0 ≡ 0x7B → (numbers_in x w).good ≡ segment_said v
-  unfolding segment_said numbers_in
-  good_numbers w b =
+  pub good_numbers : get_or v 0 0 ≡ 0x7B → all_given x ≡ segment_said v
+  unfolding segment_said
+  good_numbers b =
       all_six (eqb (get_or v 0 0) 0x7B) _ _ _ _ _ _ true _ _ _ _ _ _ _ _ _ _
       (good_of x.first (field_in first_name most_frame ms) (first_is ms x ex)) (good_of x.last (field_in last_name most_frame ms) (last_is ms x ex)) (good_of x.source (field_in source_name most_word ms) (source_is ms x ex))
       (good_of x.frames (field_in count_name most_frame ms) (frames_is ms x ex)) (good_of x.output (field_in output_name most_word ms) (output_is ms x ex)) (good_of x.duration (field_in duration_name most_word ms) (duration_is ms x ex))
       refl refl (sym (eq-eqb (get_or v 0 0) 0x7B b)) refl refl
 
-  pub six_numbers_lem : (w : ℕ) → segment_said v ≡ true → six_numbers (numbers_in x w) ≡ numbers_of (segment_from v)
-  unfolding segment_said numbers_in segment_from
-  six_numbers_lem w e =
+  pub six_numbers_lem : segment_said v ≡ true → six_numbers (numbers_in x) ≡ numbers_of (segment_from v)
+  unfolding segment_said segment_from
+  six_numbers_lem e =
       let a = and_right (eqb (get_or v 0 0) 0x7B) _ e in
       let b = and_right (short first_name ms) _ a in
       let c = and_right (short last_name ms) _ b in
       let d = and_right (long source_name ms) _ c in
       let f = and_right (short count_name ms) _ d in
-      let p₁ : x.first.value ≡ value_from 0 (field_of first_name ms) = value_of x.first (field_in first_name most_frame ms) (first_is ms x ex) ∙ said_value most_frame (field_of first_name ms) (and_left (short first_name ms) _ a) in
-      let p₂ : x.last.value ≡ value_from 0 (field_of last_name ms) = value_of x.last (field_in last_name most_frame ms) (last_is ms x ex) ∙ said_value most_frame (field_of last_name ms) (and_left (short last_name ms) _ b) in
-      let p₃ : x.source.value ≡ value_from 0 (field_of source_name ms) = value_of x.source (field_in source_name most_word ms) (source_is ms x ex) ∙ said_value most_word (field_of source_name ms) (and_left (long source_name ms) _ c) in
-      let p₄ : x.frames.value ≡ value_from 0 (field_of count_name ms) = value_of x.frames (field_in count_name most_frame ms) (frames_is ms x ex) ∙ said_value most_frame (field_of count_name ms) (and_left (short count_name ms) _ d) in
-      let p₅ : x.output.value ≡ value_from 0 (field_of output_name ms) = value_of x.output (field_in output_name most_word ms) (output_is ms x ex) ∙ said_value most_word (field_of output_name ms) (and_left (long output_name ms) _ f) in
-      let p₆ : x.duration.value ≡ value_from 0 (field_of duration_name ms) = value_of x.duration (field_in duration_name most_word ms) (duration_is ms x ex) ∙ said_value most_word (field_of duration_name ms) (and_right (long output_name ms) _ f) in
+      let p₁ : given x.first ≡ value_from 0 (field_of first_name ms) = value_of x.first (field_in first_name most_frame ms) (first_is ms x ex) ∙ said_value most_frame (field_of first_name ms) (and_left (short first_name ms) _ a) in
+      let p₂ : given x.last ≡ value_from 0 (field_of last_name ms) = value_of x.last (field_in last_name most_frame ms) (last_is ms x ex) ∙ said_value most_frame (field_of last_name ms) (and_left (short last_name ms) _ b) in
+      let p₃ : given x.source ≡ value_from 0 (field_of source_name ms) = value_of x.source (field_in source_name most_word ms) (source_is ms x ex) ∙ said_value most_word (field_of source_name ms) (and_left (long source_name ms) _ c) in
+      let p₄ : given x.frames ≡ value_from 0 (field_of count_name ms) = value_of x.frames (field_in count_name most_frame ms) (frames_is ms x ex) ∙ said_value most_frame (field_of count_name ms) (and_left (short count_name ms) _ d) in
+      let p₅ : given x.output ≡ value_from 0 (field_of output_name ms) = value_of x.output (field_in output_name most_word ms) (output_is ms x ex) ∙ said_value most_word (field_of output_name ms) (and_left (long output_name ms) _ f) in
+      let p₆ : given x.duration ≡ value_from 0 (field_of duration_name ms) = value_of x.duration (field_in duration_name most_word ms) (duration_is ms x ex) ∙ said_value most_word (field_of duration_name ms) (and_right (long output_name ms) _ f) in
       λ i. p₁ i ∷ p₂ i ∷ p₃ i ∷ p₄ i ∷ p₅ i ∷ p₆ i ∷ []

@@ -1,5 +1,5 @@
 -- The numbers of a text's fields as the reader gathers them.
-use Rattle.std.specs.Prelude.{◌≡◌, ℕ, Bool, true, cond, List, [], ◌∷◌, take}
+use Rattle.std.specs.Prelude.{◌≡◌, ℕ, Bool, true, false, cond, MatchOption, Option, List, [], ◌∷◌, take}
 use Rattle.spec_map.specs.segment.Segment.{numbers_of}
 use Rattle.spec_text.specs.text.Number.{value_from}
 use Rattle.spec_json.specs.json.Num.{is_plain}
@@ -7,10 +7,11 @@ use Rattle.spec_json.specs.json.Value.{value_width}
 use Rattle.spec_json.specs.json.Walk.{item_width, items_of, row_of}
 use Rattle.spec_json.specs.json.Member.{Member, bare, member_of, member_all, field_of}
 use Rattle.spec_map_json.specs.map_json_write.Reads.{segment_said, segment_from}
-use Rattle.map_json_segments.specs.declared.number.Numbers.{Numbers}
+use Rattle.map_json_segments.specs.declared.number.Six.{Six}
 use Rattle.map_json_segments.specs.declared.number.Slots.{Slots}
 use Rattle.map_json_segments.specs.declared.number.Found.{Found}
-use Rattle.map_json_segments.specs.Slots.{no_slots, slots_after, numbers_in, slots_from}
+use Rattle.map_json_segments.specs.declared.number.Element.{Element}
+use Rattle.map_json_segments.specs.Slots.{no_slots, slots_after, slots_from}
 
 pub record Digits : Type 0 where
   pub good : Bool
@@ -24,27 +25,28 @@ abbrev pub field_in : (name : List ℕ) → (most : ℕ) → List Member → Dig
 field_in n most ms = field_is most (field_of n ms)
 
 -- the six numbers of a segment
-abbrev pub six_numbers : Numbers → List ℕ
+abbrev pub six_numbers : Six → List ℕ
 six_numbers x = x.first ∷ x.last ∷ x.source ∷ x.frames ∷ x.output ∷ x.duration ∷ []
 
 -- the slots behind the first member of the row t, and behind all members of the row s
 abbrev pub members_in : (d : ℕ) → List ℕ → List Member
 members_in d t = member_all d (items_of d 0x7B t)
 
-pub record MemberIn (x : Slots) (t : List ℕ) (r : Found) : Type 0 where
-  pub width_is : r.width ≡ item_width 0x7B (value_width 8) t
-  pub slots_are : (r.width ≡ 0 → ⊥) → r.slots ≡ slots_after x (member_of 8 (take r.width t))
+pub record MemberIn (x : Slots) (t : List ℕ) (f : Found) : Type 0 where
+  pub width_is : f.width ≡ item_width 0x7B (value_width 8) t
+  pub some : f.width ≡ 0 → ⊥
+  pub slots_are : f.slots ≡ slots_after x (member_of 8 (take f.width t))
 
-pub record SlotsIn (s : List ℕ) (r : Found) : Type 0 where
-  pub width_is : r.width ≡ row_of 8 0x7B s
-  pub slots_are : (r.width ≡ 0 → ⊥) → r.slots ≡ slots_from no_slots (members_in 8 s)
+pub record SlotsIn (s : List ℕ) (f : Found) : Type 0 where
+  pub width_is : f.width ≡ row_of 8 0x7B s
+  pub some : f.width ≡ 0 → ⊥
+  pub slots_are : f.slots ≡ slots_from no_slots (members_in 8 s)
 
-pub record SixIn (s : List ℕ) (x : Numbers) : Type 0 where
-  pub whole_is : x.whole ≡ row_of 8 0x7B s
-  pub six_are : (x.whole ≡ 0 → ⊥) → x ≡ numbers_in (slots_from no_slots (members_in 8 s)) x.whole
+-- the first item of the row t: its width, and its six numbers where it is a segment
+abbrev pub SixOf : (v : List ℕ) → Option Six → Type 0
+SixOf v r = MatchOption r (segment_said v ≡ false) (λ x. (segment_said v ≡ true) × (six_numbers x ≡ numbers_of (segment_from v)))
 
--- the first segment of the row t
-pub record SegmentIn (t : List ℕ) (x : Numbers) : Type 0 where
-  pub whole_is : x.whole ≡ item_width 0x5B (value_width 9) t
-  pub good_is : (x.whole ≡ 0 → ⊥) → x.good ≡ segment_said (bare 9 (take x.whole t))
-  pub six_are : (x.whole ≡ 0 → ⊥) → x.good ≡ true → six_numbers x ≡ numbers_of (segment_from (bare 9 (take x.whole t)))
+pub record ItemIn (t : List ℕ) (x : Element) : Type 0 where
+  pub width_is : x.width ≡ item_width 0x5B (value_width 9) t
+  pub some : x.width ≡ 0 → ⊥
+  pub six_are : SixOf (bare 9 (take x.width t)) x.six

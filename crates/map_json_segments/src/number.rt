@@ -1,77 +1,71 @@
 // Fields that are numbers, and the six of a segment.
-ghost use Rattle.std.specs.Prelude.{◌≡◌, ◌&&◌, cond, eqb, get_or};
+ghost use Rattle.std.specs.Prelude.{◌≡◌, ◌≢◌, true, false, None, MatchOption};
 ghost use Rattle.spec_json.specs.json.Str.{string_bytes};
-ghost use Rattle.map_json_segments.specs.Slots.{no_slot, no_slots, slot_with, field_named, slots_after, numbers_in, no_numbers, widened_by};
-ghost use Rattle.map_json_segments.specs.Fields.{MemberIn, SlotsIn, SixIn, SegmentIn};
+ghost use Rattle.spec_json.specs.json.Value.{value_width};
+ghost use Rattle.spec_json.specs.json.Walk.{item_width, row_of};
+ghost use Rattle.map_json_segments.specs.declared.number.Slot.TheVariants.{Missing};
+ghost use Rattle.map_json_segments.specs.Slots.{no_slots, is_given, given, slot_with, field_named, field_number, slots_after, all_given, numbers_in};
+ghost use Rattle.map_json_segments.specs.Fields.{MemberIn, SlotsIn, ItemIn};
 
-use json_values::Plain;
+// The largest number of 32 bits.
+pub const MOST_FRAME: u64 = u32::MAX as u64;
 
-// The largest number of 64 bits.
-pub const MOST_WORD: u64 = 18446744073709551615;
-
-// The numbers of a segment, where all are good, and the width of its item; 0: none.
-#[derive(Clone, Copy)]
-pub struct Numbers {
-    pub good: bool,
-    pub first: u64,
-    pub last: u64,
-    pub source: u64,
-    pub frames: u64,
-    pub output: u64,
-    pub duration: u64,
-    pub whole: usize,
+// What stands of a field so far.
+// Kept: (4) three cases: an Option of an Option would not say which is which.
+#[derive(Clone, Copy, Debug, PartialEq, Eq)]
+pub enum Slot {
+    // No value.
+    Missing,
+    // One value, a number.
+    Given(u64),
+    // A value that is no number, or more than one.
+    Refused,
 }
 
-pub fn both(a: bool, b: bool) -> bool
-    ensures { result ≡ (a && b) }
+// A field's number, where it has one.
+pub fn number_in(x: Slot) -> Option<u64>
+    ensures { MatchOption result (is_given x ≡ false) (λ n. (is_given x ≡ true) × (n ≡ given x)) }
 {
-    if a {
-        return b;
+    match x {
+        Slot::Given(n) => Some(n),
+        Slot::Missing | Slot::Refused => None,
     }
-    false
-}
-
-// Whether `s` begins with this byte.
-pub fn opens(s: &[u8], b: u8) -> bool
-    ensures { result ≡ eqb (get_or s.now 0 0) b }
-{
-    if base::byte(s, 0) == b {
-        return true;
-    }
-    false
-}
-
-// What stands of a field so far: 0 nothing, 1 a number, 2 no number or more than one value.
-#[derive(Clone, Copy)]
-pub struct Slot {
-    pub state: u64,
-    pub value: u64,
 }
 
 // A field's slot, with one value more.
-fn slot_with(x: Slot, v: &[u8], most: u64) -> Slot
+#[tactic(auto, unfolding(crate::specs::Slots::slot_with))]
+pub fn slot_with(x: Slot, v: &[u8], most: u64) -> Slot
     ensures { result ≡ slot_with most x v.now }
 {
-    if x.state != 0 {
-        return Slot { state: 2, value: 0 };
-    }
-    match json_values::plain_value(v, most) {
-        Plain::Value(n) => Slot { state: 1, value: n },
-        Plain::Bad => Slot { state: 2, value: 0 },
+    match x {
+        Slot::Missing => slot_of(v, most),
+        Slot::Given(_) | Slot::Refused => Slot::Refused,
     }
 }
 
-// A field's slot behind a member whose key names the field `n`.
-pub fn slot_if(x: Slot, n: u64, k: u64, v: &[u8], most: u64) -> Slot
-    ensures { result ≡ cond (eqb n k) (slot_with most x v.now) x }
+// The slot of a first value.
+#[tactic(auto, unfolding(crate::specs::Slots::slot_with))]
+fn slot_of(v: &[u8], most: u64) -> Slot
+    ensures { result ≡ slot_with most Missing v.now }
 {
-    if n == k {
-        return slot_with(x, v, most);
+    match json_values::plain_value(v, most) {
+        Some(n) => Slot::Given(n),
+        None => Slot::Refused,
     }
-    x
 }
 
-// The slots of a segment's fields.
+// The fields of a segment.
+#[derive(Clone, Copy, Debug, PartialEq, Eq)]
+enum Field {
+    First,
+    Last,
+    Source,
+    Frames,
+    Output,
+    Duration,
+}
+
+// Their slots.
 #[derive(Clone, Copy)]
 pub struct Slots {
     pub first: Slot,
@@ -82,66 +76,75 @@ pub struct Slots {
     pub duration: Slot,
 }
 
-pub fn no_slot() -> Slot
-    ensures { result ≡ no_slot }
-{
-    Slot { state: 0, value: 0 }
-}
-
 fn no_slots() -> Slots
     ensures { result ≡ no_slots }
 {
     Slots {
-        first: no_slot(),
-        last: no_slot(),
-        source: no_slot(),
-        frames: no_slot(),
-        output: no_slot(),
-        duration: no_slot(),
+        first: Slot::Missing,
+        last: Slot::Missing,
+        source: Slot::Missing,
+        frames: Slot::Missing,
+        output: Slot::Missing,
+        duration: Slot::Missing,
     }
 }
 
-// Which field of a segment a key names, 1 to 6; 0: none.
-fn field_named(key: &[u8]) -> u64
-    ensures { result ≡ field_named (string_bytes key.now) }
+// Which field of a segment a key names.
+#[tactic(auto, unfolding(crate::specs::Slots::field_named))]
+fn field_named(key: &[u8]) -> Option<Field>
+    ensures { field_number result ≡ field_named (string_bytes key.now) }
 {
     if json_strings::name_is(key, b"source_start_frame") {
-        return 1;
+        Some(Field::First)
+    } else if json_strings::name_is(key, b"source_end_frame") {
+        Some(Field::Last)
+    } else if json_strings::name_is(key, b"source_start_dts") {
+        Some(Field::Source)
+    } else if json_strings::name_is(key, b"frame_count") {
+        Some(Field::Frames)
+    } else if json_strings::name_is(key, b"output_start") {
+        Some(Field::Output)
+    } else if json_strings::name_is(key, b"duration") {
+        Some(Field::Duration)
+    } else {
+        None
     }
-    if json_strings::name_is(key, b"source_end_frame") {
-        return 2;
-    }
-    if json_strings::name_is(key, b"source_start_dts") {
-        return 3;
-    }
-    if json_strings::name_is(key, b"frame_count") {
-        return 4;
-    }
-    if json_strings::name_is(key, b"output_start") {
-        return 5;
-    }
-    if json_strings::name_is(key, b"duration") {
-        return 6;
-    }
-    0
 }
 
 // A segment's slots behind a member.
 fn slots_after(x: Slots, key: &[u8], v: &[u8]) -> Slots
     ensures { result ≡ slots_after x (record { name = string_bytes key.now; value = v.now }) }
 {
-    let n = field_named(key);
-    Slots {
-        first: slot_if(x.first, n, 1, v, 4294967295),
-        last: slot_if(x.last, n, 2, v, 4294967295),
-        source: slot_if(x.source, n, 3, v, MOST_WORD),
-        frames: slot_if(x.frames, n, 4, v, 4294967295),
-        output: slot_if(x.output, n, 5, v, MOST_WORD),
-        duration: slot_if(x.duration, n, 6, v, MOST_WORD),
+    match field_named(key) {
+        Some(Field::First) => Slots {
+            first: slot_with(x.first, v, MOST_FRAME),
+            ..x
+        },
+        Some(Field::Last) => Slots {
+            last: slot_with(x.last, v, MOST_FRAME),
+            ..x
+        },
+        Some(Field::Source) => Slots {
+            source: slot_with(x.source, v, u64::MAX),
+            ..x
+        },
+        Some(Field::Frames) => Slots {
+            frames: slot_with(x.frames, v, MOST_FRAME),
+            ..x
+        },
+        Some(Field::Output) => Slots {
+            output: slot_with(x.output, v, u64::MAX),
+            ..x
+        },
+        Some(Field::Duration) => Slots {
+            duration: slot_with(x.duration, v, u64::MAX),
+            ..x
+        },
+        None => x,
     }
 }
 
-// The slots behind members, and how wide these are; 0: they are none.
+// The slots behind members, and how wide these are.
 #[derive(Clone, Copy)]
 pub struct Found {
     pub slots: Slots,
@@ -149,139 +152,105 @@ pub struct Found {
 }
 
 // The slots behind the first member of the row `t`.
-fn member_in(x: Slots, t: &[u8]) -> Found
-    ensures { MemberIn x t.now result }
+fn member_in(x: Slots, t: &[u8]) -> Option<Found>
+    ensures { MatchOption result (item_width 0x7B (value_width 8) t.now ≡ 0) (λ f. MemberIn x t.now f) }
 {
-    let p = json_values::item_parts(8, 0x7B, t);
+    let p = json_values::item_parts(8, b'{', t);
     if p.whole == 0 {
-        return Found { slots: x, width: 0 };
+        return None;
     }
     let v = base::front(base::rest(t, p.lead), p.width);
-    let y = slots_after(x, base::rest(t, json_values::spaces(t)), v);
-    Found {
-        slots: y,
+    let slots = slots_after(x, base::rest(t, json_values::spaces(t)), v);
+    Some(Found {
+        slots,
         width: p.whole,
-    }
+    })
 }
 
 // The slots behind all members of the row `s`, with the byte that closes it.
-fn slots_in(s: &[u8]) -> Found
-    ensures { SlotsIn s.now result }
+// Kept: no iterator is plainer than the place `at` here, since each step is as wide as its member.
+fn slots_in(s: &[u8]) -> Option<Found>
+    ensures { MatchOption result (row_of 8 0x7B s.now ≡ 0) (λ f. SlotsIn s.now f) }
 {
     let mut x = no_slots();
     let mut at = 0;
     while at < s.len() {
         let t = base::rest(s, at);
-        let m = member_in(x, t);
-        let k = m.width;
-        if k == 0 {
-            return Found { slots: x, width: 0 };
+        let m = member_in(x, t)?;
+        match base::get_or(t, m.width, 0) {
+            b',' => at = at + m.width + 1,
+            b'}' => {
+                return Some(Found {
+                    slots: m.slots,
+                    width: at + m.width + 1,
+                });
+            }
+            _ => return None,
         }
-        let y = m.slots;
-        let b = base::byte(t, k);
-        if b == 0x7D {
-            let width = at + k + 1;
-            return Found { slots: y, width };
-        }
-        if b != 0x2C {
-            return Found { slots: x, width: 0 };
-        }
-        x = y;
-        at = at + k + 1;
+        x = m.slots;
     }
-    Found { slots: x, width: 0 }
+    None
 }
 
-// Whether a slot has a number.
-pub fn has_number(x: Slot) -> bool
-    ensures { result ≡ eqb x.state 1 }
-{
-    x.state == 1
+// The numbers of a segment.
+#[derive(Clone, Copy, Debug, PartialEq, Eq)]
+pub struct Six {
+    pub first: u64,
+    pub last: u64,
+    pub source: u64,
+    pub frames: u64,
+    pub output: u64,
+    pub duration: u64,
 }
 
-pub fn all_three(a: Slot, b: Slot, c: Slot) -> bool
-    ensures { result ≡ (eqb a.state 1 && (eqb b.state 1 && eqb c.state 1)) }
+// The numbers in a segment's slots, where all are there.
+fn six_in(x: Slots) -> Option<Six>
+    ensures { MatchOption result (all_given x ≡ false) (λ y. (all_given x ≡ true) × (y ≡ numbers_in x)) }
 {
-    both(has_number(a), both(has_number(b), has_number(c)))
+    Some(Six {
+        first: number_in(x.first)?,
+        last: number_in(x.last)?,
+        source: number_in(x.source)?,
+        frames: number_in(x.frames)?,
+        output: number_in(x.output)?,
+        duration: number_in(x.duration)?,
+    })
 }
 
-// The numbers in a segment's slots.
-fn numbers_of(x: Slots, whole: usize) -> Numbers
-    ensures { result ≡ numbers_in x whole }
+// An item of the list: how wide it is, and its numbers where it is a segment.
+#[derive(Clone, Copy, Debug, PartialEq, Eq)]
+pub struct Element {
+    pub six: Option<Six>,
+    pub width: usize,
+}
+
+// An item that is no segment.
+fn other_in(t: &[u8]) -> Option<Element>
+    ensures { MatchOption result (item_width 0x5B (value_width 9) t.now ≡ 0) (λ x. (x.six ≡ None) × (x.width ≡ item_width 0x5B (value_width 9) t.now) × (x.width ≢ 0)) }
 {
-    let front = all_three(x.first, x.last, x.source);
-    let back = all_three(x.frames, x.output, x.duration);
-    let a = x.first;
-    let b = x.last;
-    let c = x.source;
-    let d = x.frames;
-    let e = x.output;
-    let f = x.duration;
-    Numbers {
-        good: both(front, back),
-        first: a.value,
-        last: b.value,
-        source: c.value,
-        frames: d.value,
-        output: e.value,
-        duration: f.value,
-        whole,
+    match json_values::item_width(9, b'[', t) {
+        0 => None,
+        width => Some(Element { six: None, width }),
     }
 }
 
-fn no_numbers(whole: usize) -> Numbers
-    ensures { result ≡ no_numbers whole }
-{
-    Numbers {
-        good: false,
-        first: 0,
-        last: 0,
-        source: 0,
-        frames: 0,
-        output: 0,
-        duration: 0,
-        whole,
-    }
-}
-
-// The numbers of all members of the row `s`; `whole` is its width with the byte that closes it.
-fn six_in(s: &[u8]) -> Numbers
-    ensures { SixIn s.now result }
-{
-    let x = slots_in(s);
-    numbers_of(x.slots, x.width)
-}
-
-// The numbers of an item of another width.
-fn widened(x: Numbers, whole: usize) -> Numbers
-    ensures { result ≡ widened_by x whole }
-{
-    Numbers {
-        good: x.good,
-        first: x.first,
-        last: x.last,
-        source: x.source,
-        frames: x.frames,
-        output: x.output,
-        duration: x.duration,
-        whole,
-    }
-}
-
-// The first segment of the row `t`. A good one is walked once.
-pub fn segment_in(t: &[u8]) -> Numbers
-    ensures { SegmentIn t.now result }
+// The first item of the row `t`. A segment is walked once.
+pub fn segment_in(t: &[u8]) -> Option<Element>
+    ensures { MatchOption result (item_width 0x5B (value_width 9) t.now ≡ 0) (λ x. ItemIn t.now x) }
 {
     let p = json_values::spaces(t);
     let u = base::rest(t, p);
-    if !opens(u, 0x7B) {
-        return no_numbers(json_values::item_width(9, 0x5B, t));
+    if base::get_or(u, 0, 0) != b'{' {
+        return other_in(t);
     }
-    let x = six_in(base::rest(u, 1));
-    if x.whole == 0 {
-        return no_numbers(json_values::item_width(9, 0x5B, t));
+    match slots_in(base::rest(u, 1)) {
+        Some(x) => {
+            let e = p + x.width + 1;
+            Some(Element {
+                six: six_in(x.slots),
+                width: e + json_values::spaces(base::rest(t, e)),
+            })
+        }
+        None => other_in(t),
     }
-    let e = p + x.whole + 1;
-    let whole = e + json_values::spaces(base::rest(t, e));
-    widened(x, whole)
 }

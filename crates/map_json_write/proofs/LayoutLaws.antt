@@ -3,7 +3,8 @@ use mathlib.Core.Path.{◌≡◌, refl, sym, ap, subst, ◌∙◌}
 use mathlib.Core.List.{List, [], ◌∷◌, ◌++◌, append_assoc, append-nil}
 use Prim.Native.Nat.{ℕ, ◌+◌, ◌*◌, ◌-◌, ◌≤◌, ◌<◌}
 use native.Mathlib.Omega.{arith}
-use lib.ListN.{length, drop, get_or, length-drop}
+use lib.ListN.{length, drop, get_or, length-drop, length-append}
+use lib.Seq.{drop_at}
 use Rattle.spec_base.specs.base.Ascii.{ascii}
 use Rattle.spec_map.specs.declared.segment.Segment.{Segment}
 use Rattle.spec_map.specs.segment.Segment.{segment, segments_of}
@@ -133,8 +134,10 @@ list_none m at r l l' h w = written_is at r (0x5B ∷ 0x5D ∷ []) (list_text (s
 segments_at : (m t : List ℕ) → 6 ≤ length m → t ≡ drop 6 m → segments_of m ≡ segment_at m ∷ segments_of t
 segments_at m t h d = segments_cut m h ∙ ap (λ (x : List ℕ). segment_at m ∷ segments_of x) (sym d)
 
-pub list_start : (m : List ℕ) (at : ℕ) (l : List ℕ) → ListBegun m m at l l at
-list_start m at l = record { begun = record { front = []; whole = refl; done = record { place = omega arith; bytes = λ h. sym (put_at_nil at l) } } }
+pub list_start : (m t : List ℕ) (at : ℕ) (l : List ℕ) → t ≡ m → ListBegun m t at l l at
+list_start m t at l e = record {
+  begun = record { front = []; whole = ap (λ (x : List ℕ). rest_text (segments_of x)) (sym e); done = record { place = omega arith; bytes = λ h. sym (put_at_nil at l) } };
+}
 
 pub list_written : (m t : List ℕ) (at p r : ℕ) (l l₁ l₂ : List ℕ) → 6 ≤ length m → t ≡ drop 6 m → Written at ((0x5B ∷ line4) ++ segment_text (segment_at m)) l p l₁ → Written p (rest_text (segments_of t)) l₁ r l₂
     → Written at (list_text (segments_of m)) l r l₂
@@ -143,34 +146,59 @@ list_written m t at p r l l₁ l₂ h d x y =
     (sym (ap (λ (x : List Segment). list_text x) (segments_at m t h d) ∙ list_then (segment_at m) (segments_of t)))
     (written_then at p r ((0x5B ∷ line4) ++ segment_text (segment_at m)) (rest_text (segments_of t)) l l₁ l₂ x y)
 
-pub list_again : (m t u : List ℕ) (at p r : ℕ) (l₀ l l' : List ℕ) → ListBegun m t at l₀ l p → 6 ≤ length t → Written p ((0x2C ∷ line4) ++ segment_text (segment_at t)) l r l' → u ≡ drop 6 t
-    → ListBegun m u at l₀ l' r
-list_again m t u at p r l₀ l l' b h w d = record {
-  begun =
-      begun_more (rest_text (segments_of m)) ((0x2C ∷ line4) ++ segment_text (segment_at t)) (rest_text (segments_of u)) at p r l₀ l l'
-      (subst (λ (x : List Segment). Begun (rest_text (segments_of m)) (rest_text x) at l₀ l p) (segments_at t u h d) b.begun) w;
-}
+-- six numbers x at the front
+segment_front : (x u : List ℕ) → length x ≡ 6 → segment_at x ≡ segment_at (x ++ u)
+segment_front [] u h = absurd (omega arith)
+segment_front (a ∷ []) u h = absurd (omega arith)
+segment_front (a ∷ b ∷ []) u h = absurd (omega arith)
+segment_front (a ∷ b ∷ c ∷ []) u h = absurd (omega arith)
+segment_front (a ∷ b ∷ c ∷ d ∷ []) u h = absurd (omega arith)
+segment_front (a ∷ b ∷ c ∷ d ∷ e ∷ []) u h = absurd (omega arith)
+segment_front (a ∷ b ∷ c ∷ d ∷ e ∷ f ∷ []) u h = refl
+segment_front (a ∷ b ∷ c ∷ d ∷ e ∷ f ∷ g ∷ x) u h = absurd (omega arith)
+
+module _ (m t u x : List ℕ) (e : t ≡ x ++ u) (h : length x ≡ 6) where
+  six_more : length t ≡ 6 + length u
+  six_more = ap length e ∙ length-append x u ∙ omega arith
+
+  pub list_again : (at p r : ℕ) (l₀ l l' : List ℕ) → ListBegun m t at l₀ l p → Written p ((0x2C ∷ line4) ++ segment_text (segment_at x)) l r l' → ListBegun m u at l₀ l' r
+  list_again at p r l₀ l l' b w =
+      let k : segment_at x ≡ segment_at t = segment_front x u h ∙ ap (λ (y : List ℕ). segment_at y) (sym e) in
+      let d : u ≡ drop 6 t = sym (ap (drop 6) e ∙ drop_at x u 6 h) in
+      let f : 6 ≤ length t = let z = six_more in omega arith in
+      record {
+        begun =
+            begun_more (rest_text (segments_of m)) ((0x2C ∷ line4) ++ segment_text (segment_at t)) (rest_text (segments_of u)) at p r l₀ l l'
+            (subst (λ (y : List Segment). Begun (rest_text (segments_of m)) (rest_text y) at l₀ l p) (segments_at t u f d) b.begun)
+            (subst (λ (y : Segment). Written p ((0x2C ∷ line4) ++ segment_text y) l r l') k w);
+      }
+
+  -- the room that is used
+  pub six_left : (at p q n : ℕ) → 6 * p + 540 * length t ≤ 6 * at + 540 * n → q ≤ p + 540 → 6 * q + 540 * length u ≤ 6 * at + 540 * n
+  six_left at p q n inv l = let z = six_more in omega arith
 
 pub list_end : (m t : List ℕ) (at p r : ℕ) (l₀ l l' : List ℕ) → ListBegun m t at l₀ l p → length t < 6 → Written p (line2 ++ 0x5D ∷ []) l r l' → Written at (rest_text (segments_of m)) l₀ r l'
 list_end m t at p r l₀ l l' b h w =
     begun_end (rest_text (segments_of m)) (line2 ++ 0x5D ∷ []) at p r l₀ l l' (subst (λ (x : List Segment). Begun (rest_text (segments_of m)) (rest_text x) at l₀ l p) (segments_short t h) b.begun) w
 
--- the room that is used
-pub six_left : (at p q n : ℕ) (t u : List ℕ) → 6 * p + 540 * length t ≤ 6 * at + 540 * n → 6 ≤ length t → q ≤ p + 540 → u ≡ drop 6 t → 6 * q + 540 * length u ≤ 6 * at + 540 * n
-six_left at p q n t u inv h l d = let a : length u ≡ length t - 6 = ap length d ∙ length-drop 6 t in omega arith
-
 -- ---- the map
-pub rates_written : (r T num den : ℕ) (l l' : List ℕ)
-    → Written 0 (three_text (0x7B ∷ 0x0A ∷ ascii "  \"video_timescale\": ") T (0x2C ∷ 0x0A ∷ ascii "  \"frame_rate_num\": ") num (0x2C ∷ 0x0A ∷ ascii "  \"frame_rate_den\": ") den) l r l'
-    → Written 0 (rates_text T num den) l r l'
+pub rates_written : (r T num den a b c : ℕ) (l l' : List ℕ)
+    → Written 0 (three_text (0x7B ∷ 0x0A ∷ ascii "  \"video_timescale\": ") a (0x2C ∷ 0x0A ∷ ascii "  \"frame_rate_num\": ") b (0x2C ∷ 0x0A ∷ ascii "  \"frame_rate_den\": ") c) l r l'
+    → a ≡ T → b ≡ num → c ≡ den → Written 0 (rates_text T num den) l r l'
 unfolding rates_text
-rates_written r T num den l l' x = x
+rates_written r T num den a b c l l' x ea eb ec =
+    written_is 0 r _ _ l l'
+    (ap (λ (k : ℕ). three_text (0x7B ∷ 0x0A ∷ ascii "  \"video_timescale\": ") k (0x2C ∷ 0x0A ∷ ascii "  \"frame_rate_num\": ") b (0x2C ∷ 0x0A ∷ ascii "  \"frame_rate_den\": ") c) ea
+    ∙ ap (λ (k : ℕ). three_text (0x7B ∷ 0x0A ∷ ascii "  \"video_timescale\": ") T (0x2C ∷ 0x0A ∷ ascii "  \"frame_rate_num\": ") k (0x2C ∷ 0x0A ∷ ascii "  \"frame_rate_den\": ") c) eb
+    ∙ ap (λ (k : ℕ). three_text (0x7B ∷ 0x0A ∷ ascii "  \"video_timescale\": ") T (0x2C ∷ 0x0A ∷ ascii "  \"frame_rate_num\": ") num (0x2C ∷ 0x0A ∷ ascii "  \"frame_rate_den\": ") k) ec) x
 
-pub path_written : (p q e r frames : ℕ) (path l₁ l₂ l₃ l₄ : List ℕ)
-    → Written p (0x2C ∷ 0x0A ∷ ascii "  \"input\": ") l₁ q l₂ → Written q (quoted path) l₂ e l₃ → Written e ((0x2C ∷ 0x0A ∷ ascii "  \"total_frames\": ") ++ decimal frames) l₃ r l₄
-    → Written p (path_text path frames) l₁ r l₄
+pub path_written : (p q e r frames n : ℕ) (path l₁ l₂ l₃ l₄ : List ℕ)
+    → Written p (0x2C ∷ 0x0A ∷ ascii "  \"input\": ") l₁ q l₂ → Written q (quoted path) l₂ e l₃ → Written e ((0x2C ∷ 0x0A ∷ ascii "  \"total_frames\": ") ++ decimal n) l₃ r l₄
+    → n ≡ frames → Written p (path_text path frames) l₁ r l₄
 unfolding path_text
-path_written p q e r frames path l₁ l₂ l₃ l₄ y z w = written_then p q r _ _ l₁ l₂ l₄ y (written_then q e r _ _ l₂ l₃ l₄ z w)
+path_written p q e r frames n path l₁ l₂ l₃ l₄ y z w h =
+    written_then p q r _ _ l₁ l₂ l₄ y
+    (written_then q e r _ _ l₂ l₃ l₄ z (written_is e r _ _ l₃ l₄ (ap (λ (k : ℕ). (0x2C ∷ 0x0A ∷ ascii "  \"total_frames\": ") ++ decimal k) h) w))
 
 pub tail_written : (at p q r : ℕ) (m l l₁ l₂ l₃ : List ℕ) → Written at (0x2C ∷ 0x0A ∷ ascii "  \"segments\": ") l p l₁ → Written p (list_text (segments_of m)) l₁ q l₂ → Written q (0x0A ∷ 0x7D ∷ 0x0A ∷ []) l₂ r l₃
     → Written at (tail_text (segments_of m)) l r l₃

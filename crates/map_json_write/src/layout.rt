@@ -1,43 +1,29 @@
 // The text of a map, piece by piece.
 ghost use Rattle.std.specs.Prelude.{[], ◌∷◌, ◌++◌, ◌+◌, ◌≤◌, length};
 ghost use Rattle.spec_map.specs.segment.Segment.{segments_of};
-ghost use Rattle.spec_map_json.specs.map_json_write.Text.{line2, line4, segment_text, list_text, map_text};
+ghost use Rattle.spec_map_json.specs.map_json_write.Text.{line2, segment_text, list_text, map_text};
 ghost use Rattle.map_json_write.specs.Written.{Written, segment_at, front_text, back_text, rates_text, path_text, tail_text, rest_text};
 
-use crate::pieces::{bytes_at, named_at, three_at};
+use crate::pieces::{bytes_at, named_at};
 use crate::quoting::quoted_at;
 
 fn front_at(out: &mut [u8], at: usize, a: u64, b: u64, c: u64) -> usize
     requires { at ≤ 700000 }
     ensures { Written at (front_text a b c) out.old result out.new × (result ≤ at + 252) }
 {
-    three_at(
-        out,
-        at,
-        b"{\n      \"source_start_frame\": ",
-        a,
-        b",\n      \"source_end_frame\": ",
-        b,
-        b",\n      \"source_start_dts\": ",
-        c,
-    )
+    let p = named_at(out, at, b"{\n      \"source_start_frame\": ", a);
+    let q = named_at(out, p, b",\n      \"source_end_frame\": ", b);
+    named_at(out, q, b",\n      \"source_start_dts\": ", c)
 }
 
 fn back_at(out: &mut [u8], at: usize, d: u64, e: u64, f: u64) -> usize
     requires { at ≤ 710000 }
     ensures { Written at (back_text d e f) out.old result out.new × (result ≤ at + 258) }
 {
-    let p = three_at(
-        out,
-        at,
-        b",\n      \"frame_count\": ",
-        d,
-        b",\n      \"output_start\": ",
-        e,
-        b",\n      \"duration\": ",
-        f,
-    );
-    bytes_at(out, p, b"\n    }")
+    let p = named_at(out, at, b",\n      \"frame_count\": ", d);
+    let q = named_at(out, p, b",\n      \"output_start\": ", e);
+    let r = named_at(out, q, b",\n      \"duration\": ", f);
+    bytes_at(out, r, b"\n    }")
 }
 
 // The first segment of `map`.
@@ -48,16 +34,16 @@ fn segment_at(out: &mut [u8], at: usize, map: &[u64]) -> usize
     let p = front_at(
         out,
         at,
-        base::word(map, 0),
-        base::word(map, 1),
-        base::word(map, 2),
+        base::get_or(map, 0, 0),
+        base::get_or(map, 1, 0),
+        base::get_or(map, 2, 0),
     );
     back_at(
         out,
         p,
-        base::word(map, 3),
-        base::word(map, 4),
-        base::word(map, 5),
+        base::get_or(map, 3, 0),
+        base::get_or(map, 4, 0),
+        base::get_or(map, 5, 0),
     )
 }
 
@@ -68,20 +54,6 @@ fn led_at(out: &mut [u8], at: usize, lead: &[u8], map: &[u64]) -> usize
 {
     let p = bytes_at(out, at, lead);
     segment_at(out, p, map)
-}
-
-fn first_at(out: &mut [u8], at: usize, map: &[u64]) -> usize
-    requires { at ≤ 600000 }
-    ensures { Written at ((0x5B ∷ line4) ++ segment_text (segment_at map.now)) out.old result out.new × (result ≤ at + 540) }
-{
-    led_at(out, at, b"[\n    ", map)
-}
-
-fn more_at(out: &mut [u8], at: usize, map: &[u64]) -> usize
-    requires { at ≤ 600000 }
-    ensures { Written at ((0x2C ∷ line4) ++ segment_text (segment_at map.now)) out.old result out.new × (result ≤ at + 540) }
-{
-    led_at(out, at, b",\n    ", map)
 }
 
 fn close_at(out: &mut [u8], at: usize) -> usize
@@ -97,11 +69,8 @@ fn rest_at(out: &mut [u8], at: usize, map: &[u64]) -> usize
     ensures { Written at (rest_text (segments_of map.now)) out.old result out.new × (result ≤ 600000) }
 {
     let mut p = at;
-    let mut t = map;
-    while 6 <= t.len() {
-        p = more_at(out, p, t);
-        let u = base::words_rest(t, 6);
-        t = u;
+    for s in map.chunks_exact(6) {
+        p = led_at(out, p, b",\n    ", s);
     }
     close_at(out, p)
 }
@@ -111,8 +80,8 @@ fn items_at(out: &mut [u8], at: usize, map: &[u64]) -> usize
     requires { (at ≤ 20000) × ((6 ≤ length map.now) × (length map.now ≤ 6144)) }
     ensures { Written at (list_text (segments_of map.now)) out.old result out.new × (result ≤ 600000) }
 {
-    let p = first_at(out, at, map);
-    rest_at(out, p, base::words_rest(map, 6))
+    let p = led_at(out, at, b"[\n    ", map);
+    rest_at(out, p, base::rest(map, 6))
 }
 
 // All segments.
@@ -129,16 +98,9 @@ fn list_at(out: &mut [u8], at: usize, map: &[u64]) -> usize
 fn rates_at(out: &mut [u8], timescale: u32, rate_num: u32, rate_den: u32) -> usize
     ensures { Written 0 (rates_text timescale rate_num rate_den) out.old result out.new × (result ≤ 252) }
 {
-    three_at(
-        out,
-        0,
-        b"{\n  \"video_timescale\": ",
-        timescale as u64,
-        b",\n  \"frame_rate_num\": ",
-        rate_num as u64,
-        b",\n  \"frame_rate_den\": ",
-        rate_den as u64,
-    )
+    let p = named_at(out, 0, b"{\n  \"video_timescale\": ", u64::from(timescale));
+    let q = named_at(out, p, b",\n  \"frame_rate_num\": ", u64::from(rate_num));
+    named_at(out, q, b",\n  \"frame_rate_den\": ", u64::from(rate_den))
 }
 
 fn path_at(out: &mut [u8], at: usize, path: &[u8], frames: u32) -> usize
@@ -147,7 +109,7 @@ fn path_at(out: &mut [u8], at: usize, path: &[u8], frames: u32) -> usize
 {
     let q = bytes_at(out, at, b",\n  \"input\": ");
     let e = quoted_at(out, q, path);
-    named_at(out, e, b",\n  \"total_frames\": ", frames as u64)
+    named_at(out, e, b",\n  \"total_frames\": ", u64::from(frames))
 }
 
 fn tail_at(out: &mut [u8], at: usize, map: &[u64]) -> usize

@@ -6,6 +6,5 @@ mod pieces;
 mod quoting;
 mod writing;
 
-pub use quoting::Escape;
 pub use spec_map_json::map_json_write::Wrote;
 pub use writing::write_map;

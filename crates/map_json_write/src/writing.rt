@@ -1,29 +1,41 @@
 // A map written.
 ghost use Rattle.std.specs.Prelude.{◌≡◌};
+ghost use Rattle.refusals.specs.Numbers.{number_of, told};
 ghost use Rattle.spec_map_json.specs.map_json_write.MapWritten.{asked_number, Writes};
 
 use crate::layout::map_at;
 use caption_time::timescale_bad;
+use refusals::Refusal;
 use segment::map_bad;
 use spec_map_json::map_json_write::Wrote;
 
 // The first limit that is broken, but for the room: 15, 16 for the path, 20.
-fn asked(map: &[u64], timescale: u32, path: &[u8]) -> u32
-    ensures { result ≡ asked_number map.now timescale path.now }
+fn asked(map: &[u64], timescale: u32, path: &[u8]) -> Result<(), Refusal>
+    ensures { told result ≡ asked_number map.now timescale path.now }
 {
     if timescale_bad(timescale) {
-        return 15;
+        return Err(Refusal::BadMap);
     }
     if map_bad(map) {
-        return 15;
+        return Err(Refusal::BadMap);
     }
     if 1024 < path.len() {
-        return 16;
+        return Err(Refusal::BadArgument);
     }
     if !utf8::is_utf8(path) {
-        return 20;
+        return Err(Refusal::NotUtf8);
     }
-    0
+    Ok(())
+}
+
+// The answer of a refusal: nothing is written.
+fn refused(why: Refusal) -> Wrote
+    ensures { result ≡ record { number = number_of why; written = 0 } }
+{
+    Wrote {
+        number: u32::from(why),
+        written: 0,
+    }
 }
 
 // Writes a map as JSON to the start of `text`. Refused, it writes nothing: 15 for the timescale or the map, 16 for a path
@@ -39,20 +51,14 @@ pub fn write_map(
 ) -> Wrote
     ensures { Writes map.now timescale rate_num rate_den path.now frames result text.old text.new }
 {
-    let n = asked(map, timescale, path);
-    if n != 0 {
-        return Wrote {
-            number: n,
-            written: 0,
-        };
+    if let Err(why) = asked(map, timescale, path) {
+        return refused(why);
     }
+    // Kept: (1) no heap: the memory is fixed.
     let mut none = [0u8; 1];
     let size = map_at(&mut none, map, timescale, rate_num, rate_den, path, frames);
     if text.len() < size {
-        return Wrote {
-            number: 16,
-            written: 0,
-        };
+        return refused(Refusal::BadArgument);
     }
     let written = map_at(text, map, timescale, rate_num, rate_den, path, frames);
     Wrote { number: 0, written }

@@ -27,11 +27,8 @@ fn fill(flat: &[u64], count: usize, map: &mut [Segment])
     requires { (6 * count ≤ length flat.now) × (count ≤ length map.old) }
     ensures { map.new ≡ recorded (narrowed (segments_of (take (6 * count) flat.now))) map.old }
 {
-    let mut i: usize = 0;
-    while i < count {
-        let s = segment_of(flat, 6 * i);
-        map[i] = s;
-        i += 1;
+    for i in 0..count {
+        map[i] = segment_of(flat, 6 * i);
     }
 }
 
@@ -55,6 +52,7 @@ pub fn build(
             count: 0,
         };
     }
+    // Kept: (1) no heap: the memory is fixed.
     let mut flat = [0; 6144];
     let made = segmap::make(sheet, list, direction, work, &mut flat);
     fill(&flat, made.count, map);

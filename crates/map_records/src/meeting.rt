@@ -3,7 +3,7 @@ ghost use Rattle.std.specs.Prelude.{◌≡◌};
 ghost use Rattle.spec_caption.specs.caption_fate.Hit.{meets, find_hit, hit_of};
 ghost use Rattle.spec_records.specs.map_records.Records.{hit_at};
 
-use caption_fate::{Hit, Met};
+use caption_fate::Met;
 use segment::Segment;
 
 // Whether a segment meets the ticks a to b.
@@ -14,10 +14,10 @@ fn is_met(s: Segment, a: u64, b: u64) -> bool
 }
 
 // The answer where the segment s is met.
-fn hit_at(place: usize, s: Segment) -> Hit
+fn hit_at(place: usize, s: Segment) -> Option<Met>
     ensures { result ≡ hit_at place s }
 {
-    Hit::At(Met {
+    Some(Met {
         place,
         source: s.source_start_dts,
         output: s.output_start,
@@ -26,16 +26,13 @@ fn hit_at(place: usize, s: Segment) -> Hit
 }
 
 // The first record that meets the ticks start to end, any of 64 bits.
-pub fn find_hit(map: &[Segment], start: u64, end: u64) -> Hit
+pub fn find_hit(map: &[Segment], start: u64, end: u64) -> Option<Met>
     ensures { result ≡ hit_of (find_hit map.now start end) }
 {
-    let mut i: usize = 0;
-    while i < map.len() {
-        let s = map[i];
-        if is_met(s, start, end) {
-            return hit_at(i, s);
+    for (i, s) in map.iter().enumerate() {
+        if is_met(*s, start, end) {
+            return hit_at(i, *s);
         }
-        i += 1;
     }
-    Hit::Miss
+    None
 }

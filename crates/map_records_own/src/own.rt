@@ -5,7 +5,6 @@ ghost use Rattle.spec_map.specs.segment.Segment.{flat_of};
 ghost use Rattle.spec_map.specs.segmap.Map.{map_of, map_work};
 ghost use Rattle.spec_records.specs.map_records_own.Through.{through_of};
 
-use caption_fate::Hit;
 use segmap::Made;
 use segment::Segment;
 use spec_records::map_records_own::Through;
@@ -35,8 +34,10 @@ fn through_own(
     };
     let mut map = [none; 1024];
     let made = map_records::build(sheet, list, direction, work, &mut map);
-    let hit = map_records::find_hit(&map[..made.count], start, end);
-    map_records::flatten(&map[..made.count], flat);
+    let records = &map[..made.count];
+    let hit = map_records::find_hit(records, start, end);
+    // 6,144 places have room for every map, so this is never refused.
+    let _ = map_records::flatten(records, flat);
     Through { made, hit }
 }
 
@@ -62,7 +63,7 @@ pub fn through_records(
                 timescale: 0,
                 count: 0,
             },
-            hit: Hit::Miss,
+            hit: None,
         };
     }
     through_own(sheet, list, direction, work, start, end, flat)

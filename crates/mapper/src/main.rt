@@ -7,13 +7,7 @@ use std::io::Write;
 fn main(rt: HostRuntime) -> io::Result<()> {
     let sheet = files_map::load(&rt, b"", b"sheet.bin")?;
     let list = files_map::load(&rt, b"", b"trim.txt")?;
-    let s = sheet.bytes;
-    let l = list.bytes;
     let mut to = io::writer(&rt);
-    files_map::print_map(
-        &mut to,
-        base::front(&s, sheet.length),
-        base::front(&l, list.length),
-    )?;
+    files_map::print_map(&mut to, sheet.held(), list.held())?;
     to.flush()
 }

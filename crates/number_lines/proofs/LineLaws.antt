@@ -7,7 +7,8 @@ use native.Mathlib.Omega.{arith}
 use lib.Dec.{leb}
 use borrow.Author.Tests.{le-leb, lt-leb, leb-true, leb-false}
 use lib.Seq.{length-take-le}
-use lib.ListN.{length, take, drop, get_or, replicate, length-append, length-drop, length-replicate}
+use Rattle.std.proofs.lemmas.List.{drop_all, drop_more}
+use lib.ListN.{length, take, drop, get_or, replicate, length-append, length-replicate}
 use Rattle.spec_base.specs.base.Put.{put, put_at, placed, placed_length, placed_at, place_after}
 use Rattle.spec_base.proofs.base.PutLaws.{put_at_front, put_at_put, put_at_nil, then_put, at_yes, after_yes, placed_yes, placed_no, length_yes, length_no, tail_back, length_put}
 use Rattle.spec_base.proofs.base.PartLaws.{rest_length}
@@ -34,18 +35,18 @@ pub spaced_length : (n : ℕ) → length (spaced n) ≡ suc (width n)
 unfolding spaced decimal
 spaced_length n = ap suc (pad_length (width n) n)
 
-numbers_cons : (t : List ℕ) → 0 < length t → numbers_text t ≡ spaced (get_or t 0 0) ++ numbers_text (drop 1 t)
+numbers_cons : (ns : List ℕ) (i : ℕ) → i < length ns → numbers_text (drop i ns) ≡ spaced (get_or ns i 0) ++ numbers_text (drop (i + 1) ns)
 unfolding numbers_text
-numbers_cons [] h = absurd (omega arith)
-numbers_cons (n ∷ t) h = refl
+numbers_cons ns i h = ap numbers_text (drop_more ns i 0 h)
 
-numbers_length : (t : List ℕ) → 0 < length t → length (numbers_text t) ≡ suc (width (get_or t 0 0)) + length (numbers_text (drop 1 t))
-numbers_length t h = ap length (numbers_cons t h) ∙ length-append (spaced (get_or t 0 0)) (numbers_text (drop 1 t)) ∙ ap (λ (k : ℕ). k + length (numbers_text (drop 1 t))) (spaced_length (get_or t 0 0))
+numbers_length : (ns : List ℕ) (i : ℕ) → i < length ns → length (numbers_text (drop i ns)) ≡ suc (width (get_or ns i 0)) + length (numbers_text (drop (i + 1) ns))
+numbers_length ns i h =
+    ap length (numbers_cons ns i h) ∙ length-append (spaced (get_or ns i 0)) (numbers_text (drop (i + 1) ns))
+    ∙ ap (λ (k : ℕ). k + length (numbers_text (drop (i + 1) ns))) (spaced_length (get_or ns i 0))
 
-numbers_none : (t : List ℕ) → length t ≤ 0 → numbers_text t ≡ []
+numbers_none : (ns : List ℕ) (i : ℕ) → length ns ≤ i → numbers_text (drop i ns) ≡ []
 unfolding numbers_text
-numbers_none [] h = refl
-numbers_none (n ∷ t) h = absurd (omega arith)
+numbers_none ns i h = ap numbers_text (drop_all i ns h)
 
 -- ---- a number behind a space
 spaced_from : (at from n : ℕ) (l : List ℕ) → at + length (spaced n) ≤ length l → from ≡ place_after at (32 ∷ []) l → from ≡ at + 1
@@ -82,47 +83,43 @@ spaced_put at from w n l l₁ t h q e f g =
     ∙ put_at_then at (32 ∷ []) (pad (width n) n) l (omega arith)
 
 -- ---- all numbers
-pub next_room : (p x : ℕ) (t out : List ℕ) → p + length (numbers_text t) ≤ length out → 0 < length t → x ≡ get_or t 0 0 → p + length (spaced x) ≤ length out
-next_room p x t out h s e =
-    let k : length (spaced x) ≡ suc (width (get_or t 0 0)) = spaced_length x ∙ ap (λ (y : ℕ). suc (width y)) e in
-    omega (arith, numbers_length t s)
+pub next_room : (p x i : ℕ) (ns out : List ℕ) → p + length (numbers_text (drop i ns)) ≤ length out → i < length ns → x ≡ get_or ns i 0 → p + length (spaced x) ≤ length out
+next_room p x i ns out h s e =
+    let k : length (spaced x) ≡ suc (width (get_or ns i 0)) = spaced_length x ∙ ap (λ (y : ℕ). suc (width y)) e in
+    omega (arith, numbers_length ns i s)
 
-pub next_place : (p q x m : ℕ) (t u : List ℕ) → p + length (numbers_text t) ≡ m → 0 < length t → x ≡ get_or t 0 0 → u ≡ drop 1 t → q ≡ p + length (spaced x) → q + length (numbers_text u) ≡ m
-next_place p q x m t u h s e d a =
-    let k : length (spaced x) ≡ suc (width (get_or t 0 0)) = spaced_length x ∙ ap (λ (y : ℕ). suc (width y)) e in
-    let j : length (numbers_text u) ≡ length (numbers_text (drop 1 t)) = ap (λ (y : List ℕ). length (numbers_text y)) d in
-    omega (arith, numbers_length t s)
+pub next_place : (p q x m i : ℕ) (ns : List ℕ) → p + length (numbers_text (drop i ns)) ≡ m → i < length ns → x ≡ get_or ns i 0 → q ≡ p + length (spaced x)
+    → q + length (numbers_text (drop (i + 1) ns)) ≡ m
+next_place p q x m i ns h s e a =
+    let k : length (spaced x) ≡ suc (width (get_or ns i 0)) = spaced_length x ∙ ap (λ (y : ℕ). suc (width y)) e in
+    omega (arith, numbers_length ns i s)
 
-pub next_fits : (p q x : ℕ) (t u out out₁ : List ℕ) → p + length (numbers_text t) ≤ length out → 0 < length t → x ≡ get_or t 0 0 → u ≡ drop 1 t → q ≡ p + length (spaced x)
-    → out₁ ≡ put_at p (spaced x) out → q + length (numbers_text u) ≤ length out₁
-next_fits p q x t u out out₁ h s e d a b =
-    let k : length out₁ ≡ length out = ap length b ∙ length_put_at p (spaced x) out (next_room p x t out h s e) in
-    let n : q + length (numbers_text u) ≡ p + length (numbers_text t) = next_place p q x _ t u refl s e d a in
+pub next_fits : (p q x i : ℕ) (ns out out₁ : List ℕ) → p + length (numbers_text (drop i ns)) ≤ length out → i < length ns → x ≡ get_or ns i 0 → q ≡ p + length (spaced x)
+    → out₁ ≡ put_at p (spaced x) out → q + length (numbers_text (drop (i + 1) ns)) ≤ length out₁
+next_fits p q x i ns out out₁ h s e a b =
+    let k : length out₁ ≡ length out = ap length b ∙ length_put_at p (spaced x) out (next_room p x i ns out h s e) in
+    let n : q + length (numbers_text (drop (i + 1) ns)) ≡ p + length (numbers_text (drop i ns)) = next_place p q x _ i ns refl s e a in
     omega arith
 
-pub next_long : (p x : ℕ) (t out out₀ out₁ : List ℕ) → p + length (numbers_text t) ≤ length out → 0 < length t → x ≡ get_or t 0 0 → out₁ ≡ put_at p (spaced x) out → length out ≡ length out₀
-    → length out₁ ≡ length out₀
-next_long p x t out out₀ out₁ h s e b l = ap length b ∙ length_put_at p (spaced x) out (next_room p x t out h s e) ∙ l
+pub next_long : (p x i : ℕ) (ns out out₀ out₁ : List ℕ) → p + length (numbers_text (drop i ns)) ≤ length out → i < length ns → x ≡ get_or ns i 0 → out₁ ≡ put_at p (spaced x) out
+    → length out ≡ length out₀ → length out₁ ≡ length out₀
+next_long p x i ns out out₀ out₁ h s e b l = ap length b ∙ length_put_at p (spaced x) out (next_room p x i ns out h s e) ∙ l
 
-pub less_left : (t u : List ℕ) → u ≡ drop 1 t → 0 < length t → length u < length t
-less_left t u e h = omega (arith, ap length e, length-drop 1 t)
-
-pub next_put : (p q x : ℕ) (t u out out₁ v : List ℕ) → p + length (numbers_text t) ≤ length out → put_at p (numbers_text t) out ≡ v → 0 < length t → x ≡ get_or t 0 0 → u ≡ drop 1 t → q ≡ p + length (spaced x)
-    → out₁ ≡ put_at p (spaced x) out → put_at q (numbers_text u) out₁ ≡ v
-next_put p q x t u out out₁ v r h s e d a b =
-    ap (λ (y : List ℕ). put_at q (numbers_text u) y) b
-    ∙ ap (λ (y : ℕ). put_at y (numbers_text u) (put_at p (spaced x) out)) a
-    ∙ put_at_then p (spaced x) (numbers_text u) out (omega arith)
-    ∙ ap (λ (y : List ℕ). put_at p (spaced x ++ numbers_text y) out) d
-    ∙ ap (λ (y : ℕ). put_at p (spaced y ++ numbers_text (drop 1 t)) out) e
-    ∙ ap (λ (y : List ℕ). put_at p y out) (sym (numbers_cons t s))
+pub next_put : (p q x i : ℕ) (ns out out₁ v : List ℕ) → p + length (numbers_text (drop i ns)) ≤ length out → put_at p (numbers_text (drop i ns)) out ≡ v → i < length ns → x ≡ get_or ns i 0
+    → q ≡ p + length (spaced x) → out₁ ≡ put_at p (spaced x) out → put_at q (numbers_text (drop (i + 1) ns)) out₁ ≡ v
+next_put p q x i ns out out₁ v r h s e a b =
+    ap (λ (y : List ℕ). put_at q (numbers_text (drop (i + 1) ns)) y) b
+    ∙ ap (λ (y : ℕ). put_at y (numbers_text (drop (i + 1) ns)) (put_at p (spaced x) out)) a
+    ∙ put_at_then p (spaced x) (numbers_text (drop (i + 1) ns)) out (omega arith)
+    ∙ ap (λ (y : ℕ). put_at p (spaced y ++ numbers_text (drop (i + 1) ns)) out) e
+    ∙ ap (λ (y : List ℕ). put_at p y out) (sym (numbers_cons ns i s))
     ∙ h
 
-pub last_place : (p m : ℕ) (t : List ℕ) → length t ≤ 0 → p + length (numbers_text t) ≡ m → p ≡ m
-last_place p m t h e = let k : length (numbers_text t) ≡ 0 = ap length (numbers_none t h) in omega arith
+pub last_place : (p m i : ℕ) (ns : List ℕ) → length ns ≤ i → p + length (numbers_text (drop i ns)) ≡ m → p ≡ m
+last_place p m i ns h e = let k : length (numbers_text (drop i ns)) ≡ 0 = ap length (numbers_none ns i h) in omega arith
 
-pub last_put : (p : ℕ) (t out v : List ℕ) → length t ≤ 0 → put_at p (numbers_text t) out ≡ v → out ≡ v
-last_put p t out v h e = sym (put_at_nil p out) ∙ ap (λ (y : List ℕ). put_at p y out) (sym (numbers_none t h)) ∙ e
+pub last_put : (p i : ℕ) (ns out v : List ℕ) → length ns ≤ i → put_at p (numbers_text (drop i ns)) out ≡ v → out ≡ v
+last_put p i ns out v h e = sym (put_at_nil p out) ∙ ap (λ (y : List ℕ). put_at p y out) (sym (numbers_none ns i h)) ∙ e
 
 -- ---- whether they fit
 fewer : (a b k : ℕ) → k ≤ b → leb (k + a) b ≡ leb a (b - k)
@@ -132,27 +129,26 @@ fewer a b k h = go (leb a (b - k)) refl
     go true e = le-leb (k + a) b (omega (arith, leb-true a (b - k) e))
     go false e = lt-leb (k + a) b (omega (arith, leb-false a (b - k) e))
 
-pub fits_next : (left w x : ℕ) (r : Bool) (t u : List ℕ) → leb (length (numbers_text t)) left ≡ r → 0 < length t → x ≡ get_or t 0 0 → w ≡ width x → w < left → u ≡ drop 1 t
-    → leb (length (numbers_text u)) (left - 1 - w) ≡ r
-fits_next left w x r t u h s e f l d =
-    let j : length (numbers_text u) ≡ length (numbers_text (drop 1 t)) = ap (λ (y : List ℕ). length (numbers_text y)) d in
-    let i : width (get_or t 0 0) ≡ w = sym (f ∙ ap width e) in
-    let k : length (numbers_text t) ≡ suc w + length (numbers_text u) = omega (arith, numbers_length t s) in
+pub fits_next : (left w x i : ℕ) (r : Bool) (ns : List ℕ) → leb (length (numbers_text (drop i ns))) left ≡ r → i < length ns → x ≡ get_or ns i 0 → w ≡ width x → w < left
+    → leb (length (numbers_text (drop (i + 1) ns))) (left - 1 - w) ≡ r
+fits_next left w x i r ns h s e f l =
+    let n : width (get_or ns i 0) ≡ w = sym (f ∙ ap width e) in
+    let k : length (numbers_text (drop i ns)) ≡ suc w + length (numbers_text (drop (i + 1) ns)) = omega (arith, numbers_length ns i s) in
     let z : left - 1 - w ≡ left - suc w = omega arith in
-    ap (leb (length (numbers_text u))) z
-    ∙ sym (fewer (length (numbers_text u)) left (suc w) l)
+    ap (leb (length (numbers_text (drop (i + 1) ns)))) z
+    ∙ sym (fewer (length (numbers_text (drop (i + 1) ns))) left (suc w) l)
     ∙ ap (λ (y : ℕ). leb y left) (sym k)
     ∙ h
 
-pub fits_not : (left w x : ℕ) (r : Bool) (t : List ℕ) → leb (length (numbers_text t)) left ≡ r → 0 < length t → x ≡ get_or t 0 0 → w ≡ width x → left ≤ w → false ≡ r
-fits_not left w x r t h s e f l =
-    let i : width (get_or t 0 0) ≡ w = sym (f ∙ ap width e) in
-    sym (lt-leb (length (numbers_text t)) left (omega (arith, numbers_length t s))) ∙ h
+pub fits_not : (left w x i : ℕ) (r : Bool) (ns : List ℕ) → leb (length (numbers_text (drop i ns))) left ≡ r → i < length ns → x ≡ get_or ns i 0 → w ≡ width x → left ≤ w → false ≡ r
+fits_not left w x i r ns h s e f l =
+    let n : width (get_or ns i 0) ≡ w = sym (f ∙ ap width e) in
+    sym (lt-leb (length (numbers_text (drop i ns))) left (omega (arith, numbers_length ns i s))) ∙ h
 
-pub fits_last : (left : ℕ) (r : Bool) (t : List ℕ) → leb (length (numbers_text t)) left ≡ r → length t ≤ 0 → true ≡ r
-fits_last left r t h e =
-    let k : length (numbers_text t) ≡ 0 = ap length (numbers_none t e) in
-    sym (le-leb (length (numbers_text t)) left (omega arith)) ∙ h
+pub fits_last : (left i : ℕ) (r : Bool) (ns : List ℕ) → leb (length (numbers_text (drop i ns))) left ≡ r → length ns ≤ i → true ≡ r
+fits_last left i r ns h e =
+    let k : length (numbers_text (drop i ns)) ≡ 0 = ap length (numbers_none ns i e) in
+    sym (le-leb (length (numbers_text (drop i ns))) left (omega arith)) ∙ h
 
 -- ---- the line
 line_length_lem : (name ns : List ℕ) → length (line_text name ns) ≡ length name + length (numbers_text ns) + 1

@@ -11,6 +11,7 @@ pub fn print_line<W: Write>(to: &mut W, name: &[u8], numbers: &[u64]) -> io::Res
     ensures value { IfOk result (λ r. r ≡ printed_length name.now numbers.now) }
     ensures grows { Grows (W.contents to.old) (W.contents to.new) }
 {
+    // Kept: (1) no heap: the memory is fixed.
     let mut out = [0u8; 512];
     let n = crate::writing::line(&mut out, name, numbers);
     streams::write_text(to, base::front(&out, n))?;

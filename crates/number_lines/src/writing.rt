@@ -9,7 +9,7 @@ fn spaced_at(out: &mut [u8], at: usize, n: u64) -> usize
     ensures { (result ≡ at + length (spaced n)) × (out.new ≡ put_at at (spaced n) out.old) }
 {
     let w = caption_stamp::digits(n);
-    let from = base::bytes_at(out, at, b" ");
+    let from = base::put_at(out, at, b" ");
     caption_stamp::last_digits(&mut out[from..], n, w);
     from + w
 }
@@ -20,11 +20,8 @@ fn numbers_at(out: &mut [u8], at: usize, numbers: &[u64]) -> usize
     ensures { (result ≡ at + length (numbers_text numbers.now)) × (out.new ≡ put_at at (numbers_text numbers.now) out.old) }
 {
     let mut p = at;
-    let mut t = numbers;
-    while 0 < t.len() {
-        p = spaced_at(out, p, base::word(t, 0));
-        let u = base::words_rest(t, 1);
-        t = u;
+    for n in numbers {
+        p = spaced_at(out, p, *n);
     }
     p
 }
@@ -34,15 +31,12 @@ fn fits(numbers: &[u64], room: usize) -> bool
     ensures { result ≡ leb (length (numbers_text numbers.now)) room }
 {
     let mut left = room;
-    let mut t = numbers;
-    while 0 < t.len() {
-        let w = caption_stamp::digits(base::word(t, 0));
+    for n in numbers {
+        let w = caption_stamp::digits(*n);
         if left <= w {
             return false;
         }
         left = left - 1 - w;
-        let u = base::words_rest(t, 1);
-        t = u;
     }
     true
 }
@@ -52,9 +46,9 @@ fn whole(out: &mut [u8], name: &[u8], numbers: &[u64]) -> usize
     requires { length (line_text name.now numbers.now) ≤ length out.old }
     ensures { (result ≡ length (line_text name.now numbers.now)) × (out.new ≡ put (line_text name.now numbers.now) out.old) }
 {
-    let a = base::bytes(out, name);
+    let a = base::put(out, name);
     let b = numbers_at(out, a, numbers);
-    base::bytes_at(out, b, b"\n")
+    base::put_at(out, b, b"\n")
 }
 
 // Writes a name, each number behind a space, and a line end to the start of `out`, and answers their length; where they do not fit, nothing and 0.
@@ -62,10 +56,10 @@ pub fn line(out: &mut [u8], name: &[u8], numbers: &[u64]) -> usize
     ensures { (result ≡ placed_length (line_text name.now numbers.now) out.old) × (out.new ≡ placed (line_text name.now numbers.now) out.old) }
 {
     if out.len() <= name.len() {
-        return 0;
+        0
+    } else if fits(numbers, out.len() - name.len() - 1) {
+        whole(out, name, numbers)
+    } else {
+        0
     }
-    if fits(numbers, out.len() - name.len() - 1) {
-        return whole(out, name, numbers);
-    }
-    0
 }

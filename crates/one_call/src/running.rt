@@ -14,18 +14,9 @@ use spec_runs::one_call::Ran;
 fn begun(session: Session) -> Head
     ensures { result ≡ begun_of session }
 {
-    let config = session.config;
-    let counts = session.counts;
-    let columns = session.columns;
     Head {
-        config,
-        ended: session.ended,
-        outcome: session.outcome,
-        taken: session.taken,
-        lines: session.lines,
-        counts,
-        columns,
         held_len: 0,
+        ..session_state::head_of(session)
     }
 }
 
@@ -34,19 +25,17 @@ fn resumed(head: Head, kept: &[u8]) -> Session
     requires { length kept.now ≤ most_held }
     ensures { (view result ≡ view_of head kept.now) × (length result.held ≡ most_held) }
 {
-    let config = head.config;
-    let counts = head.counts;
-    let columns = head.columns;
+    // Kept: (1) no heap: the memory is fixed.
     let mut held = [0u8; 8192];
-    let n = base::bytes(&mut held, kept);
+    let n = base::put(&mut held, kept);
     Session {
-        config,
+        config: head.config,
         ended: head.ended,
         outcome: head.outcome,
         taken: head.taken,
         lines: head.lines,
-        counts,
-        columns,
+        counts: head.counts,
+        columns: head.columns,
         held_len: n,
         held,
     }
@@ -56,13 +45,11 @@ fn resumed(head: Head, kept: &[u8]) -> Session
 fn stopped(fed: TextFed) -> Ran
     ensures { (result.number ≡ fed.number) × (result.written ≡ fed.written) × (result.warned ≡ fed.warned) × (result.counts ≡ fed.head.counts) }
 {
-    let head = fed.head;
-    let counts = head.counts;
     Ran {
         number: fed.number,
         written: fed.written,
         warned: fed.warned,
-        counts,
+        counts: fed.head.counts,
     }
 }
 
@@ -70,13 +57,11 @@ fn stopped(fed: TextFed) -> Ran
 fn ended(last: Fed, written: usize, warned: usize) -> Ran
     ensures { (result.number ≡ last.number) × (result.written ≡ written) × (result.warned ≡ warned) × (result.counts ≡ last.session.counts) }
 {
-    let session = last.session;
-    let counts = session.counts;
     Ran {
         number: last.number,
         written,
         warned,
-        counts,
+        counts: last.session.counts,
     }
 }
 
@@ -95,11 +80,10 @@ pub fn run_text(
     if fed.number != 0 {
         return stopped(fed);
     }
-    let head = fed.head;
     let b = fed.begin;
     let o = fed.written;
     let w = fed.warned;
-    let at = resumed(head, &text[b..]);
+    let at = resumed(fed.head, &text[b..]);
     let last = session::finish(at, map, &mut out[o..], &mut warnings[w..]);
     ended(last, o + last.written, w + last.warned)
 }

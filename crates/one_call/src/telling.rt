@@ -1,29 +1,31 @@
 // The lengths that are lent, the session, the text, and what is told of it.
 ghost use Rattle.std.specs.Prelude.{◌≡◌, ◌≤◌, length};
 ghost use Rattle.spec_base.specs.base.Put.{put};
+ghost use Rattle.refusals.specs.Numbers.{told};
 ghost use Rattle.spec_runs.specs.one_call.Text.{lengths_fault, Retimed};
 ghost use Rattle.spec_runs.specs.one_call.Ran.{tells_of};
 
 use crate::running::run_text;
+use refusals::Refusal;
 use spec_runs::one_call::Ran;
 
 // 16 where the text is too long or too little is lent for it.
-fn lengths_fault(text: usize, out: usize, places: usize, told: usize) -> u32
-    ensures { result ≡ lengths_fault text out places told }
+fn lengths_fault(text: usize, out: usize, places: usize, lent: usize) -> Result<(), Refusal>
+    ensures { told result ≡ lengths_fault text out places lent }
 {
     if (base::MOST_TAKEN as usize) < text {
-        return 16;
+        return Err(Refusal::BadArgument);
     }
     if out < 3 * text + base::LEAST_OUTPUT {
-        return 16;
+        return Err(Refusal::BadArgument);
     }
     if places < text / 3 + base::LEAST_PLACES {
-        return 16;
+        return Err(Refusal::BadArgument);
     }
-    if told < 7 {
-        return 16;
+    if lent < 7 {
+        return Err(Refusal::BadArgument);
     }
-    0
+    Ok(())
 }
 
 // Seven numbers: both lengths, the four counts, the bytes taken.
@@ -32,13 +34,15 @@ fn tell(ran: Ran, taken: usize, told: &mut [u64])
     ensures { told.new ≡ put (tells_of ran taken) told.old }
 {
     let counts = ran.counts;
-    told[0] = ran.written as u64;
-    told[1] = ran.warned as u64;
-    told[2] = counts.shifted as u64;
-    told[3] = counts.clipped as u64;
-    told[4] = counts.dropped as u64;
-    told[5] = counts.passed as u64;
-    told[6] = taken as u64;
+    told[..7].copy_from_slice(&[
+        ran.written as u64,
+        ran.warned as u64,
+        u64::from(counts.shifted),
+        u64::from(counts.clipped),
+        u64::from(counts.dropped),
+        u64::from(counts.passed),
+        taken as u64,
+    ]);
 }
 
 // 15 or 16, and nothing is written; else the text's number, with output, warnings and told numbers as the plain reader has them.
@@ -57,9 +61,8 @@ pub fn retime(
     if opened.number != 0 {
         return opened.number;
     }
-    let short = lengths_fault(text.len(), out.len(), warnings.len(), told.len());
-    if short != 0 {
-        return short;
+    if let Err(short) = lengths_fault(text.len(), out.len(), warnings.len(), told.len()) {
+        return u32::from(short);
     }
     let ran = run_text(opened.session, map, text, out, warnings);
     tell(ran, text.len(), told);

@@ -8,8 +8,5 @@ use spec_sheet::order::DisplayIdx;
 pub fn frame_count(start: DisplayIdx, end: DisplayIdx) -> u32
     ensures { result ≡ frame_count start end }
 {
-    if start.0 <= end.0 {
-        return end.0 - start.0;
-    }
-    0
+    end.0.saturating_sub(start.0)
 }

@@ -12,11 +12,8 @@ use crate::zeros::all_zero;
 fn all_hold(s: &[u8], n: usize) -> bool
     ensures { result ≡ all_hold s.now 0 n }
 {
-    let mut b: usize = 0;
-    while b < n {
-        if checked_blocks::block_holds(s, b) {
-            b += 1;
-        } else {
+    for b in 0..n {
+        if !checked_blocks::block_holds(s, b) {
             return false;
         }
     }
@@ -37,52 +34,41 @@ fn copy_room(s: &[u8], k: usize, room: &mut [u8])
     ensures { room.new ≡ put (bodies s.now 1 k) room.old }
 {
     let mut at: usize = 0;
-    let mut n: usize = 0;
-    while n < k {
-        at = base::bytes_at(room, at, body(s, n + 1));
-        n += 1;
+    for n in 0..k {
+        at = base::put_at(room, at, body(s, n + 1));
     }
 }
 
 // Whether there are 18 blocks, each with its number and its sum.
+#[tactic(auto, unfolding(spec_parked_blocks::specs::parked_blocks::Sealed::is_row))]
 fn is_row(s: &[u8]) -> bool
     ensures { result ≡ is_row s.now }
 {
-    if s.len() != 9216 {
-        return false;
-    }
-    all_hold(s, 18)
+    s.len() == 9216 && all_hold(s, 18)
 }
 
 // Whether there are 18 blocks that hold, and a place for the bytes of blocks 1 to 17; if so, they are copied to the start of `room`.
 pub fn unseal(s: &[u8], room: &mut [u8]) -> bool
     ensures { (result ≡ unsealed s.now (length room.old)) × (room.new ≡ put (if result then room_of s.now else []) room.old) }
 {
-    if room.len() < 8568 {
-        return false;
-    }
-    if is_row(s) {
+    if 8568 <= room.len() && is_row(s) {
         copy_room(s, 17, room);
-        return true;
+        true
+    } else {
+        false
     }
-    false
 }
 
 // Whether block b holds, with nothing but zeros: its sum is its number.
+#[tactic(auto, using(spec_parked_blocks::proofs::parked_blocks::FirstLaws::number_wrong, spec_parked_blocks::proofs::parked_blocks::FirstLaws::check_wrong, spec_parked_blocks::proofs::parked_blocks::FirstLaws::zeros_tell))]
 fn blank_block(s: &[u8], b: usize) -> bool
     requires { (length s.now ≡ sealed_length) × (b ≤ 17) }
     ensures { result ≡ (block_holds s.now b && all_zero (take body_length (drop (512 * b + 4) s.now))) }
 {
     let w = 128 * b;
-    let number = checked_blocks::word(s, w) as usize;
-    if number != b {
-        return false;
-    }
-    let check = checked_blocks::word(s, w + 127) as usize;
-    if check != b {
-        return false;
-    }
-    all_zero(body(s, b))
+    checked_blocks::word(s, w) as usize == b
+        && checked_blocks::word(s, w + 127) as usize == b
+        && all_zero(body(s, b))
 }
 
 // Whether the blocks behind the k-th do.
@@ -90,11 +76,8 @@ fn blank_behind(s: &[u8], k: usize) -> bool
     requires { (length s.now ≡ sealed_length) × (k ≤ 17) }
     ensures { result ≡ blank_all s.now (k + 1) (17 - k) }
 {
-    let mut b = k + 1;
-    while b < 18 {
-        if blank_block(s, b) {
-            b += 1;
-        } else {
+    for b in k + 1..18 {
+        if !blank_block(s, b) {
             return false;
         }
     }
@@ -102,30 +85,23 @@ fn blank_behind(s: &[u8], k: usize) -> bool
 }
 
 // Whether there are 18 blocks that hold, with nothing but zeros behind the k-th.
+#[tactic(auto, using(spec_parked_blocks::proofs::parked_blocks::FirstLaws::short_length, spec_parked_blocks::proofs::parked_blocks::FirstLaws::short_first, spec_parked_blocks::proofs::parked_blocks::FirstLaws::short_rest))]
 fn short_row(s: &[u8], k: usize) -> bool
     requires { k ≤ 17 }
     ensures { result ≡ short_row s.now k }
 {
-    if s.len() != 9216 {
-        return false;
-    }
-    if all_hold(s, k + 1) {
-        return blank_behind(s, k);
-    }
-    false
+    s.len() == 9216 && all_hold(s, k + 1) && blank_behind(s, k)
 }
 
 // The same as `unseal`, where only the blocks that n bytes take are to have bytes: these are copied.
 pub fn unseal_first(s: &[u8], n: usize, room: &mut [u8]) -> bool
     ensures { (result ≡ unsealed_first s.now n (length room.old)) × (room.new ≡ put (if result then first_room n s.now else []) room.old) }
 {
-    if room.len() < 8568 {
-        return false;
-    }
     let k = blocks_for(n);
-    if short_row(s, k) {
+    if 8568 <= room.len() && short_row(s, k) {
         copy_room(s, k, room);
-        return true;
+        true
+    } else {
+        false
     }
-    false
 }

@@ -10,10 +10,7 @@ fn put_word(out: &mut [u8], at: usize, w: u32)
     requires { at + 4 ≤ length out.old }
     ensures { out.new ≡ put_at at (word_bytes w) out.old }
 {
-    out[at] = (w % 256) as u8;
-    out[at + 1] = (w / 256 % 256) as u8;
-    out[at + 2] = (w / 256 / 256 % 256) as u8;
-    out[at + 3] = (w / 256 / 256 / 256 % 256) as u8;
+    out[at..at + 4].copy_from_slice(&w.to_le_bytes());
 }
 
 // Words one after the other, at the start.
@@ -21,10 +18,8 @@ fn put_words(out: &mut [u8], words: &[u32])
     requires { 4 * length words.now ≤ length out.old }
     ensures { out.new ≡ put (words_bytes words.now) out.old }
 {
-    let mut i: usize = 0;
-    while i < words.len() {
-        put_word(out, 4 * i, words[i]);
-        i += 1;
+    for (i, w) in words.iter().enumerate() {
+        put_word(out, 4 * i, *w);
     }
 }
 
@@ -33,11 +28,7 @@ fn put_zeros(out: &mut [u8], at: usize, end: usize)
     requires { (at ≤ end) × (end ≤ length out.old) }
     ensures { out.new ≡ put_at at (replicate (end - at) 0) out.old }
 {
-    let mut i = at;
-    while i < end {
-        out[i] = 0;
-        i += 1;
-    }
+    out[at..end].fill(0);
 }
 
 // The sum of the first m words, wrapping.
@@ -45,10 +36,8 @@ fn sum(s: &[u8], m: usize) -> u32
     ensures { result ≡ sum_words s.now 0 m % 2 ^ 32 }
 {
     let mut total: u32 = 0;
-    let mut k: usize = 0;
-    while k < m {
-        total = std::num::wrapping_add_u32(total, checked_blocks::word(s, k));
-        k += 1;
+    for k in 0..m {
+        total = total.wrapping_add(checked_blocks::word(s, k));
     }
     total
 }
@@ -59,7 +48,7 @@ fn put_block(out: &mut [u8], b: u32, body: &[u8])
     ensures { out.new ≡ put (sealed b (filled body_length body.now)) out.old }
 {
     put_word(out, 0, b);
-    let end = base::bytes_at(out, 4, body);
+    let end = base::put_at(out, 4, body);
     put_zeros(out, end, 508);
     let check = sum(out, (body.len() + 7) / 4);
     put_word(out, 508, check);
@@ -86,10 +75,8 @@ fn put_held(out: &mut [u8], held: &[u8], k: usize)
     requires { (8704 ≤ length out.old) × (length held.now ≤ room_length) × (k ≤ 17) }
     ensures { out.new ≡ put (sealed_all 1 k (filled room_length held.now)) out.old }
 {
-    let mut n: usize = 0;
-    while n < k {
+    for n in 0..k {
         block_at(out, 512 * n, (n as u32) + 1, part(held, n));
-        n += 1;
     }
 }
 
@@ -103,29 +90,20 @@ fn put_first(out: &mut [u8], head: &[u8], held: &[u8], k: usize)
 }
 
 // How many of blocks 1 to 17 n bytes take.
+#[tactic(auto, unfolding(spec_parked_blocks::specs::parked_blocks::First::blocks_for))]
 pub fn blocks_for(n: usize) -> usize
     ensures { result ≡ blocks_for n }
 {
-    if 8568 <= n {
-        return 17;
-    }
-    (n + 503) / 504
+    n.div_ceil(504).min(17)
 }
 
 // Writes, at the start of `out`, block 0 with the bytes of `head`, and as many blocks with those of `held` as n bytes take, zeros behind each. Nothing where 18 blocks or the bytes have no place.
 pub fn seal_first(out: &mut [u8], head: &[u8], held: &[u8], n: usize)
     ensures { out.new ≡ put (first_in (length out.old) n head.now held.now) out.old }
 {
-    if out.len() < 9216 {
-        return;
+    if 9216 <= out.len() && head.len() <= 504 && held.len() <= 8568 {
+        put_first(out, head, held, blocks_for(n));
     }
-    if head.len() > 504 {
-        return;
-    }
-    if held.len() > 8568 {
-        return;
-    }
-    put_first(out, head, held, blocks_for(n));
 }
 
 // All 18 blocks.
@@ -139,6 +117,7 @@ pub fn seal(out: &mut [u8], head: &[u8], held: &[u8])
 pub fn words_bytes(words: [u32; 16]) -> [u8; 64]
     ensures { result ≡ words_bytes words }
 {
+    // Kept: (1) no heap: the memory is fixed.
     let mut bytes = [0u8; 64];
     put_words(&mut bytes, &words);
     bytes

@@ -1,25 +1,17 @@
 // A session stored.
-ghost use Rattle.std.specs.Prelude.{◌≡◌, true, false, cond, ◌%◌, ◌^◌, ◌≤◌, max, length};
+ghost use Rattle.std.specs.Prelude.{◌≡◌, true, false, cond, ◌%◌, ◌^◌, ◌≤◌, length};
 ghost use Rattle.spec_base.specs.base.Put.{put};
-ghost use Rattle.spec_parking.specs.parking.Parked.{flag, head_words, parked_of};
-ghost use Rattle.spec_parking.specs.parking.Head.{head_numbers, bare_of, head_bytes, restored};
+ghost use Rattle.refusals.specs.Numbers.{told};
+ghost use Rattle.spec_parking.specs.parking.Parked.{head_words, parked_of};
+ghost use Rattle.spec_parking.specs.parking.Head.{bare_of, head_bytes, restored};
 ghost use Rattle.spec_parked_blocks.specs.parked_blocks.Sealed.{sealed_length, words_bytes};
 ghost use Rattle.spec_parking.specs.parking.Parkings.{park_number, Parks, Stores};
 
+use refusals::Refusal;
 use session_state::{Head, Session};
 
 // The mark of a house that warns of lost parts by request 2.7's rule.
 const MARK: u32 = 2;
-
-// 1 for true, else 0.
-fn flag_word(t: bool) -> u32
-    ensures { result ≡ flag t }
-{
-    if t {
-        return 1;
-    }
-    0
-}
 
 // The low 32 bits.
 fn low_word(n: usize) -> u32
@@ -33,18 +25,12 @@ fn live_words(head: Head) -> [u32; 16]
     requires { head.ended ≡ false }
     ensures { words_bytes result ≡ head_bytes head }
 {
-    let config = head.config;
     let counts = head.counts;
     let columns = head.columns;
-    let events = flag_word(columns.events);
-    let width = low_word(columns.columns);
-    let start = low_word(columns.start);
-    let end = low_word(columns.end);
-    let held = low_word(head.held_len);
     [
         MARK,
-        config.kind,
-        config.timescale,
+        head.config.kind,
+        head.config.timescale,
         0,
         head.outcome,
         head.taken,
@@ -53,11 +39,11 @@ fn live_words(head: Head) -> [u32; 16]
         counts.clipped,
         counts.dropped,
         counts.passed,
-        events,
-        width,
-        start,
-        end,
-        held,
+        u32::from(columns.events),
+        low_word(columns.columns),
+        low_word(columns.start),
+        low_word(columns.end),
+        low_word(head.held_len),
     ]
 }
 
@@ -66,12 +52,11 @@ fn ended_words(head: Head) -> [u32; 16]
     requires { head.ended ≡ true }
     ensures { result ≡ head_words 2 (bare_of head) }
 {
-    let config = head.config;
     let counts = head.counts;
     [
         MARK,
-        config.kind,
-        config.timescale,
+        head.config.kind,
+        head.config.timescale,
         1,
         head.outcome,
         head.taken,
@@ -93,9 +78,10 @@ fn head_words(head: Head) -> [u32; 16]
     ensures { words_bytes result ≡ head_bytes head }
 {
     if head.ended {
-        return ended_words(head);
+        ended_words(head)
+    } else {
+        live_words(head)
     }
-    live_words(head)
 }
 
 // 17, then 16, else 0.
@@ -115,10 +101,7 @@ fn park_refusal(session: Session, lent: usize) -> u32
 fn kept_length(session: Session) -> usize
     ensures { result ≡ cond session.ended 0 session.held_len }
 {
-    if session.ended {
-        return 0;
-    }
-    session.held_len
+    if session.ended { 0 } else { session.held_len }
 }
 
 // The bytes of words 1 to 16.
@@ -128,30 +111,11 @@ fn number_bytes(head: Head) -> [u8; 64]
     parked_blocks::words_bytes(head_words(head))
 }
 
-// The numbers of a session.
-fn numbers(session: Session) -> Head
-    ensures { result ≡ head_numbers session }
-{
-    let config = session.config;
-    let counts = session.counts;
-    let columns = session.columns;
-    Head {
-        config,
-        ended: session.ended,
-        outcome: session.outcome,
-        taken: session.taken,
-        lines: session.lines,
-        counts,
-        columns,
-        held_len: session.held_len,
-    }
-}
-
 // The bytes of words 1 to 16 of a session.
 fn head_bytes(session: Session) -> [u8; 64]
     ensures { result ≡ words_bytes (head_words 2 session) }
 {
-    number_bytes(numbers(session))
+    number_bytes(session_state::head_of(session))
 }
 
 // The 18 blocks, at the start.
@@ -161,19 +125,18 @@ fn store(session: Session, out: &mut [u8])
 {
     let head = head_bytes(session);
     let n = kept_length(session);
-    let held = session.held;
-    parked_blocks::seal(out, &head, base::front(&held, n));
+    parked_blocks::seal(out, &head, base::front(&session.held, n));
 }
 
-// Stores any session so, a foreign one too: 16 where fewer than 9,216 bytes are lent, else 0.
-pub fn keep(session: Session, out: &mut [u8]) -> u32
-    ensures { Stores session result out.old out.new }
+// Stores any session so, a foreign one too: 16 where fewer than 9,216 bytes are lent.
+pub fn keep(session: Session, out: &mut [u8]) -> Result<(), Refusal>
+    ensures { Stores session (told result) out.old out.new }
 {
     if out.len() < 9216 {
-        return 16;
+        return Err(Refusal::BadArgument);
     }
     store(session, out);
-    0
+    Ok(())
 }
 
 // Stores the session as 18 blocks at the start of `out`, with mark 2.
@@ -188,17 +151,10 @@ pub fn park(session: Session, out: &mut [u8]) -> u32
     0
 }
 
-// The larger of two lengths.
-fn most(a: usize, b: usize) -> usize
-    ensures { result ≡ max a b }
-{
-    if a < b { b } else { a }
-}
-
 // Stores, with mark 2, the session of these numbers and held bytes in the place of one that held `old` bytes: only the blocks that had bytes or have some now. Nothing where 18 blocks or the bytes have no place.
 pub fn restore(head: Head, held: &[u8], old: usize, bytes: &mut [u8])
     ensures { bytes.new ≡ restored head held.now old bytes.old }
 {
     let words = number_bytes(head);
-    parked_blocks::seal_first(bytes, &words, held, most(held.len(), old));
+    parked_blocks::seal_first(bytes, &words, held, held.len().max(old));
 }

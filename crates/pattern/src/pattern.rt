@@ -1,59 +1,42 @@
 // Patterns in a text.
-ghost use Rattle.std.specs.Prelude.{◌≡◌, drop};
+ghost use Rattle.std.specs.Prelude.{◌≡◌, ◌<◌, length, drop};
 ghost use Rattle.spec_text.specs.pattern.Find.{starts, equals, first, contains, up_to, past};
 
 // Whether `s` begins with `p`.
 pub fn starts_with(s: &[u8], p: &[u8]) -> bool
     ensures { result ≡ starts p.now s.now }
 {
-    let mut i = 0;
-    while i < p.len() {
-        if i >= s.len() {
-            return false;
-        }
-        if p[i] != s[i] {
-            return false;
-        }
-        i += 1;
-    }
-    true
+    s.starts_with(p)
 }
 
 // Whether `s` and `p` are the same bytes.
 pub fn equals(s: &[u8], p: &[u8]) -> bool
     ensures { result ≡ equals p.now s.now }
 {
-    if s.len() != p.len() {
-        return false;
-    }
-    starts_with(s, p)
+    p == s
 }
 
 // Whether `p` stands in `s` from `i` on. Most places are ruled out by the first byte.
 fn stands(s: &[u8], i: usize, p: &[u8]) -> bool
+    requires { i < length s.now }
     ensures { result ≡ starts p.now (drop i s.now) }
 {
-    if p.len() == 0 {
-        return true;
+    match p {
+        [] => true,
+        [first, others @ ..] => s[i] == *first && s[i + 1..].starts_with(others),
     }
-    if base::byte(s, i) != p[0] {
-        return false;
-    }
-    starts_with(base::rest(s, i), p)
 }
 
 // The first position in `s` from which `p` stands, or the length of `s` where there is none.
 pub fn find(s: &[u8], p: &[u8]) -> usize
     ensures { result ≡ first p.now s.now }
 {
-    let mut i = 0;
-    while i < s.len() {
+    for i in 0..s.len() {
         if stands(s, i, p) {
             return i;
         }
-        i += 1;
     }
-    i
+    s.len()
 }
 
 // Whether `p` stands somewhere in `s`.

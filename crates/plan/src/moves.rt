@@ -44,14 +44,11 @@ pub fn snap(s: &[u8], n: u32, direction: u32, ranges: &mut [u32], count: usize)
         low: floor_first(),
         high: ceil_first(n),
     };
-    let mut i: usize = 0;
-    while i < count {
+    for i in 0..count {
         let at = 2 * i;
         if ranges.len() - at < 2 {
             return;
         }
-        let next = snap_at(s, n, direction, found, ranges, at);
-        found = next;
-        i += 1;
+        found = snap_at(s, n, direction, found, ranges, at);
     }
 }

@@ -35,10 +35,7 @@ pub fn ceil_first(n: u32) -> Known
 fn upto(n: u32, x: DisplayIdx) -> u32
     ensures { result ≡ min (x.0 + 1) n }
 {
-    if x.0 < n {
-        return x.0 + 1;
-    }
-    n
+    x.0.saturating_add(1).min(n)
 }
 
 // The last sync frame at or before x: looked for down to a boundary whose own is known.
@@ -47,11 +44,8 @@ fn floor_from(s: &[u8], n: u32, from: Known, x: DisplayIdx) -> DisplayIdx
     ensures { result.0 ≡ floor_sync s.now n x.0 }
 {
     let low = upto(n, from.at);
-    let mut k = upto(n, x);
-    while low < k {
-        k -= 1;
-        let found = sheet_frames::sync_at(s, DisplayIdx(k));
-        if found {
+    for k in (low..upto(n, x)).rev() {
+        if sheet_frames::sync_at(s, DisplayIdx(k)) {
             return DisplayIdx(k);
         }
     }
@@ -63,16 +57,10 @@ pub fn floor_sync(s: &[u8], n: u32, from: Known, x: DisplayIdx) -> Known
     requires { from.sync.0 ≡ floor_sync s.now n from.at.0 }
     ensures { (result.at.0 ≡ x.0) × (result.sync.0 ≡ floor_sync s.now n x.0) }
 {
-    let start = from.at;
-    if x.0 < start.0 {
-        return Known {
-            at: x,
-            sync: floor_from(s, n, floor_first(), x),
-        };
-    }
+    let known = if x.0 < from.at.0 { floor_first() } else { from };
     Known {
         at: x,
-        sync: floor_from(s, n, from, x),
+        sync: floor_from(s, n, known, x),
     }
 }
 
@@ -80,13 +68,10 @@ pub fn floor_sync(s: &[u8], n: u32, from: Known, x: DisplayIdx) -> Known
 fn ceil_from(s: &[u8], n: u32, x: DisplayIdx) -> DisplayIdx
     ensures { result.0 ≡ ceil_sync s.now n x.0 }
 {
-    let mut i = x;
-    while i.0 < n {
-        let found = sheet_frames::sync_at(s, i);
-        if found {
-            return i;
+    for k in x.0..n {
+        if sheet_frames::sync_at(s, DisplayIdx(k)) {
+            return DisplayIdx(k);
         }
-        i = DisplayIdx(i.0 + 1);
     }
     DisplayIdx(n)
 }
@@ -96,15 +81,10 @@ pub fn ceil_sync(s: &[u8], n: u32, from: Known, x: DisplayIdx) -> Known
     requires { from.sync.0 ≡ ceil_sync s.now n from.at.0 }
     ensures { (result.at.0 ≡ x.0) × (result.sync.0 ≡ ceil_sync s.now n x.0) }
 {
-    let start = from.at;
-    let end = from.sync;
-    if start.0 <= x.0 {
-        if x.0 <= end.0 {
-            return Known { at: x, sync: end };
-        }
-    }
-    Known {
-        at: x,
-        sync: ceil_from(s, n, x),
-    }
+    let sync = if from.at.0 <= x.0 && x.0 <= from.sync.0 {
+        from.sync
+    } else {
+        ceil_from(s, n, x)
+    };
+    Known { at: x, sync }
 }

@@ -7,11 +7,11 @@ use mathlib.Core.List.{List, [], ◌∷◌, Memᴰ}
 use Prim.Native.Nat.{ℕ, zero, suc, ◌+◌}
 use lib.Dec.{eqb, ltb}
 use lib.ListN.{length, drop}
+use Rattle.std.specs.Prelude.{Option, Some, None}
 use Rattle.spec_text.specs.whitespace.White.{trim}
 use Rattle.spec_text.specs.pattern.Find.{starts, equals, up_to}
 use Rattle.spec_text.specs.text.Line.{lines_of, concat, line_count, text_of, terminator_of}
-use Rattle.spec_time.specs.declared.caption_stamp.Time.{Time}
-use Rattle.spec_time.specs.declared.caption_stamp.Time.TheVariants.{At, Bad}
+use Rattle.spec_time.specs.declared.caption_stamp.Stamp.{Stamp}
 use Rattle.spec_time.specs.caption_stamp.Read.{time_in}
 use Rattle.spec_time.proofs.caption_stamp.Reading.{time_below}
 use Rattle.spec_caption.specs.caption_fate.Says.{Piece, unplaced, short, Cue, Part, stays, passes, cue}
@@ -32,10 +32,10 @@ abbrev LineInHours : LineSays → Type 0
 LineInHours (faulty f) = Unit {0}
 LineInHours (says d p) = PartInHours 0 p
 
-times_hours : (c : Columns) (n : ℕ) (w : List ℕ) (fs : List (List ℕ)) (e a b : List ℕ) (S E : Time) → time_in 0 a ≡ S → time_in 0 b ≡ E → LineInHours (times_say c n w fs e S E)
-times_hours c n w fs e a b Bad E p q = tt
-times_hours c n w fs e a b (At S i) Bad p q = tt
-times_hours c n w fs e a b (At S i) (At E j) p q = (time_below 0 S i a p, time_below 0 E j b q)
+times_hours : (c : Columns) (n : ℕ) (w : List ℕ) (fs : List (List ℕ)) (e a b : List ℕ) (S E : Option Stamp) → time_in 0 a ≡ S → time_in 0 b ≡ E → LineInHours (times_say c n w fs e S E)
+times_hours c n w fs e a b None E p q = tt
+times_hours c n w fs e a b (Some S) None p q = tt
+times_hours c n w fs e a b (Some S) (Some E) p q = (time_below 0 S.units S.mark a p, time_below 0 E.units E.mark b q)
 
 caption_hours : (c : Columns) (n : ℕ) (l w r : List ℕ) → LineInHours (caption_says c n l w r)
 unfolding caption_says
@@ -76,10 +76,10 @@ BlockInHours kind (blockFaulty f) = Unit {0}
 BlockInHours kind (block_said p) = PartInHours kind p
 
 module _ (kind : ℕ) where
-  both_hours : (n : ℕ) (z : Bool) (ps : List Piece) (a b : List ℕ) (S E : Time) → time_in kind a ≡ S → time_in kind b ≡ E → BlockInHours kind (both_say n z ps S E)
-  both_hours n z ps a b Bad E p q = tt
-  both_hours n z ps a b (At S i) Bad p q = tt
-  both_hours n z ps a b (At S i) (At E j) p q = (time_below kind S i a p, time_below kind E j b q)
+  both_hours : (n : ℕ) (z : Bool) (ps : List Piece) (a b : List ℕ) (S E : Option Stamp) → time_in kind a ≡ S → time_in kind b ≡ E → BlockInHours kind (both_say n z ps S E)
+  both_hours n z ps a b None E p q = tt
+  both_hours n z ps a b (Some S) None p q = tt
+  both_hours n z ps a b (Some S) (Some E) p q = (time_below kind S.units S.mark a p, time_below kind E.units E.mark b q)
 
   timing_hours : (first : ℕ) (ls : List (List ℕ)) (t : Timing) → BlockInHours kind (timing_says (style_of kind) first ls t)
   unfolding timing_line_says

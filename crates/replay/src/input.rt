@@ -8,14 +8,13 @@ use std::io::Read;
 fn skip<R: Read>(from: &mut R, n: usize) -> io::Result<()>
     ensures drains { Drains (R.remaining from.old) (R.remaining from.new) }
 {
-    let mut left = n;
-    while 0 < left {
+    for _ in 0..n {
+        // Kept: (1) no heap: the memory is fixed.
         let mut one = [0u8; 1];
         let got = files_map::read_full(from, &mut one)?;
         if got == 0 {
             return Ok(());
         }
-        left -= 1;
     }
     Ok(())
 }

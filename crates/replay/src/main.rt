@@ -15,14 +15,6 @@ ghost use Rattle.streams.specs.Left.{Drains, Grows};
 use std::io;
 use std::io::{Read, Write};
 
-fn print_head<W: Write>(to: &mut W, k: u64) -> io::Result<()>
-    ensures grows { Grows (W.contents to.old) (W.contents to.new) }
-{
-    streams::write_text(to, b"case ")?;
-    streams::write_number(to, k)?;
-    streams::write_text(to, b"\n")
-}
-
 // One case, of which the head is read; its parts go to the lent slices. `too large` where one does not fit.
 fn run_case<R: Read, W: Write>(
     from: &mut R,
@@ -61,21 +53,21 @@ fn run_cases<R: Read, W: Write>(
     ensures grows { Grows (W.contents to.old) (W.contents to.new) }
     ensures drains { Drains (R.remaining from.old) (R.remaining from.new) }
 {
-    let mut k: u64 = 0;
-    while k < 1099511627776 {
+    for k in 0..1099511627776u64 {
+        // Kept: (1) no heap: the memory is fixed.
         let mut head = [0u8; 32];
         let n = files_map::read_full(from, &mut head)?;
         if n < 32 {
             return Ok(());
         }
-        print_head(to, k)?;
+        files_map::print_named(to, b"case ", k)?;
         run_case(from, to, &head, x, y, z)?;
-        k += 1;
     }
     Ok(())
 }
 
 fn main(rt: HostRuntime) -> io::Result<()> {
+    // Kept: (1) no heap: the memory is fixed.
     let mut x = [0u8; 300000];
     let mut y = [0u8; 70000];
     let mut z = [0u8; 131072];

@@ -23,25 +23,13 @@ pub fn answer<W: Write>(
     ensures value { IfOk result (λ r. r ≡ is_query op) }
     ensures grows { Grows (W.contents to.old) (W.contents to.new) }
 {
-    if op == 8 {
-        crate::reasoning::print_why(to, a, b, c, map, few)?;
-        return Ok(true);
+    match op {
+        8 => crate::reasoning::print_why(to, a, b, c, map, few)?,
+        9 => crate::roughly::print_rough(to, map, few)?,
+        10 => crate::rising::print_ascends(to, map)?,
+        11 => crate::starts::print_census(to, map, a, b, few)?,
+        12 => crate::delays::print_delay(to, map, a, b, c, many)?,
+        _ => return Ok(false),
     }
-    if op == 9 {
-        crate::roughly::print_rough(to, map, few)?;
-        return Ok(true);
-    }
-    if op == 10 {
-        crate::rising::print_ascends(to, map)?;
-        return Ok(true);
-    }
-    if op == 11 {
-        crate::starts::print_census(to, map, a, b, few)?;
-        return Ok(true);
-    }
-    if op == 12 {
-        crate::delays::print_delay(to, map, a, b, c, many)?;
-        return Ok(true);
-    }
-    Ok(false)
+    Ok(true)
 }

@@ -1,28 +1,23 @@
 // The delay that loses least.
-ghost use Rattle.spec_ask.specs.ask_delay.Delay.{Near};
 ghost use Rattle.streams.specs.Left.{Grows};
 
 use std::io;
 use std::io::Write;
 
 fn print_signed<W: Write>(to: &mut W, n: i64) -> io::Result<()>
-    requires { Near n }
     ensures grows { Grows (W.contents to.old) (W.contents to.new) }
 {
     if n < 0 {
         streams::write_text(to, b"-")?;
-        let size = (0 - n) as u64;
-        return streams::write_number(to, size);
     }
-    let size = n as u64;
-    streams::write_number(to, size)
+    streams::write_number(to, n.unsigned_abs())
 }
 
 fn print_next<W: Write>(to: &mut W, n: u32) -> io::Result<()>
     ensures grows { Grows (W.contents to.old) (W.contents to.new) }
 {
     streams::write_text(to, b" ")?;
-    streams::write_number(to, n as u64)
+    streams::write_number(to, u64::from(n))
 }
 
 // The line `delay` with the delay, its loss, the tries and how far off it can be, or `refused` and the number. `many` has the captions.
@@ -43,8 +38,7 @@ pub fn print_delay<W: Write>(
         return Ok(());
     }
     streams::write_text(to, b"delay ")?;
-    let units = d.delay;
-    print_signed(to, units)?;
+    print_signed(to, d.delay)?;
     print_next(to, d.loss)?;
     print_next(to, d.tried)?;
     print_next(to, d.off)?;

@@ -1,5 +1,4 @@
 // Why a caption is kept or dropped.
-ghost use Rattle.std.specs.Prelude.{◌≤◌};
 ghost use Rattle.streams.specs.Left.{Grows};
 
 use ask_reason::Why;
@@ -7,32 +6,14 @@ use caption_fate::Counted;
 use std::io;
 use std::io::Write;
 
-// How many of 2,048 places a case lends.
-fn lent_places(c: u32) -> usize
-    ensures { result ≤ 2048 }
-{
-    let n = c as usize;
-    if 2048 < n {
-        return 2048;
-    }
-    n
-}
-
 fn print_fate<W: Write>(to: &mut W, fate: Counted) -> io::Result<()>
     ensures grows { Grows (W.contents to.old) (W.contents to.new) }
 {
     match fate {
-        Counted::Shifted => {
-            streams::write_text(to, b"why shifted ")?;
-        }
-        Counted::Clipped => {
-            streams::write_text(to, b"why clipped ")?;
-        }
-        _ => {
-            streams::write_text(to, b"why dropped ")?;
-        }
+        Counted::Shifted => streams::write_text(to, b"why shifted "),
+        Counted::Clipped => streams::write_text(to, b"why clipped "),
+        _ => streams::write_text(to, b"why dropped "),
     }
-    Ok(())
 }
 
 // The fate, the place, and the ticks cut off at each end; or the number.
@@ -43,8 +24,7 @@ fn print_told<W: Write>(to: &mut W, why: Why) -> io::Result<()>
         files_map::print_number(to, b"refused ", why.number)?;
         return Ok(());
     }
-    let fate = why.fate;
-    print_fate(to, fate)?;
+    print_fate(to, why.fate)?;
     streams::write_number(to, why.place as u64)?;
     streams::write_text(to, b" ")?;
     streams::write_number(to, why.start_cut)?;
@@ -57,11 +37,9 @@ fn print_places<W: Write>(to: &mut W, places: &[u64]) -> io::Result<()>
     ensures grows { Grows (W.contents to.old) (W.contents to.new) }
 {
     streams::write_text(to, b"places")?;
-    let mut i: usize = 0;
-    while i < places.len() {
+    for n in places {
         streams::write_text(to, b" ")?;
-        streams::write_number(to, base::word(places, i))?;
-        i += 1;
+        streams::write_number(to, *n)?;
     }
     streams::write_text(to, b"\n")
 }
@@ -77,14 +55,14 @@ fn print_asked<W: Write>(
 ) -> io::Result<()>
     ensures grows { Grows (W.contents to.old) (W.contents to.new) }
 {
-    let start = base::word(times, 0);
-    let stop = base::word(times, 1);
+    let start = base::get_or(times, 0, 0);
+    let stop = base::get_or(times, 1, 0);
     let why = ask_reason::reason(map, timescale, kind, start, stop, places);
     print_told(to, why)?;
     print_places(to, places)
 }
 
-// A caption of two times in units, with so many places lent for the causes, each of which holds 7 (request 2.8).
+// A caption of two times in units, with so many places lent for the causes, 2,048 at most, each of which holds 7 (request 2.8).
 pub fn print_why<W: Write>(
     to: &mut W,
     timescale: u32,
@@ -96,6 +74,6 @@ pub fn print_why<W: Write>(
     ensures grows { Grows (W.contents to.old) (W.contents to.new) }
 {
     let mut places = [7u64; 2048];
-    let n = lent_places(lent);
+    let n = (lent as usize).min(2048);
     print_asked(to, timescale, kind, map, times, &mut places[..n])
 }

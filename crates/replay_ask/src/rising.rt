@@ -13,7 +13,8 @@ pub fn print_ascends<W: Write>(to: &mut W, map: &[u64]) -> io::Result<()>
         return Ok(());
     }
     if ask_order::ascends(map) {
-        return streams::write_text(to, b"ascends yes\n");
+        streams::write_text(to, b"ascends yes\n")
+    } else {
+        streams::write_text(to, b"ascends no\n")
     }
-    streams::write_text(to, b"ascends no\n")
 }

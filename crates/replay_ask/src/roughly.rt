@@ -11,10 +11,10 @@ pub fn print_rough<W: Write>(to: &mut W, map: &[u64], bounds: &[u64]) -> io::Res
 {
     let j = ask_rough::rough(
         map,
-        base::word(bounds, 0),
-        base::word(bounds, 1),
-        base::word(bounds, 2),
-        base::word(bounds, 3),
+        base::get_or(bounds, 0, 0),
+        base::get_or(bounds, 1, 0),
+        base::get_or(bounds, 2, 0),
+        base::get_or(bounds, 3, 0),
     );
     match j {
         Judged::Refused(k) => {

@@ -14,7 +14,13 @@ pub fn print_census<W: Write>(
 ) -> io::Result<()>
     ensures grows { Grows (W.contents to.old) (W.contents to.new) }
 {
-    let c = ask_census::census(map, timescale, kind, base::word(few, 0), base::word(few, 1));
+    let c = ask_census::census(
+        map,
+        timescale,
+        kind,
+        base::get_or(few, 0, 0),
+        base::get_or(few, 1, 0),
+    );
     let number = c.number;
     if number != 0 {
         files_map::print_number(to, b"refused ", number)?;

@@ -23,13 +23,10 @@ pub fn answer<W: Write>(
     ensures value { IfOk result (λ r. r ≡ is_text_query op) }
     ensures grows { Grows (W.contents to.old) (W.contents to.new) }
 {
-    if op == 6 {
-        print_written(to, map, a, b, c, y, d)?;
-        return Ok(true);
+    match op {
+        6 => print_written(to, map, a, b, c, y, d)?,
+        7 => print_read(to, x)?,
+        _ => return Ok(false),
     }
-    if op == 7 {
-        print_read(to, x)?;
-        return Ok(true);
-    }
-    Ok(false)
+    Ok(true)
 }

@@ -35,6 +35,7 @@ pub fn print_written<W: Write>(
 ) -> io::Result<()>
     ensures grows { Grows (W.contents to.old) (W.contents to.new) }
 {
+    // Kept: (1) no heap: the memory is fixed.
     let mut room = [0u8; 255141];
     let w = map_json_write::write_map(map, timescale, num, den, path, frames, &mut room);
     if w.number != 0 {
@@ -49,10 +50,10 @@ fn print_head<W: Write>(to: &mut W, t: Taken, path: &[u8]) -> io::Result<()>
     ensures grows { Grows (W.contents to.old) (W.contents to.new) }
 {
     streams::write_text(to, b"map")?;
-    print_spaced(to, t.timescale as u64)?;
-    print_spaced(to, t.rate_num as u64)?;
-    print_spaced(to, t.rate_den as u64)?;
-    print_spaced(to, t.frames as u64)?;
+    print_spaced(to, u64::from(t.timescale))?;
+    print_spaced(to, u64::from(t.rate_num))?;
+    print_spaced(to, u64::from(t.rate_den))?;
+    print_spaced(to, u64::from(t.frames))?;
     streams::write_text(to, b"\npath")?;
     print_spaced(to, t.path_len as u64)?;
     streams::write_text(to, b"\n")?;
@@ -60,45 +61,11 @@ fn print_head<W: Write>(to: &mut W, t: Taken, path: &[u8]) -> io::Result<()>
     streams::write_text(to, b"\n")
 }
 
-// The first six numbers in a line.
-fn print_six<W: Write>(to: &mut W, s: &[u64]) -> io::Result<()>
-    ensures grows { Grows (W.contents to.old) (W.contents to.new) }
-{
-    streams::write_number(to, base::word(s, 0))?;
-    print_spaced(to, base::word(s, 1))?;
-    print_spaced(to, base::word(s, 2))?;
-    print_spaced(to, base::word(s, 3))?;
-    print_spaced(to, base::word(s, 4))?;
-    print_spaced(to, base::word(s, 5))?;
-    streams::write_text(to, b"\n")
-}
-
-// Segment i, one of 1,024.
-fn print_segment<W: Write>(to: &mut W, map: &[u64], i: usize) -> io::Result<()>
-    ensures grows { Grows (W.contents to.old) (W.contents to.new) }
-{
-    if 1024 <= i {
-        return Ok(());
-    }
-    print_six(to, base::words_rest(map, 6 * i))
-}
-
-fn print_segments<W: Write>(to: &mut W, map: &[u64]) -> io::Result<()>
-    ensures grows { Grows (W.contents to.old) (W.contents to.new) }
-{
-    let count = map.len() / 6;
-    let mut i: usize = 0;
-    while i < count {
-        print_segment(to, map, i)?;
-        i += 1;
-    }
-    Ok(())
-}
-
 // A map read from JSON.
 pub fn print_read<W: Write>(to: &mut W, text: &[u8]) -> io::Result<()>
     ensures grows { Grows (W.contents to.old) (W.contents to.new) }
 {
+    // Kept: (1) no heap: the memory is fixed.
     let mut map = [0u64; 6144];
     let mut path = [0u8; 1024];
     let t = map_json_read::read_map(text, &mut map, &mut path);
@@ -108,5 +75,5 @@ pub fn print_read<W: Write>(to: &mut W, text: &[u8]) -> io::Result<()>
         return Ok(());
     }
     print_head(to, t, &path)?;
-    print_segments(to, base::words_front(&map, t.places))
+    files_map::print_rows(to, base::front(&map, t.places))
 }

@@ -1,14 +1,14 @@
 -- Laws of the map that is made, and of the op that is answered.
-use mathlib.Core.Path.{◌≡◌, refl, sym, ap, subst, ◌∙◌}
-use mathlib.Core.Bool.{Bool, true, false}
+use mathlib.Core.Path.{◌≡◌, refl, ap, subst, ◌∙◌}
+use mathlib.Core.Bool.{Bool, true, false, cond}
 use mathlib.Core.List.{List}
-use Rattle.std.specs.Prelude.{Result, IfOk}
-use Prim.Native.Nat.{ℕ, ◌≤◌, ◌<◌}
+use Rattle.std.specs.Prelude.{Result, IfOk, min}
+use Prim.Native.Nat.{ℕ, ◌≤◌}
 use native.Mathlib.Omega.{arith}
-use lib.Dec.{eqb}
+use lib.Dec.{eqb, ltb}
 use lib.ListN.{length, take, replicate, length-replicate}
 use lib.Seq.{length-take-le}
-use borrow.Author.Tests.{eq-eqb, eqb-true, lt-ltb, le-ltb}
+use borrow.Author.Tests.{eq-eqb, ne_eqb, ltb-true, ltb-false}
 use Rattle.spec_base.specs.base.Limits.{most_work}
 use Rattle.spec_base.proofs.base.Laws.{yes!, no! }
 use Rattle.spec_sheet.specs.checked_blocks.Block.{word_at}
@@ -30,24 +30,17 @@ pub map_text_op : (r : Bool) (op : ℕ) (h : List ℕ) → op ≡ word_at h 0 �
 map_text_op r op h e q = q ∙ ap is_text_query e
 
 -- ---- how many work bytes are lent
-pub lent_all : (c n : ℕ) → n ≡ c → n ≡ 0 → most_work ≡ work_lent c
+pub lent_all : (c : ℕ) → c ≡ 0 → most_work ≡ work_lent c
 unfolding work_lent
-lent_all c n e z = yes! _ (eq-eqb c 0 (sym e ∙ z)) refl
+lent_all c z = yes! _ (eq-eqb c 0 z) refl
 
-lent_some : (c n : ℕ) → n ≡ c → (n ≡ 0 → ⊥) → eqb c 0 ≡ false
-lent_some c n e z = go (eqb c 0) refl
+pub lent_least : (c : ℕ) → (c ≡ 0 → ⊥) → min c most_work ≡ work_lent c
+unfolding work_lent
+lent_least c z = no! _ (ne_eqb c 0 z) (go (ltb most_work c) refl)
   where
-    go : (t : Bool) → eqb c 0 ≡ t → t ≡ false
-    go true q = absurd (z (e ∙ eqb-true c 0 q))
-    go false q = refl
-
-pub lent_most : (c n : ℕ) → n ≡ c → (n ≡ 0 → ⊥) → most_work < n → most_work ≡ work_lent c
-unfolding work_lent
-lent_most c n e z h = no! _ (lent_some c n e z) (yes! _ (lt-ltb most_work c (omega arith)) refl)
-
-pub lent_few : (c n : ℕ) → n ≡ c → (n ≡ 0 → ⊥) → n ≤ most_work → n ≡ work_lent c
-unfolding work_lent
-lent_few c n e z h = no! _ (lent_some c n e z) (no! _ (le-ltb most_work c (omega arith)) e)
+    go : (t : Bool) → ltb most_work c ≡ t → min c most_work ≡ cond t most_work c
+    go true q = omega (arith, ltb-true most_work c q)
+    go false q = omega (arith, ltb-false most_work c q)
 
 -- ---- the number, with the first n of all work bytes lent
 abbrev work_bytes : List ℕ

@@ -12,25 +12,10 @@ use segmap::Made;
 use std::io;
 use std::io::Write;
 
-// The 64-bit number at place k.
-fn number_in(x: &[u8], k: usize) -> u64 {
-    if 1099511627776 < k {
-        return 0;
-    }
-    let low = checked_blocks::word(x, 2 * k) as u64;
-    let high = checked_blocks::word(x, 2 * k + 1) as u64;
-    low + 4294967296 * high
-}
-
-// The first n 64-bit numbers of x at the start of `map`, as many as fit.
-fn fill(x: &[u8], n: usize, map: &mut [u64]) {
-    let mut i: usize = 0;
-    while i < map.len() {
-        if n <= i {
-            return;
-        }
-        map[i] = number_in(x, i);
-        i += 1;
+// The 64-bit numbers of x, low byte first, at the start of `map`, as many as fit.
+fn fill(x: &[u8], map: &mut [u64]) {
+    for (place, bytes) in map.iter_mut().zip(x.as_chunks::<8>().0) {
+        *place = u64::from_le_bytes(*bytes);
     }
 }
 
@@ -39,15 +24,16 @@ pub fn texts<W: Write>(to: &mut W, head: &[u8], x: &[u8], y: &[u8], z: &[u8]) ->
     ensures value { IfOk result (λ r. r ≡ is_text (word_at head.now 0)) }
     ensures grows { Grows (W.contents to.old) (W.contents to.new) }
 {
+    // Kept: (1) no heap: the memory is fixed.
     let mut map = [0u64; 8750];
     let n = x.len() / 8;
-    fill(x, n, &mut map);
+    fill(x, &mut map);
     let op = checked_blocks::word(head, 0);
     let a = checked_blocks::word(head, 1);
     let b = checked_blocks::word(head, 2);
     let c = checked_blocks::word(head, 3);
     let d = checked_blocks::word(head, 4);
-    let given = base::words_front(&map, n);
+    let given = base::front(&map, n);
     replay_sessions::answer(to, op, a, b, c, d, given, x, y, z)
 }
 
@@ -55,14 +41,11 @@ pub fn texts<W: Write>(to: &mut W, head: &[u8], x: &[u8], y: &[u8], z: &[u8]) ->
 fn work_lent(c: u32) -> usize
     ensures { (result ≡ work_lent c) × (result ≤ most_work) }
 {
-    let n = c as usize;
-    if n == 0 {
-        return base::MOST_WORK;
+    if c == 0 {
+        base::MOST_WORK
+    } else {
+        (c as usize).min(base::MOST_WORK)
     }
-    if base::MOST_WORK < n {
-        return base::MOST_WORK;
-    }
-    n
 }
 
 // Prints the map of a sheet and a list, with so many work bytes, or `refused` and the number that it answers.
@@ -76,6 +59,7 @@ pub fn print_made<W: Write>(
     ensures value { IfOk result (λ r. r ≡ made_number sheet.now list.now direction lent) }
     ensures grows { Grows (W.contents to.old) (W.contents to.new) }
 {
+    // Kept: (1) no heap: the memory is fixed.
     let mut work = [0; base::MOST_WORK];
     let n = work_lent(lent);
     files_map::print_map_of(to, sheet, list, direction, &mut work[..n])
@@ -86,15 +70,16 @@ pub fn asks<W: Write>(to: &mut W, head: &[u8], x: &[u8], y: &[u8], z: &[u8]) -> 
     ensures value { IfOk result (λ r. r ≡ is_query (word_at head.now 0)) }
     ensures grows { Grows (W.contents to.old) (W.contents to.new) }
 {
+    // Kept: (1) no heap: the memory is fixed.
     let mut map = [0u64; 8750];
     let mut few = [0u64; 8];
     let mut many = [0u64; 16384];
     let n = x.len() / 8;
     let m = y.len() / 8;
     let l = z.len() / 8;
-    fill(x, n, &mut map);
-    fill(y, m, &mut few);
-    fill(z, l, &mut many);
+    fill(x, &mut map);
+    fill(y, &mut few);
+    fill(z, &mut many);
     let op = checked_blocks::word(head, 0);
     let a = checked_blocks::word(head, 1);
     let b = checked_blocks::word(head, 2);
@@ -105,9 +90,9 @@ pub fn asks<W: Write>(to: &mut W, head: &[u8], x: &[u8], y: &[u8], z: &[u8]) -> 
         a,
         b,
         c,
-        base::words_front(&map, n),
-        base::words_front(&few, m),
-        base::words_front(&many, l),
+        base::front(&map, n),
+        base::front(&few, m),
+        base::front(&many, l),
     )
 }
 
@@ -116,15 +101,16 @@ pub fn map_texts<W: Write>(to: &mut W, head: &[u8], x: &[u8], y: &[u8]) -> io::R
     ensures value { IfOk result (λ r. r ≡ is_text_query (word_at head.now 0)) }
     ensures grows { Grows (W.contents to.old) (W.contents to.new) }
 {
+    // Kept: (1) no heap: the memory is fixed.
     let mut map = [0u64; 8750];
     let n = x.len() / 8;
-    fill(x, n, &mut map);
+    fill(x, &mut map);
     let op = checked_blocks::word(head, 0);
     let a = checked_blocks::word(head, 1);
     let b = checked_blocks::word(head, 2);
     let c = checked_blocks::word(head, 3);
     let d = checked_blocks::word(head, 4);
-    replay_json::answer(to, op, a, b, c, d, base::words_front(&map, n), x, y)
+    replay_json::answer(to, op, a, b, c, d, base::front(&map, n), x, y)
 }
 
 // Makes the map of a sheet and a list, with so many work bytes.
@@ -132,6 +118,7 @@ fn make(sheet: &[u8], list: &[u8], direction: u32, lent: u32, map: &mut [u64]) -
     requires { length map.old ≡ 6144 }
     ensures { result.number ≡ made_number sheet.now list.now direction lent }
 {
+    // Kept: (1) no heap: the memory is fixed.
     let mut work = [0; base::MOST_WORK];
     let n = work_lent(lent);
     segmap::make(sheet, list, direction, &mut work[..n], map)
@@ -151,6 +138,7 @@ pub fn through_made<W: Write>(
     ensures value { IfOk result (λ r. r ≡ made_number sheet.now list.now direction lent) }
     ensures grows { Grows (W.contents to.old) (W.contents to.new) }
 {
+    // Kept: (1) no heap: the memory is fixed.
     let mut map = [0u64; 6144];
     let made = make(sheet, list, direction, lent, &mut map);
     let number = made.number;

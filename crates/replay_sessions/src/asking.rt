@@ -28,21 +28,14 @@ pub fn answer<W: Write>(
     ensures value { IfOk result (λ r. r ≡ is_text op) }
     ensures grows { Grows (W.contents to.old) (W.contents to.new) }
 {
-    if op == 5 {
-        print_retimed(to, b, a, map, z, plain(d))?;
-        return Ok(true);
+    match op {
+        5 => print_retimed(to, b, a, map, z, plain(d))?,
+        13 => print_retimed(to, b, a, map, z, with_parkings(d, c, y))?,
+        14 => {
+            print_taken(to, x)?;
+        }
+        15 => print_parked(to, b, a, map, z, d, c)?,
+        _ => return Ok(false),
     }
-    if op == 13 {
-        print_retimed(to, b, a, map, z, with_parkings(d, c, y))?;
-        return Ok(true);
-    }
-    if op == 14 {
-        print_taken(to, x)?;
-        return Ok(true);
-    }
-    if op == 15 {
-        print_parked(to, b, a, map, z, d, c)?;
-        return Ok(true);
-    }
-    Ok(false)
+    Ok(true)
 }

@@ -12,6 +12,7 @@ use std::io::Write;
 fn print_blocks<W: Write>(to: &mut W, session: Session) -> io::Result<()>
     ensures grows { Grows (W.contents to.old) (W.contents to.new) }
 {
+    // Kept: (1) no heap: the memory is fixed.
     let mut bytes = [0u8; 9216];
     let number = parking::park(session, &mut bytes);
     if number != 0 {
@@ -33,6 +34,7 @@ pub fn print_parked<W: Write>(
 ) -> io::Result<()>
     ensures grows { Grows (W.contents to.old) (W.contents to.new) }
 {
+    // Kept: (1) no heap: the memory is fixed.
     let mut all = [0u8; 425984];
     let mut notes = [0u8; 262144];
     let opened = session::open(kind, timescale, map);
@@ -40,9 +42,8 @@ pub fn print_parked<W: Write>(
         files_map::print_number(to, b"refused ", opened.number)?;
         return Ok(());
     }
-    let fresh = opened.session;
     let ran = run(
-        fresh,
+        opened.session,
         map,
         text,
         plain(cut),
@@ -50,12 +51,9 @@ pub fn print_parked<W: Write>(
         &mut all,
         &mut notes,
     );
-    if ran.number != 0 {
-        if how < 2 {
-            files_map::print_number(to, b"refused ", ran.number)?;
-            return Ok(());
-        }
+    if ran.number != 0 && how < 2 {
+        files_map::print_number(to, b"refused ", ran.number)?;
+        return Ok(());
     }
-    let session = ran.session;
-    print_blocks(to, session)
+    print_blocks(to, ran.session)
 }

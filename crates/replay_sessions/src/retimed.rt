@@ -12,10 +12,10 @@ use std::io::Write;
 fn print_counts<W: Write>(to: &mut W, counts: Counts) -> io::Result<()>
     ensures grows { Grows (W.contents to.old) (W.contents to.new) }
 {
-    let shifted = counts.shifted as u64;
-    let clipped = counts.clipped as u64;
-    let dropped = counts.dropped as u64;
-    let passed = counts.passed as u64;
+    let shifted = u64::from(counts.shifted);
+    let clipped = u64::from(counts.clipped);
+    let dropped = u64::from(counts.dropped);
+    let passed = u64::from(counts.passed);
     number_lines::print_line(to, b"retimed", &[shifted, clipped, dropped, passed])?;
     Ok(())
 }
@@ -31,6 +31,7 @@ pub fn print_retimed<W: Write>(
 ) -> io::Result<()>
     ensures grows { Grows (W.contents to.old) (W.contents to.new) }
 {
+    // Kept: (1) no heap: the memory is fixed.
     let mut all = [0u8; 425984];
     let mut notes = [0u8; 262144];
     let opened = session::open(kind, timescale, map);
@@ -38,15 +39,12 @@ pub fn print_retimed<W: Write>(
         files_map::print_number(to, b"refused ", opened.number)?;
         return Ok(());
     }
-    let fresh = opened.session;
-    let ran = run(fresh, map, text, plan, true, &mut all, &mut notes);
+    let ran = run(opened.session, map, text, plan, true, &mut all, &mut notes);
     if ran.number != 0 {
         files_map::print_number(to, b"refused ", ran.number)?;
         return Ok(());
     }
-    let over = ran.session;
-    let counts = over.counts;
-    print_counts(to, counts)?;
+    print_counts(to, ran.session.counts)?;
     streams::write_text(to, base::front(&notes, ran.noted))?;
     print_output(to, base::front(&all, ran.written))
 }

@@ -4,20 +4,8 @@ ghost use Rattle.std.specs.Prelude.{◌≡◌, ◌≤◌, length};
 use crate::notes::note_all;
 use crate::pieces::{next_draw, piece_size};
 use crate::storing::{Plan, after};
+use session::Fed;
 use session_state::Session;
-
-// The place n behind `at`, or `most` where that is past it.
-fn place_after(at: usize, n: usize, most: usize) -> usize
-    ensures { result ≤ most }
-{
-    if most <= at {
-        return most;
-    }
-    if most - at <= n {
-        return most;
-    }
-    at + n
-}
 
 // What the calls so far came to: the first number that is not 0, the places after the new text and after the warnings, the session, how many calls.
 #[derive(Clone, Copy)]
@@ -29,82 +17,72 @@ pub struct Step {
     pub calls: u32,
 }
 
-// The first that is not 0.
-fn first(a: u32, b: u32) -> u32 {
-    if a != 0 {
-        return a;
+// What a call came to, and a parking where one is due. The new text has `most` places.
+fn called(
+    before: Step,
+    fed: Fed,
+    plan: Plan,
+    warnings: &[u64],
+    notes: &mut [u8],
+    most: usize,
+) -> Step
+    ensures { result.written ≤ most }
+{
+    let noted = note_all(notes, before.noted, warnings, fed.warned);
+    let calls = before.calls.wrapping_add(1);
+    let kept = after(fed.session, plan, calls);
+    Step {
+        number: if fed.number != 0 {
+            fed.number
+        } else {
+            kept.number
+        },
+        written: before.written.saturating_add(fed.written).min(most),
+        noted,
+        session: kept.session,
+        calls,
     }
-    b
 }
 
-// One call more.
-fn more(calls: u32) -> u32 {
-    std::num::wrapping_add_u32(calls, 1)
-}
-
-// One piece, and a parking where one is due.
+// One piece.
 fn take_piece(
-    session: Session,
+    before: Step,
     map: &[u64],
     piece: &[u8],
     plan: Plan,
-    calls: u32,
     all: &mut [u8],
-    places: &mut [u64],
+    warnings: &mut [u64],
     notes: &mut [u8],
-    written: usize,
-    noted: usize,
 ) -> Step
-    requires { written ≤ length all.old }
+    requires { before.written ≤ length all.old }
     ensures { result.written ≤ length all.old }
 {
     let most = all.len();
-    let fed = session::feed(session, map, piece, &mut all[written..], places);
-    let n = note_all(notes, noted, places, fed.warned);
-    let count = more(calls);
-    let next = fed.session;
-    let kept = after(next, plan, count);
-    let number = first(fed.number, kept.number);
-    let session = kept.session;
-    Step {
-        number,
-        written: place_after(written, fed.written, most),
-        noted: n,
-        session,
-        calls: count,
-    }
+    let fed = session::feed(
+        before.session,
+        map,
+        piece,
+        &mut all[before.written..],
+        warnings,
+    );
+    called(before, fed, plan, warnings, notes, most)
 }
 
-// The end of the text, and a parking where one is due.
-fn end_at(
-    session: Session,
-    map: &[u64],
-    plan: Plan,
-    calls: u32,
-    all: &mut [u8],
-    notes: &mut [u8],
-    written: usize,
-    noted: usize,
-) -> Step
-    requires { written ≤ length all.old }
+// The end of the text.
+fn end_at(before: Step, map: &[u64], plan: Plan, all: &mut [u8], notes: &mut [u8]) -> Step
+    requires { before.written ≤ length all.old }
     ensures { result.written ≤ length all.old }
 {
-    let mut places = [0u64; 4096];
+    // Kept: (1) no heap: the memory is fixed.
+    let mut warnings = [0u64; 4096];
     let most = all.len();
-    let last = session::finish(session, map, &mut all[written..], &mut places);
-    let n = note_all(notes, noted, &places, last.warned);
-    let count = more(calls);
-    let over = last.session;
-    let kept = after(over, plan, count);
-    let number = first(last.number, kept.number);
-    let session = kept.session;
-    Step {
-        number,
-        written: place_after(written, last.written, most),
-        noted: n,
-        session,
-        calls: count,
-    }
+    let last = session::finish(
+        before.session,
+        map,
+        &mut all[before.written..],
+        &mut warnings,
+    );
+    called(before, last, plan, &warnings, notes, most)
 }
 
 // Before the first call.
@@ -131,6 +109,7 @@ fn feed_all(
 ) -> Step
     ensures { result.written ≤ length all.old }
 {
+    // Kept: (1) no heap: the memory is fixed.
     let mut places = [0u64; 4096];
     let mut t = text;
     let mut draw = plan.cut;
@@ -138,19 +117,7 @@ fn feed_all(
     while 0 < t.len() {
         draw = next_draw(draw);
         let k = piece_size(plan.cut, draw);
-        let at = s.session;
-        s = take_piece(
-            at,
-            map,
-            base::front(t, k),
-            plan,
-            s.calls,
-            all,
-            &mut places,
-            notes,
-            s.written,
-            s.noted,
-        );
+        s = take_piece(s, map, base::front(t, k), plan, all, &mut places, notes);
         if s.number != 0 {
             return s;
         }
@@ -171,12 +138,9 @@ pub fn run(
     notes: &mut [u8],
 ) -> Step {
     let s = feed_all(session, map, text, plan, all, notes);
-    if s.number != 0 {
-        return s;
+    if s.number == 0 && ending {
+        end_at(s, map, plan, all, notes)
+    } else {
+        s
     }
-    if ending {
-        let at = s.session;
-        return end_at(at, map, plan, s.calls, all, notes, s.written, s.noted);
-    }
-    s
 }

@@ -21,30 +21,20 @@ pub fn plain(cut: u32) -> Plan {
 
 // A parking after every so many calls, with the mark that is the first byte of y.
 pub fn with_parkings(cut: u32, every: u32, y: &[u8]) -> Plan {
-    let mark = base::byte(y, 0) as u32;
+    let mark = u32::from(base::get_or(y, 0, 0));
     Plan { cut, every, mark }
-}
-
-// A word's bytes at a place.
-fn word_at(bytes: &mut [u8], at: usize, w: u32) -> usize {
-    let word = [
-        (w % 256) as u8,
-        (w / 256 % 256) as u8,
-        (w / 65536 % 256) as u8,
-        (w / 16777216) as u8,
-    ];
-    base::bytes_at(bytes, at, &word)
 }
 
 // Mark 1 in the place of mark 2, and the sum of block 0 made again: as a house with document 01's rule stores it.
 fn with_mark_1(bytes: &mut [u8]) {
     let sum = checked_blocks::word(bytes, 127);
-    word_at(bytes, 4, 1);
-    word_at(bytes, 508, std::num::wrapping_sub_u32(sum, 1));
+    base::put_at(bytes, 4, &1u32.to_le_bytes());
+    base::put_at(bytes, 508, &sum.wrapping_sub(1).to_le_bytes());
 }
 
 // The session stored and taken up again, or the number of what was refused.
 fn again(session: Session, mark: u32) -> TakenUp {
+    // Kept: (1) no heap: the memory is fixed.
     let mut bytes = [0u8; 9216];
     let number = parking::park(session, &mut bytes);
     if number != 0 {
@@ -52,19 +42,14 @@ fn again(session: Session, mark: u32) -> TakenUp {
     }
     if mark == 1 {
         with_mark_1(&mut bytes);
-        return parking::take_up(&bytes);
     }
     parking::take_up(&bytes)
 }
 
 // The session after so many calls: stored and taken up where a parking is due.
 pub fn after(session: Session, plan: Plan, calls: u32) -> TakenUp {
-    let every = plan.every;
-    if every == 0 {
-        return TakenUp { number: 0, session };
+    match calls.checked_rem(plan.every) {
+        Some(0) => again(session, plan.mark),
+        _ => TakenUp { number: 0, session },
     }
-    if calls % every == 0 {
-        return again(session, plan.mark);
-    }
-    TakenUp { number: 0, session }
 }

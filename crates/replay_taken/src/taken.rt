@@ -8,32 +8,23 @@ use session_state::Session;
 use std::io;
 use std::io::Write;
 
-fn flag(t: bool) -> u64 {
-    if t {
-        return 1;
-    }
-    0
-}
-
 // What words 2 to 16 of block 0 have.
 fn numbers(session: Session) -> [u64; 15] {
     let config = session.config;
     let counts = session.counts;
     let columns = session.columns;
-    let ended = flag(session.ended);
-    let events = flag(columns.events);
     [
-        config.kind as u64,
-        config.timescale as u64,
-        ended,
-        session.outcome as u64,
-        session.taken as u64,
-        session.lines as u64,
-        counts.shifted as u64,
-        counts.clipped as u64,
-        counts.dropped as u64,
-        counts.passed as u64,
-        events,
+        u64::from(config.kind),
+        u64::from(config.timescale),
+        u64::from(session.ended),
+        u64::from(session.outcome),
+        u64::from(session.taken),
+        u64::from(session.lines),
+        u64::from(counts.shifted),
+        u64::from(counts.clipped),
+        u64::from(counts.dropped),
+        u64::from(counts.passed),
+        u64::from(columns.events),
         columns.columns as u64,
         columns.start as u64,
         columns.end as u64,

@@ -7,15 +7,7 @@ use std::io::Write;
 fn main(rt: HostRuntime) -> io::Result<()> {
     let sheet = files_map::load(&rt, b"", b"sheet.bin")?;
     let list = files_map::load(&rt, b"", b"trim.txt")?;
-    let s = sheet.bytes;
-    let l = list.bytes;
     let mut to = io::writer(&rt);
-    files_retime::retime(
-        &rt,
-        &mut to,
-        b"",
-        base::front(&s, sheet.length),
-        base::front(&l, list.length),
-    )?;
+    files_retime::retime(&rt, &mut to, b"", sheet.held(), list.held())?;
     to.flush()
 }

@@ -1,1 +1,3 @@
 pub mod MilestoneLaws
+pub mod CopyLaws
+pub mod PairTests

@@ -1,2 +1,3 @@
 -- The segment map.
 pub mod Milestones
+pub mod Answer

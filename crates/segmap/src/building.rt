@@ -46,8 +46,10 @@ fn segment_of(
         output_start: output,
         duration: last.ticks - first.ticks,
     };
-    let reached = last.far;
-    Step { segment, reached }
+    Step {
+        segment,
+        reached: last.far,
+    }
 }
 
 // Writes the six numbers of a segment from the place `at` on.
@@ -55,36 +57,7 @@ fn store(map: &mut [u64], at: usize, t: Segment)
     requires { at + 6 ≤ length map.old }
     ensures { map.new ≡ sets map.old at (numbers_of t) }
 {
-    map[at] = t.source_start_frame as u64;
-    map[at + 1] = t.source_end_frame as u64;
-    map[at + 2] = t.source_start_dts;
-    map[at + 3] = t.frame_count as u64;
-    map[at + 4] = t.output_start;
-    map[at + 5] = t.duration;
-}
-
-// Makes the segment of a range and writes it from the place `at` on.
-fn place(
-    s: &[u8],
-    from: Reached,
-    start: DisplayIdx,
-    end: DisplayIdx,
-    output: u64,
-    milestones: &mut [u64],
-    map: &mut [u64],
-    at: usize,
-) -> Step
-    requires carried { Carried s.now from.decode.0 from.ticks milestones.old × (at + 6 ≤ length map.old) }
-    requires start_le_end { (start.0 ≤ end.0) × (decode_of s.now start.0 + (end.0 - start.0) ≤ most_frames) }
-    requires start_bound { ticks_from s.now 0 (decode_of s.now start.0 + (end.0 - start.0)) ≤ most_ticks }
-    ensures segment_value { (result.segment ≡ segment_in s.now output start.0 end.0) × (result.segment.duration ≤ most_ticks) }
-    ensures carried_2 { Carried s.now result.reached.decode.0 result.reached.ticks milestones.new }
-    ensures map_after { map.new ≡ sets map.old at (numbers_of result.segment) }
-{
-    let step = segment_of(s, from, start, end, output, milestones);
-    let segment = step.segment;
-    store(map, at, segment);
-    step
+    map[at..at + 6].copy_from_slice(&segment::numbers_of(t));
 }
 
 // Writes the segments of the first `count` ranges, which have no fault, and answers their durations together. The milestones are for the sums.
@@ -104,24 +77,13 @@ pub fn build(
 {
     let mut from = at_first(s, milestones);
     let mut output: u64 = 0;
-    let mut i: usize = 0;
-    while i < count {
-        let at = 2 * i;
-        let step = place(
-            s,
-            from,
-            DisplayIdx(ranges[at]),
-            DisplayIdx(ranges[at + 1]),
-            output,
-            milestones,
-            map,
-            6 * i,
-        );
-        let segment = step.segment;
-        output += segment.duration;
-        let reached = step.reached;
-        from = reached;
-        i += 1;
+    for i in 0..count {
+        let start = DisplayIdx(ranges[2 * i]);
+        let end = DisplayIdx(ranges[2 * i + 1]);
+        let step = segment_of(s, from, start, end, output, milestones);
+        store(map, 6 * i, step.segment);
+        output += step.segment.duration;
+        from = step.reached;
     }
     output
 }

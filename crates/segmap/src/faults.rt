@@ -1,40 +1,34 @@
 // The refusals of snapped ranges, range by range: turned over (9), past the end (10).
 ghost use Rattle.std.specs.Prelude.{◌≡◌, ◌*◌, take};
+ghost use Rattle.refusals.specs.Numbers.{told};
 ghost use Rattle.spec_map.specs.segmap.Build.{range_fault, ranges_fault};
 
 use order::DisplayIdx;
+use refusals::Refusal;
 
 // Whether a range is turned over, or takes samples past the last.
-pub fn range_fault(s: &[u8], n: u32, start: DisplayIdx, end: DisplayIdx) -> u32
-    ensures { result ≡ range_fault s.now n start.0 end.0 }
+pub fn range_fault(s: &[u8], n: u32, start: DisplayIdx, end: DisplayIdx) -> Result<(), Refusal>
+    ensures { told result ≡ range_fault s.now n start.0 end.0 }
 {
     if end.0 < start.0 {
-        return 9;
+        return Err(Refusal::TurnedOver);
     }
-    let count = order::frame_count(start, end) as u64;
+    let count = u64::from(order::frame_count(start, end));
     let decode = sheet_frames::decode_at(s, start);
-    let samples = n as u64;
-    if samples < decode.0 as u64 + count {
-        return 10;
+    if u64::from(n) < u64::from(decode.0) + count {
+        Err(Refusal::PastTheEnd)
+    } else {
+        Ok(())
     }
-    0
 }
 
-// The first fault of the first `count` ranges, 0 for none. Where there are fewer, all are tested.
-pub fn ranges_fault(s: &[u8], n: u32, ranges: &[u32], count: usize) -> u32
-    ensures { result ≡ ranges_fault s.now n (take (2 * count) ranges.now) }
+// The first fault of the first `count` ranges. Where there are fewer, all are tested.
+pub fn ranges_fault(s: &[u8], n: u32, ranges: &[u32], count: usize) -> Result<(), Refusal>
+    ensures { told result ≡ ranges_fault s.now n (take (2 * count) ranges.now) }
 {
-    let mut i: usize = 0;
-    while i < count {
-        let at = 2 * i;
-        if ranges.len() - at < 2 {
-            return 0;
-        }
-        let f = range_fault(s, n, DisplayIdx(ranges[at]), DisplayIdx(ranges[at + 1]));
-        if f != 0 {
-            return f;
-        }
-        i += 1;
+    let (pairs, _) = ranges.as_chunks::<2>();
+    for [start, end] in &pairs[..count.min(pairs.len())] {
+        range_fault(s, n, DisplayIdx(*start), DisplayIdx(*end))?;
     }
-    0
+    Ok(())
 }

@@ -1,6 +1,6 @@
 // The durations of the samples added up in decode order, in one pass, whatever the order of the ranges: the sum is kept at every 1,024th sample, and
 // where a range steps back it goes on from the last of these before it.
-ghost use Rattle.std.specs.Prelude.{◌≡◌, ◌≤◌, ◌<◌, min, length};
+ghost use Rattle.std.specs.Prelude.{◌≡◌, ◌≤◌, ◌<◌, length};
 ghost use Rattle.spec_base.specs.base.Limits.{most_frames, most_ticks};
 ghost use Rattle.spec_sheet.specs.sheet_frames.Frames.{ticks_from};
 ghost use Rattle.segmap.specs.Milestones.{Noted, Carried};
@@ -39,23 +39,11 @@ fn add_up(s: &[u8], from: Reached, to: DecodeIdx) -> Reached
     ensures { (result.decode.0 ≡ to.0) × (result.ticks ≡ ticks_from s.now 0 to.0) }
 {
     let long = sheet_frames::long(s);
-    let mut at = from.decode;
     let mut ticks = from.ticks;
-    while at.0 < to.0 {
-        ticks += sheet_frames::duration_by(s, long, at);
-        at = DecodeIdx(at.0 + 1);
+    for i in from.decode.0..to.0 {
+        ticks += sheet_frames::duration_by(s, long, DecodeIdx(i));
     }
     Reached { decode: to, ticks }
-}
-
-// The nearer of two places.
-fn nearer(a: DecodeIdx, b: DecodeIdx) -> DecodeIdx
-    ensures { result.0 ≡ min a.0 b.0 }
-{
-    if a.0 < b.0 {
-        return a;
-    }
-    b
 }
 
 // The sum goes on to the next milestone, or to `to` where that is nearer; a milestone that it comes to is written.
@@ -65,15 +53,12 @@ fn step(s: &[u8], from: Reached, to: DecodeIdx, milestones: &mut [u64]) -> Reach
     ensures decode_lt_decode { (from.decode.0 < result.decode.0) × (result.decode.0 ≤ to.0) × (result.ticks ≡ ticks_from s.now 0 result.decode.0) }
     ensures noted { Noted s.now from.decode.0 result.decode.0 milestones.old milestones.new }
 {
-    let start = from.decode;
-    let k = start.0 / 1024 + 1;
-    let stop = nearer(DecodeIdx(1024 * k), to);
-    let reached = add_up(s, from, stop);
-    if stop.0 < 1024 * k {
-        return reached;
+    let k = from.decode.0 / 1024 + 1;
+    let stop = (1024 * k).min(to.0);
+    let reached = add_up(s, from, DecodeIdx(stop));
+    if stop == 1024 * k {
+        milestones[k as usize] = reached.ticks;
     }
-    let at = k as usize;
-    milestones[at] = reached.ticks;
     reached
 }
 
@@ -86,8 +71,7 @@ fn go_on(s: &[u8], from: Reached, to: DecodeIdx, milestones: &mut [u64]) -> Reac
 {
     let mut reached = from;
     while reached.decode.0 < to.0 {
-        let next = step(s, reached, to, milestones);
-        reached = next;
+        reached = step(s, reached, to, milestones);
     }
     reached
 }
@@ -98,16 +82,15 @@ fn nearest(s: &[u8], far: Reached, to: DecodeIdx, milestones: &[u64]) -> Reached
     requires to_le_most_frames { to.0 ≤ most_frames }
     ensures { (result.decode.0 ≤ to.0) × (result.ticks ≡ ticks_from s.now 0 result.decode.0) × (far.decode.0 ≤ to.0 → result.decode.0 ≤ far.decode.0) }
 {
-    let start = far.decode;
-    if to.0 < start.0 {
+    if to.0 < far.decode.0 {
         let k = to.0 / 1024;
-        let at = k as usize;
-        return Reached {
+        Reached {
             decode: DecodeIdx(1024 * k),
-            ticks: milestones[at],
-        };
+            ticks: milestones[k as usize],
+        }
+    } else {
+        far
     }
-    far
 }
 
 // The sum of all samples before `to`, and how far the sum has come then.
@@ -118,15 +101,13 @@ pub fn reach(s: &[u8], far: Reached, to: DecodeIdx, milestones: &mut [u64]) -> S
 {
     let from = nearest(s, far, to, milestones);
     let reached = go_on(s, from, to, milestones);
-    let start = far.decode;
-    if to.0 < start.0 {
-        return Sum {
-            ticks: reached.ticks,
-            far,
-        };
-    }
-    Sum {
-        ticks: reached.ticks,
-        far: reached,
+    let ticks = reached.ticks;
+    if to.0 < far.decode.0 {
+        Sum { ticks, far }
+    } else {
+        Sum {
+            ticks,
+            far: reached,
+        }
     }
 }

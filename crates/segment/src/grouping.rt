@@ -1,7 +1,7 @@
 // A map in groups of 16 segments, and whether its numbers are small, in one pass.
 ghost use Rattle.std.specs.Prelude.{◌≡◌, ◌^◌, ◌≤◌, length, nat_lt};
 ghost use Rattle.spec_map.specs.segment.Segment.{segments_of};
-ghost use Rattle.spec_map.specs.segment.Groups.{low_of, high_of, segment_large, any_large, Surveys};
+ghost use Rattle.spec_map.specs.segment.Groups.{low_of, high_of, any_large, Surveys};
 
 use spec_map::segment::Surveyed;
 
@@ -17,12 +17,13 @@ struct Group {
 }
 
 // 0 where the six numbers of a segment are small. Quotients instead of tests: the loop has no branch.
-fn largeness(first: u64, last: u64, source: u64, frames: u64, output: u64, duration: u64) -> u64
-    ensures result_value { nat_lt 0 result ≡ segment_large first last source frames output duration }
+fn largeness(numbers: &[u64; 6]) -> u64
+    ensures result_value { nat_lt 0 result ≡ any_large (segments_of numbers.now) }
     ensures upper_bound { result ≤ 2 ^ 34 }
 {
-    let numbers = first / 4294967296 + last / 4294967296 + frames / 4294967296;
-    numbers + source / 4503599627370496 + output / 4503599627370496 + duration / 4503599627370496
+    let [first, last, source, frames, output, duration] = *numbers;
+    let past = first / 4294967296 + last / 4294967296 + frames / 4294967296;
+    past + source / 4503599627370496 + output / 4503599627370496 + duration / 4503599627370496
 }
 
 // A row of at most 16 segments.
@@ -33,16 +34,14 @@ fn group_of(row: &[u64]) -> Group
     ensures excess_value { nat_lt 0 result.excess ≡ any_large (segments_of row.now) }
     ensures excess_bound { result.excess ≤ 2 ^ 41 }
 {
-    let mut low: u64 = 18446744073709551615;
+    let mut low = u64::MAX;
     let mut high: u64 = 0;
-    let mut excess: u64 = 0;
-    let mut t = row;
-    while 6 <= t.len() {
-        low = base::smaller(low, t[2]);
-        high = base::larger(high, std::num::wrapping_add_u64(t[2], t[5]));
-        excess += largeness(t[0], t[1], t[2], t[3], t[4], t[5]);
-        let u = base::words_rest(t, 6);
-        t = u;
+    let mut excess = 0;
+    let (segments, _) = row.as_chunks::<6>();
+    for numbers in segments {
+        low = low.min(numbers[2]);
+        high = high.max(numbers[2].wrapping_add(numbers[5]));
+        excess += largeness(numbers);
     }
     Group { low, high, excess }
 }
@@ -52,34 +51,18 @@ fn group_of(row: &[u64]) -> Group
 pub fn survey(map: &[u64], groups: &mut [u64]) -> Surveyed
     ensures { Surveys map.now groups.old groups.new result }
 {
-    let parts = map.len() % 6;
-    if parts != 0 {
+    if map.len() % 6 != 0 || 6 * base::MOST_SEGMENTS < map.len() || groups.len() < GROUP_PLACES {
         return Surveyed {
             count: 0,
             small: false,
         };
     }
-    if 6 * base::MOST_SEGMENTS < map.len() {
-        return Surveyed {
-            count: 0,
-            small: false,
-        };
-    }
-    if groups.len() < GROUP_PLACES {
-        return Surveyed {
-            count: 0,
-            small: false,
-        };
-    }
-    let mut count: usize = 0;
-    let mut excess: u64 = 0;
-    let mut t = map;
-    while 0 < t.len() {
-        let g = group_of(base::words_front(t, 96));
-        count = base::pair_at(groups, count, g.low, g.high);
-        excess += g.excess;
-        let u = base::words_rest(t, 96);
-        t = u;
+    let mut count = 0;
+    let mut excess = 0;
+    for row in map.chunks(96) {
+        let group = group_of(row);
+        count = base::put_at(groups, count, &[group.low, group.high]);
+        excess += group.excess;
     }
     Surveyed {
         count,

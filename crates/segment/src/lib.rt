@@ -5,5 +5,5 @@ mod grouping;
 mod segment;
 
 pub use grouping::survey;
-pub use segment::{end_bad, map_bad};
+pub use segment::{end_bad, map_bad, numbers_of};
 pub use spec_map::segment::{Segment, Surveyed};

@@ -1,15 +1,28 @@
 // A segment of the map, and the limits of a map given as flat numbers, six to a segment.
 ghost use Rattle.std.specs.Prelude.{◌≡◌, ◌^◌, ◌≤◌, nat_lt};
-ghost use Rattle.spec_map.specs.segment.Segment.{end_bad, segment_bad, map_bad};
+ghost use Rattle.spec_map.specs.segment.Segment.{numbers_of, segments_of, end_bad, any_bad, map_bad};
+
+use spec_map::segment::Segment;
+
+// The six numbers of a segment, as a map has them.
+pub fn numbers_of(s: Segment) -> [u64; 6]
+    ensures { result ≡ numbers_of s }
+{
+    [
+        u64::from(s.source_start_frame),
+        u64::from(s.source_end_frame),
+        s.source_start_dts,
+        u64::from(s.frame_count),
+        s.output_start,
+        s.duration,
+    ]
+}
 
 // Whether a start and a duration pass the tick limit together.
 pub fn end_bad(start: u64, duration: u64) -> bool
     ensures { result ≡ end_bad start duration }
 {
-    if base::MOST_TICKS < start {
-        return true;
-    }
-    base::MOST_TICKS - start < duration
+    base::MOST_TICKS < start || base::MOST_TICKS - start < duration
 }
 
 // Twice the tick limit.
@@ -20,16 +33,17 @@ fn past(start: u64, duration: u64) -> u64
     ensures result_value { nat_lt 0 result ≡ end_bad start duration }
     ensures upper_bound { result ≤ 3072 }
 {
-    let end = std::num::wrapping_add_u64(start, duration);
-    let far = std::num::wrapping_add_u64(end, base::MOST_TICKS - 1);
+    let end = start.wrapping_add(duration);
+    let far = end.wrapping_add(base::MOST_TICKS - 1);
     start / TWICE + duration / TWICE + far / TWICE
 }
 
 // 0 where the six numbers of a segment break no limit.
-fn excess(first: u64, last: u64, source: u64, frames: u64, output: u64, duration: u64) -> u64
-    ensures result_value { nat_lt 0 result ≡ segment_bad first last source frames output duration }
+fn excess(numbers: &[u64; 6]) -> u64
+    ensures result_value { nat_lt 0 result ≡ any_bad (segments_of numbers.now) }
     ensures upper_bound { result ≤ 2 ^ 34 }
 {
+    let [first, last, source, frames, output, duration] = *numbers;
     let frames_past = first / 4294967296 + last / 4294967296 + frames / 4294967296;
     frames_past + past(source, duration) + past(output, duration)
 }
@@ -38,26 +52,13 @@ fn excess(first: u64, last: u64, source: u64, frames: u64, output: u64, duration
 pub fn map_bad(map: &[u64]) -> bool
     ensures { result ≡ map_bad map.now }
 {
-    let parts = map.len() % 6;
-    if parts != 0 {
-        return true;
-    }
-    if 6 * base::MOST_SEGMENTS < map.len() {
+    let (segments, rest) = map.as_chunks::<6>();
+    if !rest.is_empty() || base::MOST_SEGMENTS < segments.len() {
         return true;
     }
     let mut total = 0;
-    let mut t = map;
-    while 6 <= t.len() {
-        total += excess(
-            base::word(t, 0),
-            base::word(t, 1),
-            base::word(t, 2),
-            base::word(t, 3),
-            base::word(t, 4),
-            base::word(t, 5),
-        );
-        let u = base::words_rest(t, 6);
-        t = u;
+    for numbers in segments {
+        total += excess(numbers);
     }
     0 < total
 }

@@ -1,5 +1,6 @@
 // open, feed and finish.
 ghost use Rattle.std.specs.Prelude.{◌≡◌, length};
+ghost use Rattle.refusals.specs.Numbers.{told};
 ghost use Rattle.spec_machine.specs.kinds.Takes.{no_columns};
 ghost use Rattle.spec_session.specs.session.SessionCalls.{Answered, OpenAnswered, feed_call, finish_call, open_of, lengths_bad, refusal_of, begin_at, ended_session, unchanged_fed, ended_fed, held_fed};
 
@@ -7,6 +8,7 @@ use crate::ending::finish_run;
 use crate::running::run_piece;
 use ass_columns::Columns;
 use caption_fate::Config;
+use refusals::Refusal;
 use session_counts::Counts;
 use session_state::Session;
 use spec_session::session::{Fed, Going, Opened};
@@ -15,35 +17,35 @@ use spec_session::session::{Fed, Going, Opened};
 pub fn lengths_bad(taken: u32, piece: usize, out: usize, places: usize) -> bool
     ensures { result ≡ lengths_bad taken piece out places }
 {
-    if base::MOST_PIECE < piece {
-        return true;
-    }
-    if out < base::LEAST_OUTPUT {
-        return true;
-    }
-    if places < base::LEAST_PLACES {
-        return true;
-    }
-    (base::MOST_TAKEN as usize) < (taken as usize) + piece
+    base::MOST_PIECE < piece
+        || out < base::LEAST_OUTPUT
+        || places < base::LEAST_PLACES
+        || (base::MOST_TAKEN as usize) < (taken as usize) + piece
 }
 
-// The number by which a call is refused, or 0.
-fn refusal(session: Session, map: &[u64], piece: usize, out: usize, places: usize) -> u32
-    ensures { result ≡ refusal_of session map.now piece out places }
+// Why a call is refused.
+fn refusal(
+    session: Session,
+    map: &[u64],
+    piece: usize,
+    out: usize,
+    places: usize,
+) -> Result<(), Refusal>
+    ensures { told result ≡ refusal_of session map.now piece out places }
 {
     if session_state::foreign(session) {
-        return 17;
+        return Err(Refusal::ForeignSession);
     }
     if session.ended {
-        return 18;
+        return Err(Refusal::Ended);
     }
     if segment::map_bad(map) {
-        return 15;
+        return Err(Refusal::BadMap);
     }
     if lengths_bad(session.taken, piece, out, places) {
-        return 16;
+        return Err(Refusal::BadArgument);
     }
-    0
+    Ok(())
 }
 
 // Where a call begins.
@@ -51,13 +53,11 @@ fn begin(session: Session) -> Going
     ensures { result ≡ begin_at session }
 {
     let start = session_state::block_end(base::front(&session.held, session.held_len));
-    let counts = session.counts;
-    let columns = session.columns;
     Going {
         number: 0,
         lines: session.lines,
-        counts,
-        columns,
+        counts: session.counts,
+        columns: session.columns,
         start,
         held: session.held_len,
         written: 0,
@@ -81,7 +81,6 @@ fn no_columns() -> Columns
 fn end_session(config: Config, outcome: u32, taken: u32, counts: Counts) -> Session
     ensures { result ≡ ended_session config outcome taken counts }
 {
-    let columns = no_columns();
     Session {
         config,
         ended: true,
@@ -89,26 +88,26 @@ fn end_session(config: Config, outcome: u32, taken: u32, counts: Counts) -> Sess
         taken,
         lines: 0,
         counts,
-        columns,
+        columns: no_columns(),
         held_len: 0,
         held: [0; 8192],
     }
 }
 
-// 15 for T or the map, then 16 for the kind, else 0.
-fn open_refusal(kind: u32, timescale: u32, map: &[u64]) -> u32
-    ensures { result ≡ (open_of kind timescale map.now).number }
+// 15 for T or the map, then 16 for the kind.
+fn open_refusal(kind: u32, timescale: u32, map: &[u64]) -> Result<(), Refusal>
+    ensures { told result ≡ (open_of kind timescale map.now).number }
 {
     if caption_time::timescale_bad(timescale) {
-        return 15;
+        return Err(Refusal::BadMap);
     }
     if segment::map_bad(map) {
-        return 15;
+        return Err(Refusal::BadMap);
     }
     if caption_time::kind_bad(kind) {
-        return 16;
+        return Err(Refusal::BadArgument);
     }
-    0
+    Ok(())
 }
 
 // A session for a text of the kind (0 ASS, 1 SRT, 2 WebVTT), of T ticks a second, through the map.
@@ -121,32 +120,32 @@ pub fn open(kind: u32, timescale: u32, map: &[u64]) -> Opened
         dropped: 0,
         passed: 0,
     };
-    let number = open_refusal(kind, timescale, map);
-    if number != 0 {
+    if let Err(refused) = open_refusal(kind, timescale, map) {
         let config = Config {
             kind: 0,
             timescale: 1,
         };
         let session = end_session(config, 0, 0, none);
-        return Opened { number, session };
+        return Opened {
+            number: u32::from(refused),
+            session,
+        };
     }
-    let config = Config { kind, timescale };
-    let columns = no_columns();
     let session = Session {
-        config,
+        config: Config { kind, timescale },
         ended: false,
         outcome: 0,
         taken: 0,
         lines: 0,
         counts: none,
-        columns,
+        columns: no_columns(),
         held_len: 0,
         held: [0; 8192],
     };
     Opened { number: 0, session }
 }
 
-// The session as it came.
+// The session as it came, with a number.
 fn unchanged(number: u32, session: Session) -> Fed
     ensures { result ≡ unchanged_fed number session }
 {
@@ -162,13 +161,11 @@ fn unchanged(number: u32, session: Session) -> Fed
 fn over(config: Config, taken: u32, end: Going) -> Fed
     ensures { result ≡ ended_fed config taken end }
 {
-    let counts = end.counts;
-    let session = end_session(config, end.number, taken, counts);
     Fed {
         number: end.number,
         written: end.written,
         warned: end.warned,
-        session,
+        session: end_session(config, end.number, taken, end.counts),
     }
 }
 
@@ -176,16 +173,14 @@ fn over(config: Config, taken: u32, end: Going) -> Fed
 fn going_on(config: Config, outcome: u32, taken: u32, end: Going, held: [u8; 8192]) -> Fed
     ensures { result ≡ held_fed config outcome taken end held }
 {
-    let counts = end.counts;
-    let columns = end.columns;
     let session = Session {
         config,
         ended: false,
         outcome,
         taken,
         lines: end.lines,
-        counts,
-        columns,
+        counts: end.counts,
+        columns: end.columns,
         held_len: end.held,
         held,
     };
@@ -207,11 +202,10 @@ pub fn feed(
 ) -> Fed
     ensures { Answered session (feed_call map.now piece.now (length out.old) (length warnings.old)) result out.old out.new warnings.old warnings.new }
 {
-    let refused = refusal(session, map, piece.len(), out.len(), warnings.len());
-    if refused != 0 {
-        return unchanged(refused, session);
+    if let Err(refused) = refusal(session, map, piece.len(), out.len(), warnings.len()) {
+        return unchanged(u32::from(refused), session);
     }
-    if piece.len() == 0 {
+    if piece.is_empty() {
         return unchanged(0, session);
     }
     let mut held = session.held;
@@ -223,7 +217,7 @@ pub fn feed(
         return over(config, taken, end);
     }
     let n = end.held;
-    base::clear(&mut held[n..]);
+    held[n..].fill(0);
     going_on(config, session.outcome, taken, end, held)
 }
 
@@ -231,9 +225,8 @@ pub fn feed(
 pub fn finish(session: Session, map: &[u64], out: &mut [u8], warnings: &mut [u64]) -> Fed
     ensures { Answered session (finish_call map.now (length out.old) (length warnings.old)) result out.old out.new warnings.old warnings.new }
 {
-    let refused = refusal(session, map, 0, out.len(), warnings.len());
-    if refused != 0 {
-        return unchanged(refused, session);
+    if let Err(refused) = refusal(session, map, 0, out.len(), warnings.len()) {
+        return unchanged(u32::from(refused), session);
     }
     let mut held = session.held;
     let config = session.config;

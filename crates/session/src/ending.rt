@@ -18,17 +18,12 @@ fn closing(at: Going, end: Ended) -> Going
     requires { (at.written + end.written < 2 ^ 64) × (at.warned + end.warned < 2 ^ 64) }
     ensures { result ≡ closing_to at end }
 {
-    let counts = end.counts;
-    let columns = at.columns;
     Going {
         number: end.number,
-        lines: at.lines,
-        counts,
-        columns,
-        start: at.start,
-        held: at.held,
+        counts: end.counts,
         written: at.written + end.written,
         warned: at.warned + end.warned,
+        ..at
     }
 }
 
@@ -50,12 +45,11 @@ fn close(
     let s = at.start;
     let o = at.written;
     let w = at.warned;
-    let counts = at.counts;
     let end = end_block(
         config,
         map,
         at.lines,
-        counts,
+        at.counts,
         &held[..s],
         &mut out[o..],
         &mut warnings[w..],
@@ -67,28 +61,14 @@ fn close(
 fn bom_alone(n: u32, line: &[u8]) -> bool
     ensures { result ≡ bom_alone_of n line.now }
 {
-    if n != 0 {
-        return false;
-    }
-    pattern::equals(line, b"\xEF\xBB\xBF")
+    n == 0 && pattern::equals(line, b"\xEF\xBB\xBF")
 }
 
 // After a BOM alone.
 fn after_bom(at: Going) -> Going
     ensures { result ≡ bom_to at }
 {
-    let counts = at.counts;
-    let columns = at.columns;
-    Going {
-        number: at.number,
-        lines: at.lines,
-        counts,
-        columns,
-        start: at.start,
-        held: at.held,
-        written: 3,
-        warned: at.warned,
-    }
+    Going { written: 3, ..at }
 }
 
 // The end of a text that is a BOM alone: it is written back where the open block passes.
@@ -109,12 +89,11 @@ fn close_bom(
         return next;
     }
     let s = at.start;
-    let counts = at.counts;
     let end = end_block(
         config,
         map,
         at.lines,
-        counts,
+        at.counts,
         &held[..s],
         &mut out[3..],
         warnings,

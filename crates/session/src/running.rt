@@ -17,36 +17,14 @@ use spec_session::session::Going;
 pub fn stop(at: Going, number: u32) -> Going
     ensures { result ≡ stopped_at at number }
 {
-    let counts = at.counts;
-    let columns = at.columns;
-    Going {
-        number,
-        lines: at.lines,
-        counts,
-        columns,
-        start: at.start,
-        held: at.held,
-        written: at.written,
-        warned: at.warned,
-    }
+    Going { number, ..at }
 }
 
 // The same with m bytes held.
 fn holding(at: Going, m: usize) -> Going
     ensures { result ≡ holding_to at m }
 {
-    let counts = at.counts;
-    let columns = at.columns;
-    Going {
-        number: at.number,
-        lines: at.lines,
-        counts,
-        columns,
-        start: at.start,
-        held: m,
-        written: at.written,
-        warned: at.warned,
-    }
+    Going { held: m, ..at }
 }
 
 // After a line that was taken: one line more, what it wrote, and an open block of e bytes.
@@ -54,13 +32,11 @@ fn lined(at: Going, told: Taken, e: usize) -> Going
     requires { (at.lines ≤ 2 ^ 31) × (at.written + told.written < 2 ^ 64) × (at.warned + told.warned < 2 ^ 64) }
     ensures { result ≡ lined_to at told e }
 {
-    let counts = told.counts;
-    let columns = told.columns;
     Going {
         number: 0,
         lines: at.lines + 1,
-        counts,
-        columns,
+        counts: told.counts,
+        columns: told.columns,
         start: e,
         held: e,
         written: at.written + told.written,
@@ -76,10 +52,8 @@ fn move_down(held: &mut [u8], s: usize, k: usize, n: usize)
     if k == 0 {
         return;
     }
-    let mut i = 0;
-    while i < n {
+    for i in 0..n {
         held[s + i] = held[s + k + i];
-        i += 1;
     }
 }
 
@@ -99,14 +73,12 @@ pub fn end_line(
     let m = at.held;
     let o = at.written;
     let w = at.warned;
-    let counts = at.counts;
-    let columns = at.columns;
     let told = take_line(
         config,
         map,
         at.lines,
-        counts,
-        columns,
+        at.counts,
+        at.columns,
         &held[..m],
         s,
         &mut out[o..],
@@ -145,7 +117,7 @@ fn step(
     }
     held[n] = b;
     let more = holding(at, n + 1);
-    if b != 10 {
+    if b != b'\n' {
         return more;
     }
     end_line(config, map, more, held, out, warnings)
@@ -155,16 +127,7 @@ fn step(
 fn joins(number: u32, k: usize, b: u8) -> bool
     ensures { result ≡ true → Joins number k b }
 {
-    if number != 0 {
-        return false;
-    }
-    if base::MOST_LINE <= k {
-        return false;
-    }
-    if b == 10 {
-        return false;
-    }
-    true
+    number == 0 && k < base::MOST_LINE && b != b'\n'
 }
 
 // All bytes of a piece. `m` bytes are held; `at` is made anew only where a line ends.
@@ -182,18 +145,14 @@ pub fn run_piece(
 {
     let mut at = start;
     let mut m = start.held;
-    let mut i = 0;
-    while i < piece.len() {
-        let b = piece[i];
-        if joins(at.number, base::less(m, at.start), b) {
-            held[m] = b;
+    for b in piece {
+        if joins(at.number, m.saturating_sub(at.start), *b) {
+            held[m] = *b;
             m += 1;
-            i += 1;
-            continue;
+        } else {
+            at = step(config, map, holding(at, m), *b, held, out, warnings);
+            m = at.held;
         }
-        at = step(config, map, holding(at, m), b, held, out, warnings);
-        m = at.held;
-        i += 1;
     }
     holding(at, m)
 }

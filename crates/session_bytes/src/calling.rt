@@ -9,26 +9,19 @@ use session_state::{Head, Session};
 use spec_parking::session_bytes::{TextIn, Told};
 
 // Whether the number refuses a call: 15 to 18, or 27.
+#[tactic(auto, unfolding(spec_parking::specs::session_bytes::ByteCalls::refuses))]
 fn refuses_call(number: u32) -> bool
     ensures { result ≡ refuses number }
 {
-    if number == 27 {
-        return true;
-    }
-    if number < 15 {
-        return false;
-    }
-    number <= 18
+    matches!(number, 15..=18 | 27)
 }
 
 // What a place holds afterwards, where `before` stood: the value, or the same where the call is refused.
+#[tactic(auto, unfolding(spec_parking::specs::session_bytes::ByteCalls::told_in))]
 pub fn told_in(number: u32, value: u64, before: u64) -> u64
     ensures { result ≡ told_in number value before }
 {
-    if refuses_call(number) {
-        return before;
-    }
-    value
+    if refuses_call(number) { before } else { value }
 }
 
 fn refused(number: u32) -> Told
@@ -45,13 +38,9 @@ fn refused(number: u32) -> Told
 fn keep_next(number: u32, nothing: bool, next: Session, bytes: &mut [u8])
     ensures { bytes.new ≡ kept_next number nothing next bytes.old }
 {
-    if nothing {
-        return;
+    if !nothing && !refuses_call(number) {
+        let _ = parking::keep(next, bytes);
     }
-    if refuses_call(number) {
-        return;
-    }
-    parking::keep(next, bytes);
 }
 
 // The held bytes and the piece behind them, at the start of `room`.
@@ -61,10 +50,9 @@ fn text_in(bytes: &[u8], piece: &[u8], room: &mut [u8]) -> TextIn
 {
     let up = parking::take_in(bytes, room);
     let head = up.head;
-    let number = up.number;
-    if number != 0 {
+    if up.number != 0 {
         return TextIn {
-            number,
+            number: up.number,
             length: 0,
             head,
         };
@@ -77,7 +65,7 @@ fn text_in(bytes: &[u8], piece: &[u8], room: &mut [u8]) -> TextIn
             head,
         };
     }
-    let length = base::bytes_at(room, n, base::front(piece, base::MOST_PIECE));
+    let length = base::put_at(room, n, base::front(piece, base::MOST_PIECE));
     TextIn {
         number: 0,
         length,
@@ -89,13 +77,9 @@ fn text_in(bytes: &[u8], piece: &[u8], room: &mut [u8]) -> TextIn
 fn keep_text(number: u32, nothing: bool, head: Head, held: &[u8], old: usize, bytes: &mut [u8])
     ensures { bytes.new ≡ kept_text number nothing head held.now old bytes.old }
 {
-    if nothing {
-        return;
+    if !nothing && !refuses_call(number) {
+        parking::restore(head, held, old, bytes);
     }
-    if refuses_call(number) {
-        return;
-    }
-    parking::restore(head, held, old, bytes);
 }
 
 // A feed of the text that `text_in` made.
@@ -113,18 +97,16 @@ fn feed_text(
 {
     let bad = session::lengths_bad(head.taken, piece.len(), out.len(), warnings.len());
     let fed = session_text::take_text(head, map, text, bad, out, warnings);
-    let number = fed.number;
-    let next = fed.head;
     keep_text(
-        number,
+        fed.number,
         piece.len() == 0,
-        next,
+        fed.head,
         base::rest(text, fed.begin),
         head.held_len,
         bytes,
     );
     Told {
-        number,
+        number: fed.number,
         written: fed.written,
         warned: fed.warned,
     }
@@ -140,16 +122,15 @@ pub fn feed(
 ) -> Told
     ensures { Called (feed_call map.now piece.now (length out.old) (length warnings.old)) result bytes.old bytes.new out.old out.new warnings.old warnings.new }
 {
+    // Kept: (1) no heap: the memory is fixed.
     let mut room = [0u8; 9216];
     let up = text_in(bytes, piece, &mut room);
-    let number = up.number;
-    if number != 0 {
-        return refused(number);
+    if up.number != 0 {
+        return refused(up.number);
     }
-    let head = up.head;
     feed_text(
         bytes,
-        head,
+        up.head,
         map,
         piece,
         base::front(&room, up.length),
@@ -163,16 +144,13 @@ pub fn finish(bytes: &mut [u8], map: &[u64], out: &mut [u8], warnings: &mut [u64
     ensures { Called (finish_call map.now (length out.old) (length warnings.old)) result bytes.old bytes.new out.old out.new warnings.old warnings.new }
 {
     let up = parking::take_up(bytes);
-    let k = up.number;
-    if k != 0 {
-        return refused(k);
+    if up.number != 0 {
+        return refused(up.number);
     }
-    let session = up.session;
-    let fed = session::finish(session, map, out, warnings);
-    let number = fed.number;
-    keep_next(number, false, fed.session, bytes);
+    let fed = session::finish(up.session, map, out, warnings);
+    keep_next(fed.number, false, fed.session, bytes);
     Told {
-        number,
+        number: fed.number,
         written: fed.written,
         warned: fed.warned,
     }

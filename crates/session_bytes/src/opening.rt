@@ -8,10 +8,8 @@ pub fn open(kind: u32, timescale: u32, map: &[u64], bytes: &mut [u8]) -> u32
     ensures bytes_after { bytes.new ≡ open_bytes kind timescale map.now bytes.old }
 {
     let opened = session::open(kind, timescale, map);
-    let number = opened.number;
-    if number != 0 {
-        return number;
+    if opened.number != 0 {
+        return opened.number;
     }
-    let session = opened.session;
-    parking::keep(session, bytes)
+    refusals::number(parking::keep(opened.session, bytes))
 }

@@ -8,14 +8,8 @@ use spec_machine::session_counts::Counts;
 pub fn counts_above(taken: u32, counts: Counts) -> bool
     ensures { result ≡ counts_above taken counts }
 {
-    if taken < counts.shifted {
-        return true;
-    }
-    if taken < counts.clipped {
-        return true;
-    }
-    if taken < counts.dropped {
-        return true;
-    }
-    taken < counts.passed
+    taken < counts.shifted
+        || taken < counts.clipped
+        || taken < counts.dropped
+        || taken < counts.passed
 }

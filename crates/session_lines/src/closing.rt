@@ -28,18 +28,16 @@ pub fn close_block(
     ensures end_tells { EndTells (answer_in config (segments_by groups.now map.now) (closes (style_of config.kind) blank_state n (lines_of block.now) [])) counts result out.old out.new warnings.old warnings.new }
     ensures written_bound { result.written ≤ 3 * length block.now }
 {
-    if block.len() == 0 {
+    if block.is_empty() {
         return still(0, counts);
     }
     let told = block_cue::block(config, map, groups, n, block, out, warnings);
     if told.number != 0 {
         return still(told.number, counts);
     }
-    let counted = told.counted;
-    let more = count(counts, counted);
     Ended {
         number: 0,
-        counts: more,
+        counts: count(counts, told.counted),
         written: told.written,
         warned: told.warned,
     }
@@ -66,7 +64,7 @@ pub fn end_block(
     close_block(
         config,
         map,
-        base::words_front(map, 0),
+        base::front(map, 0),
         n,
         counts,
         block,

@@ -43,12 +43,11 @@ pub fn still(number: u32, counts: Counts) -> Ended
 pub fn blank(end: Ended, columns: Columns, written: usize) -> Taken
     ensures { result ≡ blank_line columns end written }
 {
-    let counts = end.counts;
     Taken {
         number: 0,
         skip: 0,
         added: false,
-        counts,
+        counts: end.counts,
         columns,
         written,
         warned: end.warned,
@@ -63,28 +62,20 @@ pub fn count(counts: Counts, counted: Counted) -> Counts
     match counted {
         Counted::Nothing => counts,
         Counted::Passed => Counts {
-            shifted: counts.shifted,
-            clipped: counts.clipped,
-            dropped: counts.dropped,
             passed: counts.passed + 1,
+            ..counts
         },
         Counted::Dropped => Counts {
-            shifted: counts.shifted,
-            clipped: counts.clipped,
             dropped: counts.dropped + 1,
-            passed: counts.passed,
+            ..counts
         },
         Counted::Shifted => Counts {
             shifted: counts.shifted + 1,
-            clipped: counts.clipped,
-            dropped: counts.dropped,
-            passed: counts.passed,
+            ..counts
         },
         Counted::Clipped => Counts {
-            shifted: counts.shifted,
             clipped: counts.clipped + 1,
-            dropped: counts.dropped,
-            passed: counts.passed,
+            ..counts
         },
     }
 }
@@ -94,28 +85,18 @@ pub fn behind_bom(told: Taken) -> Taken
     requires { 3 + told.written < 2 ^ 64 }
     ensures { result ≡ behind_line told }
 {
-    let counts = told.counts;
-    let columns = told.columns;
     Taken {
         number: 0,
         skip: 3,
-        added: told.added,
-        counts,
-        columns,
         written: 3 + told.written,
-        warned: told.warned,
+        ..told
     }
 }
 
 // 16: whether the output lent for `size` bytes is too short, the places are too few, or a count is too high.
+#[tactic(auto, unfolding(spec_session::specs::session_lines::LinesThrough::lent_bad))]
 pub fn lent_bad(counts: Counts, size: usize, room: usize, places: usize) -> bool
     ensures { result ≡ lent_bad counts size room places }
 {
-    if room / 3 < size {
-        return true;
-    }
-    if places < 4 {
-        return true;
-    }
-    session_counts::counts_above(MOST_COUNT, counts)
+    room / 3 < size || places < 4 || session_counts::counts_above(MOST_COUNT, counts)
 }

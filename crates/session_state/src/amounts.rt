@@ -10,50 +10,31 @@ use caption_fate::Config;
 pub fn config_bad(config: Config) -> bool
     ensures { result ≡ config_bad config }
 {
-    if caption_time::kind_bad(config.kind) {
-        return true;
-    }
-    caption_time::timescale_bad(config.timescale)
+    caption_time::kind_bad(config.kind) || caption_time::timescale_bad(config.timescale)
 }
 
 // Whether a text can end with this number: 0, a fault of the text (19 to 22), or 24 (no WebVTT header).
+#[tactic(auto, unfolding(spec_machine::specs::session_counts::Session::is_outcome))]
 pub fn is_outcome(outcome: u32) -> bool
     ensures { result ≡ is_outcome outcome }
 {
-    if outcome == 0 {
-        return true;
-    }
-    if outcome == 24 {
-        return true;
-    }
-    if outcome < 19 {
-        return false;
-    }
-    outcome <= 22
+    matches!(outcome, 0 | 19..=22 | 24)
 }
 
 // Whether no text ends with this number, or it is a fault of a text that has not ended.
+#[tactic(auto, unfolding(spec_machine::specs::session_counts::Session::outcome_bad))]
 pub fn outcome_bad(ended: bool, outcome: u32) -> bool
     ensures { result ≡ outcome_bad ended outcome }
 {
-    if is_outcome(outcome) {
-        if ended {
-            return false;
-        }
-        return outcome != 0;
-    }
-    true
+    !is_outcome(outcome) || (!ended && outcome != 0)
 }
 
 // Whether there are too many ASS columns, or the column of the start or the end is past the last.
+#[tactic(auto, unfolding(spec_machine::specs::kinds::Kit::columns_bad))]
 pub fn columns_bad(columns: Columns) -> bool
     ensures { result ≡ columns_bad columns }
 {
-    if base::MOST_COLUMNS < columns.columns {
-        return true;
-    }
-    if columns.columns < columns.start {
-        return true;
-    }
-    columns.columns < columns.end
+    base::MOST_COLUMNS < columns.columns
+        || columns.columns < columns.start
+        || columns.columns < columns.end
 }

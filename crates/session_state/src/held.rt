@@ -10,22 +10,10 @@ ghost use Rattle.spec_machine.specs.kinds.Kit.{lines_bad, held_bad};
 pub fn block_end(held: &[u8]) -> usize
     ensures { result ≡ length (concat (closed_lines held.now)) }
 {
-    let mut n = held.len();
-    while n > 0 {
-        if held[n - 1] == 10 {
-            return n;
+    for i in (0..held.len()).rev() {
+        if held[i] == b'\n' {
+            return i + 1;
         }
-        n -= 1;
-    }
-    0
-}
-
-// 1 for LF, else 0.
-fn lf_one(b: u8) -> usize
-    ensures { result ≡ cond (eqb b 10) 1 0 }
-{
-    if b == 10 {
-        return 1;
     }
     0
 }
@@ -34,23 +22,14 @@ fn lf_one(b: u8) -> usize
 pub fn lf_count(held: &[u8]) -> usize
     ensures { result ≡ line_count (closed_lines held.now) }
 {
-    let mut n: usize = 0;
-    let mut i: usize = 0;
-    while i < held.len() {
-        n += lf_one(held[i]);
-        i += 1;
-    }
-    n
+    held.iter().filter(|b| **b == b'\n').count()
 }
 
 // Whether this can't be a line of an open block: a blank line would have ended the block, and a line that is not UTF-8 is a fault (20).
 fn line_bad(kind: u32, line: &[u8]) -> bool
     ensures { result ≡ (blank_in kind line.now || not (utf8 line.now)) }
 {
-    if block_timing::is_blank_in(kind, line) {
-        return true;
-    }
-    !utf8::is_utf8(line)
+    block_timing::is_blank_in(kind, line) || !utf8::is_utf8(line)
 }
 
 // Whether one of the lines can't be a line of an open block.
@@ -58,34 +37,28 @@ fn lines_bad(kind: u32, s: &[u8]) -> bool
     ensures { result ≡ lines_bad kind (lines_of s.now) }
 {
     let mut t = s;
-    while t.len() > 0 {
+    while !t.is_empty() {
         let k = text::line_length(t);
         if line_bad(kind, base::front(t, k)) {
             return true;
         }
-        let u = base::rest(t, k);
-        t = u;
+        t = base::rest(t, k);
     }
     false
 }
 
 // Whether no session of this kind holds these bytes: ASS holds no finished line, a block and an unfinished line keep their limits, and every line of the block
 // can be one.
+#[tactic(auto, using(spec_session::proofs::session_state::HeldLaws::held_lf, spec_session::proofs::session_state::HeldLaws::held_block, spec_session::proofs::session_state::HeldLaws::held_lines))]
 pub fn held_bad(kind: u32, held: &[u8]) -> bool
     ensures { result ≡ held_bad kind held.now }
 {
     let e = block_end(held);
     if kind == 0 {
-        if base::MOST_LINE < held.len() {
-            return true;
-        }
-        return 0 < e;
+        base::MOST_LINE < held.len() || 0 < e
+    } else {
+        base::MOST_BLOCK < e
+            || lines_bad(kind, base::front(held, e))
+            || base::MOST_LINE < held.len().saturating_sub(e)
     }
-    if base::MOST_BLOCK < e {
-        return true;
-    }
-    if lines_bad(kind, base::front(held, e)) {
-        return true;
-    }
-    base::MOST_LINE < base::less(held.len(), e)
 }

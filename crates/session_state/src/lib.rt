@@ -8,4 +8,4 @@ mod whole;
 pub use amounts::is_outcome;
 pub use held::block_end;
 pub use spec_session::session_state::{Head, Session};
-pub use whole::{foreign, foreign_head};
+pub use whole::{foreign, foreign_head, head_of};

@@ -10,7 +10,6 @@ ghost use Rattle.spec_session.specs.session_state.View.{foreign_of};
 
 use crate::amounts::{columns_bad, config_bad, outcome_bad};
 use crate::held::{held_bad, lf_count};
-use ass_columns::Columns;
 use session_counts::counts_above;
 use spec_session::session_state::{Head, Session};
 
@@ -18,90 +17,51 @@ use spec_session::session_state::{Head, Session};
 fn marks_bad(ended: bool, outcome: u32, lines: u32, held: &[u8]) -> bool
     ensures { result ≡ (outcome_bad ended outcome || ltb lines (line_count (closed_lines held.now))) }
 {
-    if outcome_bad(ended, outcome) {
-        return true;
-    }
-    (lines as usize) < lf_count(held)
+    outcome_bad(ended, outcome) || (lines as usize) < lf_count(held)
 }
 
 // Whether more bytes are held than were taken, or the columns, the held bytes or the outcome can't be.
-fn kept_bad(
-    kind: u32,
-    taken: u32,
-    columns: Columns,
-    ended: bool,
-    outcome: u32,
-    lines: u32,
-    held: &[u8],
-) -> bool
-    ensures { result ≡ (ltb taken (length held.now) || (strange kind columns held.now || (outcome_bad ended outcome || ltb lines (line_count (closed_lines held.now))))) }
+fn kept_bad(head: Head, held: &[u8]) -> bool
+    ensures { result ≡ (ltb head.taken (length held.now) || (strange head.config.kind head.columns held.now || (outcome_bad head.ended head.outcome || ltb head.lines (line_count (closed_lines held.now))))) }
 {
-    if (taken as usize) < held.len() {
-        return true;
-    }
-    if columns_bad(columns) {
-        return true;
-    }
-    if held_bad(kind, held) {
-        return true;
-    }
-    if kind == 0 {
-        return outcome_bad(ended, outcome);
-    }
-    marks_bad(ended, outcome, lines, held)
+    (head.taken as usize) < held.len()
+        || columns_bad(head.columns)
+        || held_bad(head.config.kind, held)
+        || marks_bad(head.ended, head.outcome, head.lines, held)
 }
 
 // Whether a session of these numbers and held bytes is foreign.
 pub fn foreign_head(head: Head, held: &[u8]) -> bool
     ensures { result ≡ model.foreign kit (view_of head held.now) }
 {
-    let config = head.config;
-    let counts = head.counts;
-    let columns = head.columns;
-    let taken = head.taken;
-    if config_bad(config) {
-        return true;
-    }
-    if base::MOST_TAKEN < taken {
-        return true;
-    }
-    if counts_above(taken, counts) {
-        return true;
-    }
-    if taken < head.lines {
-        return true;
-    }
-    kept_bad(
-        config.kind,
-        taken,
-        columns,
-        head.ended,
-        head.outcome,
-        head.lines,
-        held,
-    )
+    config_bad(head.config)
+        || base::MOST_TAKEN < head.taken
+        || counts_above(head.taken, head.counts)
+        || head.taken < head.lines
+        || kept_bad(head, held)
 }
 
-// Whether the session is foreign.
-pub fn foreign(session: Session) -> bool
-    ensures { result ≡ foreign_of session }
+// The numbers of a session, apart from the bytes that it holds.
+pub fn head_of(session: Session) -> Head
+    ensures { result ≡ record { config = session.config; ended = session.ended; outcome = session.outcome; taken = session.taken; lines = session.lines; counts = session.counts; columns = session.columns; held_len = session.held_len } }
 {
-    let n = session.held_len;
-    if base::MOST_HELD < n {
-        return true;
-    }
-    let config = session.config;
-    let counts = session.counts;
-    let columns = session.columns;
-    let head = Head {
-        config,
+    Head {
+        config: session.config,
         ended: session.ended,
         outcome: session.outcome,
         taken: session.taken,
         lines: session.lines,
-        counts,
-        columns,
-        held_len: n,
-    };
-    foreign_head(head, base::front(&session.held, n))
+        counts: session.counts,
+        columns: session.columns,
+        held_len: session.held_len,
+    }
+}
+
+// Whether the session is foreign.
+#[tactic(auto, using(spec_session::proofs::session_state::ForeignLaws::foreign_large, spec_session::proofs::session_state::ForeignLaws::foreign_plain))]
+pub fn foreign(session: Session) -> bool
+    ensures { result ≡ foreign_of session }
+{
+    let n = session.held_len;
+    base::MOST_HELD < n || foreign_head(head_of(session), base::front(&session.held, n))
 }

@@ -1,13 +1,14 @@
 // The lines of a text, taken where they stand in it.
-ghost use Rattle.std.specs.Prelude.{◌≡◌, true, false, cond, ◌≤◌, ◌+◌, ltb, length, drop};
+ghost use Rattle.std.specs.Prelude.{◌≡◌, true, false, cond, ◌≤◌, ◌+◌, ltb, length, take, drop};
 ghost use Rattle.spec_base.specs.base.Limits.{most_taken, most_line};
 ghost use Rattle.spec_map.specs.segment.Segment.{segments_of, map_bad};
 ghost use Rattle.spec_map.specs.segment.Groups.{groups_of};
 ghost use Rattle.spec_text.specs.utf8.Utf8.{utf8};
-ghost use Rattle.spec_text.specs.text.Line.{concat};
+ghost use Rattle.spec_text.specs.text.Line.{concat, has_lf};
 ghost use Rattle.spec_machine.specs.session_counts.Cut.{closed_lines};
 ghost use Rattle.spec_session.specs.session_lines.LinesThrough.{take_in, LineTells};
-ghost use Rattle.spec_session.specs.session_text.Lined.{LineEnd, Joins, line_start, Starts, lined_of, Onto, text_run, Ends};
+ghost use Rattle.std.specs.Option.{MatchOption};
+ghost use Rattle.spec_session.specs.session_text.Lined.{Closed, Joins, line_start, Starts, lined_of, Onto, text_run, Ends};
 
 use ass_columns::Columns;
 use caption_fate::Config;
@@ -16,39 +17,31 @@ use session_lines::Taken;
 use session_state::Head;
 use spec_session::session_text::Lined;
 
-// Where the line that begins at i ends, behind its LF; 0 where no LF ends it within 4,096 bytes.
-fn line_end(text: &[u8], i: usize) -> usize
-    ensures { LineEnd text.now i result }
+// Where the line that begins at i ends, behind its LF; none where no LF ends it within 4,096 bytes.
+fn line_end(text: &[u8], i: usize) -> Option<usize>
+    ensures { MatchOption result (has_lf (take most_line (drop i text.now)) ≡ false) (Closed text.now i) }
 {
     let line = base::front(base::rest(text, i), base::MOST_LINE);
     let k = text::line_length(line);
-    if k == 0 {
-        return 0;
+    if k != 0 && line[k - 1] == b'\n' {
+        Some(i + k)
+    } else {
+        None
     }
-    if line[k - 1] == 10 {
-        return i + k;
-    }
-    0
 }
 
 // Where the open block begins after a line: at b where the line joins it, else at e.
 fn block_begin(added: bool, b: usize, e: usize) -> usize
     ensures { result ≡ cond added b e }
 {
-    if added {
-        return b;
-    }
-    e
+    if added { b } else { e }
 }
 
 // The number where no LF ends a line any more and k bytes are left: 19 where they are too many.
 fn rest_number(k: usize) -> u32
     ensures { result ≡ cond (ltb most_line k) 19 0 }
 {
-    if base::MOST_LINE < k {
-        return 19;
-    }
-    0
+    if base::MOST_LINE < k { 19 } else { 0 }
 }
 
 // How far the lines have led, of its numbers.
@@ -80,18 +73,15 @@ fn led_to(
 fn lines_good(kind: u32, rest: &[u8]) -> bool
     ensures { result ≡ true → utf8 (concat (closed_lines rest.now)) ≡ true }
 {
-    if kind == 0 {
-        return false;
-    }
-    utf8::is_utf8(base::front(rest, session_state::block_end(rest)))
+    kind != 0 && utf8::is_utf8(base::front(rest, session_state::block_end(rest)))
 }
 
 // Lines passed over: how many lines there are before the next one, where that begins and ends.
-#[derive(Clone, Copy)]
+#[derive(Clone, Copy, Debug, PartialEq, Eq)]
 struct Passed {
     lines: u32,
     place: usize,
-    end: usize,
+    end: Option<usize>,
 }
 
 // Whether a line, before which n stand, only joins the open block, which has `size` bytes with it.
@@ -99,19 +89,10 @@ fn joins_block(good: bool, kind: u32, n: u32, size: usize, line: &[u8]) -> bool
     requires { good ≡ true → utf8 line.now ≡ true }
     ensures { result ≡ true → Joins kind n size line.now }
 {
-    if n == 0 {
-        return false;
-    }
-    if base::MOST_BLOCK < size {
-        return false;
-    }
-    if block_timing::is_blank_in(kind, line) {
-        return false;
-    }
-    if good {
-        return true;
-    }
-    utf8::is_utf8(line)
+    n != 0
+        && size <= base::MOST_BLOCK
+        && !block_timing::is_blank_in(kind, line)
+        && (good || utf8::is_utf8(line))
 }
 
 // Passes over the lines from i on that only join the open block, which begins at b.
@@ -120,36 +101,26 @@ fn pass_joins(good: bool, kind: u32, lines: u32, b: usize, begin: usize, text: &
     requires text_value { good ≡ true → utf8 (concat (closed_lines (drop begin text.now))) ≡ true }
     ensures begin_le_place { begin ≤ result.place }
     ensures onto { Onto kind b text.now lines begin result.lines result.place }
-    ensures line_end { LineEnd text.now result.place result.end }
+    ensures line_end { MatchOption result.end (has_lf (take most_line (drop result.place text.now)) ≡ false) (Closed text.now result.place) }
     ensures text_value_2 { good ≡ true → utf8 (concat (closed_lines (drop result.place text.now))) ≡ true }
 {
     let mut n = lines;
-    let mut i = begin;
-    while kind != 0 {
-        let e = line_end(text, i);
-        if e == 0 {
+    let mut place = begin;
+    while let Some(end) = line_end(text, place) {
+        if kind == 0 || !joins_block(good, kind, n, end - b, &text[place..end]) {
             return Passed {
                 lines: n,
-                place: i,
-                end: e,
+                place,
+                end: Some(end),
             };
         }
-        if joins_block(good, kind, n, e - b, &text[i..e]) {
-            n += 1;
-            i = e;
-        } else {
-            return Passed {
-                lines: n,
-                place: i,
-                end: e,
-            };
-        }
+        n += 1;
+        place = end;
     }
-    let e = line_end(text, i);
     Passed {
         lines: n,
-        place: i,
-        end: e,
+        place,
+        end: None,
     }
 }
 
@@ -194,18 +165,15 @@ pub fn run_lines(
     let mut i = start;
     let mut o: usize = 0;
     let mut w: usize = 0;
-    let setting = head.config;
-    let good = lines_good(setting.kind, base::rest(text, i));
+    let good = lines_good(head.config.kind, base::rest(text, i));
     while i < text.len() {
-        let config = head.config;
-        let p = pass_joins(good, config.kind, n, b, i, text);
-        let e = p.end;
-        if e == 0 {
+        let p = pass_joins(good, head.config.kind, n, b, i, text);
+        let Some(e) = p.end else {
             let number = rest_number(text.len() - p.place);
             return led_to(number, p.lines, counts, columns, b, p.place, o, w);
-        }
+        };
         let told = take_grouped(
-            config,
+            head.config,
             map,
             groups,
             p.lines,

@@ -2,36 +2,30 @@
 ghost use Rattle.std.specs.Prelude.{◌≡◌, true, false, ◌≤◌, length};
 ghost use Rattle.spec_map.specs.segment.Segment.{map_bad};
 ghost use Rattle.spec_map.specs.segment.Groups.{groups_of};
+ghost use Rattle.refusals.specs.Numbers.{number_of, told};
 ghost use Rattle.spec_session.specs.session_text.Answer.{text_bad, TextAnswered};
 ghost use Rattle.spec_session.specs.session_text.Lined.{head_refusal, unchanged_text, ended_text, going_text};
 
 use crate::lining::run_lines;
 use ass_columns::Columns;
 use caption_fate::Config;
+use refusals::Refusal;
 use session_state::Head;
 use spec_session::session_text::{Lined, TextFed};
 
 // 16: by the caller's own test, or by the lengths of the text, of the output and of the places.
+#[tactic(auto, unfolding(spec_session::specs::session_text::Answer::text_bad))]
 fn text_bad(bad: bool, head: Head, text: usize, out: usize, places: usize) -> bool
     ensures { result ≡ text_bad bad head text out places }
 {
-    if bad {
-        return true;
-    }
-    if text < head.held_len {
+    if bad || text < head.held_len {
         return true;
     }
     let new = text - head.held_len;
-    if (base::MOST_TAKEN as usize) < new {
-        return true;
-    }
-    if (base::MOST_TAKEN as usize) < (head.taken as usize) + new {
-        return true;
-    }
-    if out / 3 < text {
-        return true;
-    }
-    places < text / 3 + 4
+    (base::MOST_TAKEN as usize) < new
+        || (base::MOST_TAKEN as usize) < (head.taken as usize) + new
+        || out / 3 < text
+        || places < text / 3 + 4
 }
 
 // 15, of a map whose numbers may be known to be small.
@@ -39,38 +33,35 @@ fn map_wrong(map: &[u64], small: bool) -> bool
     requires { small ≡ true → map_bad map.now ≡ false }
     ensures { result ≡ map_bad map.now }
 {
-    if small {
-        return false;
-    }
-    segment::map_bad(map)
+    !small && segment::map_bad(map)
 }
 
-// The number by which the call is refused, or 0.
-fn refusal(head: Head, map: &[u64], small: bool, held: &[u8], bad: bool) -> u32
+// Why the call is refused.
+fn refusal(head: Head, map: &[u64], small: bool, held: &[u8], bad: bool) -> Result<(), Refusal>
     requires { small ≡ true → map_bad map.now ≡ false }
-    ensures { result ≡ head_refusal head held.now map.now bad }
+    ensures { told result ≡ head_refusal head held.now map.now bad }
 {
     if session_state::foreign_head(head, held) {
-        return 17;
+        return Err(Refusal::ForeignSession);
     }
     if head.ended {
-        return 18;
+        return Err(Refusal::Ended);
     }
     if map_wrong(map, small) {
-        return 15;
+        return Err(Refusal::BadMap);
     }
     if bad {
-        return 16;
+        return Err(Refusal::BadArgument);
     }
-    0
+    Ok(())
 }
 
 // Refused: the session as it came.
-fn unchanged(number: u32, head: Head) -> TextFed
-    ensures { result ≡ unchanged_text number head }
+fn unchanged(refusal: Refusal, head: Head) -> TextFed
+    ensures { result ≡ unchanged_text (number_of refusal) head }
 {
     TextFed {
-        number,
+        number: u32::from(refusal),
         written: 0,
         warned: 0,
         begin: 0,
@@ -82,21 +73,19 @@ fn unchanged(number: u32, head: Head) -> TextFed
 fn over(config: Config, taken: u32, n: usize, end: Lined) -> TextFed
     ensures { result ≡ ended_text config taken n end }
 {
-    let counts = end.counts;
-    let columns = Columns {
-        events: false,
-        columns: 0,
-        start: 0,
-        end: 0,
-    };
     let head = Head {
         config,
         ended: true,
         outcome: end.number,
         taken,
         lines: 0,
-        counts,
-        columns,
+        counts: end.counts,
+        columns: Columns {
+            events: false,
+            columns: 0,
+            start: 0,
+            end: 0,
+        },
         held_len: 0,
     };
     TextFed {
@@ -113,16 +102,14 @@ fn going_on(config: Config, outcome: u32, taken: u32, n: usize, end: Lined) -> T
     requires { end.begin ≤ n }
     ensures { result ≡ going_text config outcome taken n end }
 {
-    let counts = end.counts;
-    let columns = end.columns;
     let head = Head {
         config,
         ended: false,
         outcome,
         taken,
         lines: end.lines,
-        counts,
-        columns,
+        counts: end.counts,
+        columns: end.columns,
         held_len: n - end.begin,
     };
     TextFed {
@@ -150,18 +137,16 @@ fn take_bounded(
 {
     let short = text_bad(bad, head, text.len(), out.len(), warnings.len());
     let held = base::front(text, head.held_len);
-    let refused = refusal(head, map, small, held, short);
-    if refused != 0 {
+    if let Err(refused) = refusal(head, map, small, held, short) {
         return unchanged(refused, head);
     }
     let start = session_state::block_end(held);
     let end = run_lines(head, map, groups, start, text, out, warnings);
     let taken = head.taken + ((text.len() - head.held_len) as u32);
-    let config = head.config;
     if end.number != 0 {
-        return over(config, taken, text.len(), end);
+        return over(head.config, taken, text.len(), end);
     }
-    going_on(config, head.outcome, taken, text.len(), end)
+    going_on(head.config, head.outcome, taken, text.len(), end)
 }
 
 // A feed of the bytes behind the first `held_len` ones, which are held. `bad`: the caller refuses the call by 16.
@@ -175,12 +160,13 @@ pub fn take_text(
 ) -> TextFed
     ensures { TextAnswered head map.now text.now bad result out.old out.new warnings.old warnings.new }
 {
+    // Kept: (1) no heap: the memory is fixed.
     let mut groups = [0u64; 128];
     let seen = segment::survey(map, &mut groups);
     take_bounded(
         head,
         map,
-        base::words_front(&groups, seen.count),
+        base::front(&groups, seen.count),
         seen.small,
         text,
         bad,

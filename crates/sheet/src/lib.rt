@@ -7,5 +7,5 @@ mod heads;
 mod records;
 mod totals;
 
-pub use answer::{check, number};
-pub use spec_sheet::sheet::{Head, Sheet};
+pub use answer::check;
+pub use spec_sheet::sheet::Head;

@@ -1,26 +1,23 @@
 // The blocks after block 0: number and check, then the records of each.
 ghost use Rattle.std.specs.Prelude.{◌≡◌, ◌+◌, ◌-◌, ◌*◌, ◌^◌, ◌<◌, ◌≤◌};
+ghost use Rattle.refusals.specs.Numbers.{told};
 ghost use Rattle.spec_base.specs.base.Refusal.{first_of};
 ghost use Rattle.spec_sheet.specs.sheet_frames.Frames.{long_of, per_block, record_width, record_word};
 ghost use Rattle.spec_sheet.specs.sheet.Sheet.{record_fault, check_fault, block_fault, record_blocks};
+
+use refusals::Refusal;
 
 // Records to a block, and words to a record.
 fn per_block(long: bool) -> usize
     ensures { (result ≡ per_block long) × (result ≤ 63) }
 {
-    if long {
-        return 42;
-    }
-    63
+    if long { 42 } else { 63 }
 }
 
 fn record_width(long: bool) -> usize
     ensures { (result ≡ record_width long) × (result ≤ 3) }
 {
-    if long {
-        return 3;
-    }
-    2
+    if long { 3 } else { 2 }
 }
 
 // The first record of block b.
@@ -28,87 +25,70 @@ fn first_record(long: bool, b: usize) -> usize
     requires { (0 < b) × (b < 2 ^ 32) }
     ensures { (result ≡ per_block long * (b - 1)) × (result < 2 ^ 38) }
 {
-    if long {
-        return 42 * (b - 1);
-    }
-    63 * (b - 1)
+    if long { 42 * (b - 1) } else { 63 * (b - 1) }
 }
 
 // Record i of n, which starts at word w.
-fn record_fault(s: &[u8], long: bool, n: usize, i: usize, w: usize) -> u32
-    requires { (long ≡ long_of s.now) × (w ≡ record_word long i) × (w < 2 ^ 40) }
-    ensures { result ≡ record_fault s.now n i }
+fn record_fault<const LONG: bool>(s: &[u8], n: usize, i: usize, w: usize) -> Result<(), Refusal>
+    requires { (LONG ≡ long_of s.now) × (w ≡ record_word LONG i) × (w < 2 ^ 40) }
+    ensures { told result ≡ record_fault s.now n i }
 {
     let first = checked_blocks::word(s, w);
     if i < n {
         let decode = sheet_frames::decode_in(first);
         if n <= decode.0 as usize {
-            return 14;
+            return Err(Refusal::SheetRecord);
         }
-        return 0;
+        return Ok(());
     }
-    if first != 0 {
-        return 14;
+    if first != 0 || checked_blocks::word(s, w + 1) != 0 {
+        return Err(Refusal::SheetRecord);
     }
-    let second = checked_blocks::word(s, w + 1);
-    if second != 0 {
-        return 14;
+    if LONG && checked_blocks::word(s, w + 2) != 0 {
+        Err(Refusal::SheetRecord)
+    } else {
+        Ok(())
     }
-    if long {
-        let third = checked_blocks::word(s, w + 2);
-        if third != 0 {
-            return 14;
-        }
-        return 0;
-    }
-    0
 }
 
-// The records of block b.
-fn records_fault(s: &[u8], long: bool, n: usize, b: usize) -> u32
-    requires { (long ≡ long_of s.now) × (0 < b) × (b < 2 ^ 32) }
-    ensures { result ≡ first_of (record_fault s.now n) (per_block long * (b - 1)) (per_block long) }
+// The records of block b, by a layout that is told as a constant.
+fn records_fault<const LONG: bool>(s: &[u8], n: usize, b: usize) -> Result<(), Refusal>
+    requires { (LONG ≡ long_of s.now) × (0 < b) × (b < 2 ^ 32) }
+    ensures { told result ≡ first_of (record_fault s.now n) (per_block LONG * (b - 1)) (per_block LONG) }
 {
-    let per = per_block(long);
-    let width = record_width(long);
-    let start = first_record(long, b);
+    let per = per_block(LONG);
+    let width = record_width(LONG);
+    let start = first_record(LONG, b);
     let end = start + per;
-    let mut i = start;
-    let mut w = 128 * b + 1;
-    while i < end {
-        let f = record_fault(s, long, n, i, w);
-        if f != 0 {
-            return f;
-        }
-        i += 1;
-        w += width;
+    for i in start..end {
+        let w = 128 * b + 1 + width * (i - start);
+        record_fault::<LONG>(s, n, i, w)?;
     }
-    0
+    Ok(())
 }
 
 // Block b's number and check.
-pub fn check_fault(s: &[u8], b: usize) -> u32
-    ensures { result ≡ check_fault s.now b }
+pub fn check_fault(s: &[u8], b: usize) -> Result<(), Refusal>
+    ensures { told result ≡ check_fault s.now b }
 {
     if checked_blocks::block_holds(s, b) {
-        return 0;
+        Ok(())
+    } else {
+        Err(Refusal::SheetBlock)
     }
-    12
 }
 
 // Block b, from 1 on.
-fn block_fault(s: &[u8], long: bool, n: usize, b: usize) -> u32
+fn block_fault(s: &[u8], long: bool, n: usize, b: usize) -> Result<(), Refusal>
     requires { (long ≡ long_of s.now) × (0 < b) × (b < 2 ^ 32) }
-    ensures { result ≡ block_fault s.now n b }
+    ensures { told result ≡ block_fault s.now n b }
 {
-    let f = check_fault(s, b);
-    if f != 0 {
-        return f;
-    }
+    check_fault(s, b)?;
     if long {
-        return records_fault(s, true, n, b);
+        records_fault::<true>(s, n, b)
+    } else {
+        records_fault::<false>(s, n, b)
     }
-    records_fault(s, false, n, b)
 }
 
 // How many blocks hold the records of n frames.
@@ -116,26 +96,18 @@ pub fn record_blocks(long: bool, n: u32) -> usize
     ensures { (result ≡ record_blocks long n) × (result < 2 ^ 31) }
 {
     let k = n as usize;
-    if long {
-        return (k + 41) / 42;
-    }
-    (k + 62) / 63
+    if long { k.div_ceil(42) } else { k.div_ceil(63) }
 }
 
 // Every block after block 0, of a sheet of n frames.
-pub fn blocks_fault(s: &[u8], n: u32) -> u32
-    ensures { result ≡ first_of (block_fault s.now n) 1 (record_blocks (long_of s.now) n) }
+pub fn blocks_fault(s: &[u8], n: u32) -> Result<(), Refusal>
+    ensures { told result ≡ first_of (block_fault s.now n) 1 (record_blocks (long_of s.now) n) }
 {
     let count = n as usize;
     let long = sheet_frames::long(s);
     let end = record_blocks(long, n) + 1;
-    let mut b: usize = 1;
-    while b < end {
-        let f = block_fault(s, long, count, b);
-        if f != 0 {
-            return f;
-        }
-        b += 1;
+    for b in 1..end {
+        block_fault(s, long, count, b)?;
     }
-    0
+    Ok(())
 }

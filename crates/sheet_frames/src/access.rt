@@ -45,9 +45,10 @@ fn record_word(long: bool, i: u32) -> usize
 {
     let k = i as usize;
     if long {
-        return 129 + 2 * (k / 42) + 3 * k;
+        129 + 2 * (k / 42) + 3 * k
+    } else {
+        129 + 2 * (k / 63 + k)
     }
-    129 + 2 * (k / 63 + k)
 }
 
 // The decode index in a record's first word.
@@ -85,8 +86,8 @@ fn long_duration(s: &[u8], i: u32) -> u64
     ensures { result ≡ duration_in true s.now (record_word true i) }
 {
     let w = record_word(true, i);
-    let low = checked_blocks::word(s, w + 1) as u64;
-    low + 4294967296 * (checked_blocks::word(s, w + 2) as u64)
+    let low = u64::from(checked_blocks::word(s, w + 1));
+    low + 4294967296 * u64::from(checked_blocks::word(s, w + 2))
 }
 
 // The duration of a sample, by a layout that is told: for a pass over many samples.
@@ -94,10 +95,11 @@ pub fn duration_by(s: &[u8], long: bool, i: DecodeIdx) -> u64
     ensures { result ≡ duration_in long s.now (record_word long i.0) }
 {
     if long {
-        return long_duration(s, i.0);
+        long_duration(s, i.0)
+    } else {
+        let w = record_word(false, i.0);
+        u64::from(checked_blocks::word(s, w + 1))
     }
-    let w = record_word(false, i.0);
-    checked_blocks::word(s, w + 1) as u64
 }
 
 // The duration in ticks of a sample, by its decode index.

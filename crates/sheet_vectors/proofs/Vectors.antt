@@ -4,6 +4,7 @@ use mathlib.Core.Bool.{true, false}
 use mathlib.Core.List.{List, [], ◌∷◌, ◌++◌, map}
 use mathlib.Core.Path.{◌≡◌, refl, sym, ap, ◌∙◌}
 use lib.ListN.{get_or, set, take}
+use Rattle.std.specs.Prelude.{Ok}
 use Rattle.spec_base.specs.base.Limits.{most_work}
 use Rattle.spec_base.specs.base.Put.{put, placed}
 use Rattle.spec_base.specs.base.Refusal.{◌or_else◌, fault_unless, first_of}
@@ -13,11 +14,10 @@ use Rattle.spec_sheet.specs.sheet_permutation.Once.{times_named, repeat_fault, w
 use Rattle.spec_sheet.specs.sheet.Sheet.{spare_fault, head_fault}
 use Rattle.spec_sheet.specs.sheet.Sheet.{record_fault, check_fault, block_fault, record_blocks, sheet_fault, total_fault, sheet_number, work_after, head_of, sheet_answer, sheet_of, number_of}
 use Rattle.spec_sheet.proofs.sheet.SheetLaws.{Checked, checked, number_is, sound_number, work_enough}
-use Rattle.spec_sheet.specs.declared.sheet.Sheet.TheVariants.{Sound}
 use Rattle.sheet_vectors.specs.Small.{checked_block, sync_frame, frame, small_records, sheet_with, small_sheet}
 
 -- the small sheet is sound, with its head; two work bytes are enough for ten frames, and so are more
-pub small_sound : sheet_of small_sheet 2 ≡ Sound (record { timescale = 30000; frames = 10; rate_num = 30000; rate_den = 1001 })
+pub small_sound : sheet_of small_sheet 2 ≡ Ok (record { timescale = 30000; frames = 10; rate_num = 30000; rate_den = 1001 })
 unfolding small_sheet sheet_of sheet_answer head_of sheet_number once_number work_bytes repeat_fault times_named sheet_fault check_fault block_holds head_fault block_fault record_fault record_word decode_of record_blocks spare_fault timescale_of frames_of rate_num_of rate_den_of sum_words word_at first_of fault_unless ◌or_else◌ long_of total_fault ticks_from duration_of
 small_sound = refl
 

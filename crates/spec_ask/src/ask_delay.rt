@@ -10,9 +10,3 @@ pub struct Delay {
     pub tried: u32,
     pub off: u32,
 }
-
-#[derive(Clone, Copy)]
-pub enum Moved {
-    At(u64),
-    Below,
-}

@@ -9,12 +9,6 @@ pub struct Met {
     pub duration: u64,
 }
 
-#[derive(Clone, Copy)]
-pub enum Hit {
-    Miss,
-    At(Met),
-}
-
 // A caption that is kept: its new times in units, which of them was cut, whether a part was lost (warning 4).
 #[derive(Clone, Copy)]
 pub struct Retimed {

@@ -8,10 +8,3 @@ pub struct Times {
     pub stop: u64,
     pub stop_mark: u8,
 }
-
-// What was read of them: a bad time, or both.
-#[derive(Clone, Copy)]
-pub enum Reading {
-    Bad,
-    Both(Times),
-}

@@ -1,12 +1,5 @@
 // Types that the definitions of json name.
 
-// What the digits of a known field say.
-#[derive(Clone, Copy)]
-pub enum Plain {
-    Value(u64),
-    Bad,
-}
-
 // Up to four bytes.
 #[derive(Clone, Copy)]
 pub struct Piece {

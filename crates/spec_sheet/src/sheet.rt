@@ -8,10 +8,3 @@ pub struct Head {
     pub rate_num: u32,
     pub rate_den: u32,
 }
-
-// What the check finds: the head, or the number of the refusal.
-#[derive(Clone, Copy)]
-pub enum Sheet {
-    Sound(Head),
-    Refused(u32),
-}

@@ -1,4 +1,5 @@
 pub mod utf8
 pub mod whitespace
 pub mod pattern
+pub mod text
 pub mod unicode

@@ -1,4 +1,2 @@
-// No function: UTF-8, white space, patterns, lines, decimal numbers, as definitions in specs/ and laws in proofs/, and the types that they name.
+// No function: UTF-8, white space, patterns, lines, decimal numbers, as definitions in specs/ and laws in proofs/.
 #![tactic(auto)]
-
-pub mod text;

@@ -2,7 +2,7 @@
 
 // A time that was read, in units, and the mark before its fraction.
 #[derive(Clone, Copy)]
-pub enum Time {
-    At(u64, u8),
-    Bad,
+pub struct Stamp {
+    pub units: u64,
+    pub mark: u8,
 }

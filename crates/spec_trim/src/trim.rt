@@ -8,9 +8,9 @@ pub struct Parsed {
     pub count: usize,
 }
 
-// What a token says: a range, end excluded, or the number of its refusal.
+// The range that a token says, end excluded.
 #[derive(Clone, Copy)]
-pub enum Token {
-    Range(DisplayIdx, DisplayIdx),
-    Fault(u32),
+pub struct Range {
+    pub start: DisplayIdx,
+    pub end: DisplayIdx,
 }

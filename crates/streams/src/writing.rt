@@ -18,12 +18,8 @@ fn write_some<W: Write>(to: &mut W, text: &[u8]) -> io::Result<usize>
     match to.write(text) {
         Ok(0) => Err(ErrorKind::WriteZero.into()),
         Ok(n) => Ok(n),
-        Err(e) => {
-            if e.kind() == ErrorKind::Interrupted {
-                return Ok(0);
-            }
-            Err(e)
-        }
+        Err(e) if e.kind() == ErrorKind::Interrupted => Ok(0),
+        Err(e) => Err(e),
     }
 }
 
@@ -52,6 +48,7 @@ pub fn write_number<W: Write>(to: &mut W, n: u64) -> io::Result<()>
     ensures retried { IfErr result (λ e. error_kind e ≢ ErrorKind.Interrupted) }
     ensures grows { Grows (W.contents to.old) (W.contents to.new) }
 {
+    // Kept: (1) no heap: the memory is fixed.
     let mut room = [0u8; 20];
     let w = caption_stamp::digits(n);
     caption_stamp::last_digits(&mut room, n, w);

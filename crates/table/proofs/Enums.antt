@@ -8,11 +8,9 @@ use native.Mathlib.Omega.{arith}
 use lib.Dec.{leb}
 use lib.ListN.{length}
 use borrow.Author.Tests.{lt-ltb}
-use Rattle.spec_text.specs.declared.text.Number.{Number}
-use Rattle.spec_text.specs.declared.text.Number.TheVariants.{Value, Bad}
+use Rattle.std.specs.Prelude.{Option, Some, None}
 use Rattle.spec_text.specs.text.Number.{digits, value_from, natural, unsigned, number, number_fault, number_values}
-use Rattle.spec_time.specs.declared.caption_stamp.Time.{Time}
-use Rattle.spec_time.specs.declared.caption_stamp.Time.TheVariants.{At, Bad as NoTime}
+use Rattle.spec_time.specs.declared.caption_stamp.Stamp.{Stamp}
 use Rattle.spec_time.specs.caption_stamp.Read.{time_in}
 use Rattle.spec_time.proofs.caption_stamp.Reading.{time_below}
 use Rattle.spec_sheet.specs.sheet.Sheet.{number_of, values_of}
@@ -29,39 +27,39 @@ use Rattle.spec_caption.specs.caption_fate.Cases.{told, hit_case, decision_case}
 use Rattle.table.specs.Enums.{is_natural, SaysNumber, SaysTime, found_case, decided_case, Enums}
 
 -- ---- decimal numbers
-natural_is : (most : ℕ) (s : List ℕ) → natural most s ≡ cond (is_natural most s) (Value (value_from 0 s)) Bad
+natural_is : (most : ℕ) (s : List ℕ) → natural most s ≡ cond (is_natural most s) (Some (value_from 0 s)) None
 unfolding natural
 natural_is most [] = refl
 natural_is most (b ∷ r) =
     go (digits (b ∷ r)) (leb (value_from 0 (b ∷ r)) most)
-    ∙ sym (ap (λ (t : Bool). cond (t && (digits (b ∷ r) && leb (value_from 0 (b ∷ r)) most)) (Value (value_from 0 (b ∷ r))) Bad) (lt-ltb 0 (suc (length r)) (omega arith)))
+    ∙ sym (ap (λ (t : Bool). cond (t && (digits (b ∷ r) && leb (value_from 0 (b ∷ r)) most)) (Some (value_from 0 (b ∷ r))) None) (lt-ltb 0 (suc (length r)) (omega arith)))
   where
-    go : (x y : Bool) → cond x (cond y (Value (value_from 0 (b ∷ r))) Bad) Bad ≡ cond (x && y) (Value (value_from 0 (b ∷ r))) Bad
+    go : (x y : Bool) → cond x (cond y (Some (value_from 0 (b ∷ r))) None) None ≡ cond (x && y) (Some (value_from 0 (b ∷ r))) None
     go true true = refl
     go true false = refl
     go false y = refl
 
-says_number_lem : (k most : ℕ) (s : List ℕ) (r : Number) → r ≡ natural most s → SaysNumber k most s r
+says_number_lem : (k most : ℕ) (s : List ℕ) (r : Option ℕ) → r ≡ natural most s → SaysNumber k most s r
 says_number_lem k most s r e =
-    let q : r ≡ cond (is_natural most s) (Value (value_from 0 s)) Bad = e ∙ natural_is most s in
+    let q : r ≡ cond (is_natural most s) (Some (value_from 0 s)) None = e ∙ natural_is most s in
     record { number = ap (number_fault k) q ∙ fault (is_natural most s); values = ap number_values q ∙ values (is_natural most s) }
   where
-    fault : (t : Bool) → number_fault k (cond t (Value (value_from 0 s)) Bad) ≡ cond t 0 k
+    fault : (t : Bool) → number_fault k (cond t (Some (value_from 0 s)) None) ≡ cond t 0 k
     fault true = refl
     fault false = refl
 
-    values : (t : Bool) → number_values (cond t (Value (value_from 0 s)) Bad) ≡ cond t (value_from 0 s ∷ []) []
+    values : (t : Bool) → number_values (cond t (Some (value_from 0 s)) None) ≡ cond t (value_from 0 s ∷ []) []
     values true = refl
     values false = refl
 
-signed : (k most : ℕ) (s : List ℕ) (r : Number) → r ≡ number most s → SaysNumber k most (unsigned s) r
+signed : (k most : ℕ) (s : List ℕ) (r : Option ℕ) → r ≡ number most s → SaysNumber k most (unsigned s) r
 unfolding number
 signed k most s r e = says_number_lem k most (unsigned s) r e
 
 -- ---- times
-says_time : (kind : ℕ) (s : List ℕ) (r : Time) → r ≡ time_in kind s → SaysTime kind r
-says_time kind s (At n k) e = inl (refl, time_below kind n k s (sym e))
-says_time kind s NoTime e = inr (refl, (refl, refl))
+says_time : (kind : ℕ) (s : List ℕ) (r : Option Stamp) → r ≡ time_in kind s → SaysTime kind r
+says_time kind s (Some n) e = inl (refl, time_below kind n.units n.mark s (sym e))
+says_time kind s None e = inr (refl, (refl, refl))
 
 -- ---- hits and decisions
 hit_case_lem : (f : Found) → hit_case (hit_of f) ≡ found_case f

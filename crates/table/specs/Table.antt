@@ -3,8 +3,7 @@
 use Rattle.std.specs.Prelude.{◌≡◌, true, false, List, [], ◌∷◌, ◌++◌, ℕ}
 use Prim.Native.String.{String}
 use Rattle.spec_base.specs.base.Ascii.{ascii}
-use Rattle.spec_time.specs.declared.caption_stamp.Time.TheVariants.{At}
-use Rattle.spec_time.specs.caption_stamp.Read.{time_in, time_number, time_units, time_mark}
+use Rattle.spec_time.specs.caption_stamp.Read.{stamp, time_in, time_number, time_units, time_mark}
 use Rattle.spec_map.specs.declared.segment.Segment.{Segment}
 use Rattle.spec_map.specs.segment.Segment.{segment}
 use Rattle.spec_caption.specs.declared.caption_fate.Decision.TheVariants.{Kept}
@@ -81,7 +80,7 @@ pub record Table (m : List Segment) : Type 0 where
   pub sixty_minutes : time_number (time_in 0 (ascii "0:60:00.00")) ≡ 22
   pub sixty_units : time_units (time_in 0 (ascii "0:60:00.00")) ≡ 0
   pub sixty_mark : time_mark (time_in 0 (ascii "0:60:00.00")) ≡ 0
-  pub last_hundredth : time_in 0 (ascii "0:59:59.99") ≡ At 359999 46
+  pub last_hundredth : time_in 0 (ascii "0:59:59.99") ≡ stamp 359999 46
   pub last_number : time_number (time_in 0 (ascii "0:59:59.99")) ≡ 0
   pub last_units : time_units (time_in 0 (ascii "0:59:59.99")) ≡ 359999
   pub last_mark : time_mark (time_in 0 (ascii "0:59:59.99")) ≡ 46

@@ -2,51 +2,39 @@
 ghost use Rattle.std.specs.Prelude.{◌≡◌};
 ghost use Rattle.spec_text.specs.text.Number.{digit, natural, number};
 
-use spec_text::text::Number;
-
 pub fn is_digit(b: u8) -> bool
     ensures { result ≡ digit b }
 {
-    if b < 0x30 {
-        return false;
-    }
-    b <= 0x39
+    b.is_ascii_digit()
 }
 
 // One or more digits whose value is at most `most`.
-pub fn digits_to(s: &[u8], most: u32) -> Number
+pub fn digits_to(s: &[u8], most: u32) -> Option<u32>
     ensures { result ≡ natural most s.now }
 {
-    if s.len() == 0 {
-        return Number::Bad;
+    if s.is_empty() {
+        return None;
     }
-    let limit = most as u64;
+    let limit = u64::from(most);
     let mut v: u64 = 0;
-    let mut i = 0;
-    while i < s.len() {
-        let b = s[i];
-        if b < 0x30 {
-            return Number::Bad;
+    for b in s {
+        if !is_digit(*b) {
+            return None;
         }
-        if 0x39 < b {
-            return Number::Bad;
-        }
-        v = v * 10 + (b - 0x30) as u64;
+        v = v * 10 + u64::from(*b - b'0');
         if limit < v {
-            return Number::Bad;
+            return None;
         }
-        i += 1;
     }
-    let value = v as u32;
-    Number::Value(value)
+    Some(v as u32)
 }
 
 // An optional `+` and one or more digits, the value at most `most`.
-pub fn number_to(s: &[u8], most: u32) -> Number
+pub fn number_to(s: &[u8], most: u32) -> Option<u32>
     ensures { result ≡ number most s.now }
 {
-    if base::byte(s, 0) == 0x2B {
-        return digits_to(base::rest(s, 1), most);
+    match s {
+        [b'+', digits @ ..] => digits_to(digits, most),
+        _ => digits_to(s, most),
     }
-    digits_to(s, most)
 }

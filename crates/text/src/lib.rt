@@ -6,4 +6,3 @@ mod line;
 
 pub use decimal::{digits_to, is_digit, number_to};
 pub use line::{is_blank, line_length, terminator_of, text_of};
-pub use spec_text::text::Number;

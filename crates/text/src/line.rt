@@ -1,80 +1,72 @@
 // Lines and their terminators.
-ghost use Rattle.std.specs.Prelude.{◌≡◌, true, cond, ◌≤◌, ◌+◌, eqb, length, drop};
+ghost use Rattle.std.specs.Prelude.{◌≡◌, true, ◌≤◌, ◌+◌, length, drop};
 ghost use Rattle.spec_text.specs.text.Line.{line_length, terminator_length, text_of, terminator_of, blank};
-
-// 1 for LF, else `most`.
-fn lf_or(most: u8, b: u8) -> u8
-    ensures { result ≡ cond (eqb b 10) 1 most }
-{
-    if b == 10 { 1 } else { most }
-}
 
 // Whether none of the 16 bytes from i on is LF.
 fn lf_free(s: &[u8], i: usize) -> bool
     requires { i + 16 ≤ length s.now }
     ensures { result ≡ true → line_length (drop i s.now) ≡ 16 + line_length (drop (i + 16) s.now) }
 {
-    let mut most: u8 = 0;
-    let mut k: usize = 0;
-    while k < 16 {
-        most = lf_or(most, s[i + k]);
-        k += 1;
+    let mut found = false;
+    for b in &s[i..i + 16] {
+        found |= *b == b'\n';
     }
-    most == 0
+    !found
+}
+
+// How many bytes `s` begins with that are no LF, as far as whole blocks of 16 tell.
+// Kept: (4) `plain_blocks` of utf8 is alike: one function over both would take the test, its size and its law from the caller.
+fn free_blocks(s: &[u8]) -> usize
+    ensures { (result ≤ length s.now) × (line_length s.now ≡ result + line_length (drop result s.now)) }
+{
+    // Kept: the new form is no plainer, since a walk over chunks of 16 would still count the bytes passed.
+    let mut i = 0;
+    while 16 <= s.len() - i && lf_free(s, i) {
+        i += 16;
+    }
+    i
 }
 
 // How many bytes the first line of `s` has, with its LF.
 pub fn line_length(s: &[u8]) -> usize
     ensures { result ≡ line_length s.now }
 {
-    let mut i = 0;
-    while 16 <= s.len() - i {
-        if lf_free(s, i) {
-            i += 16;
-        } else {
-            break;
-        }
-    }
-    while i < s.len() {
-        if s[i] == 10 {
+    for i in free_blocks(s)..s.len() {
+        if s[i] == b'\n' {
             return i + 1;
         }
-        i += 1;
     }
-    i
+    s.len()
 }
 
 // How many bytes the terminator of a line has.
 fn terminator_length(l: &[u8]) -> usize
     ensures { result ≡ terminator_length l.now }
 {
-    let n = l.len();
-    if base::byte(l, base::less(n, 1)) == 10 {
-        if base::byte(l, base::less(n, 2)) == 13 {
-            return 2;
-        }
-        return 1;
+    match l {
+        [.., b'\r', b'\n'] => 2,
+        [.., b'\n'] => 1,
+        _ => 0,
     }
-    0
 }
 
 // A line without its terminator.
 pub fn text_of(l: &[u8]) -> &[u8]
     ensures { result.now ≡ text_of l.now }
 {
-    base::front(l, base::less(l.len(), terminator_length(l)))
+    base::front(l, l.len().saturating_sub(terminator_length(l)))
 }
 
 // The terminator of a line.
 pub fn terminator_of(l: &[u8]) -> &[u8]
     ensures { result.now ≡ terminator_of l.now }
 {
-    base::rest(l, base::less(l.len(), terminator_length(l)))
+    base::rest(l, l.len().saturating_sub(terminator_length(l)))
 }
 
 // Whether `l`, trimmed, is empty.
 pub fn is_blank(l: &[u8]) -> bool
     ensures { result ≡ blank l.now }
 {
-    whitespace::trim_head(l).len() == 0
+    whitespace::trim_head(l).is_empty()
 }

@@ -5,4 +5,3 @@ mod list;
 mod token;
 
 pub use list::{check, parse};
-pub use spec_trim::trim::Parsed;

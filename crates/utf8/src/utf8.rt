@@ -1,111 +1,85 @@
 // UTF-8 (RFC 3629).
-ghost use Rattle.std.specs.Prelude.{◌≡◌, true, ◌≤◌, ◌+◌, max, length, drop};
+ghost use Rattle.std.specs.Prelude.{◌≡◌, true, ◌≤◌, ◌+◌, length, drop};
 ghost use Rattle.spec_text.specs.utf8.Utf8.{ascii_run, lead_len, second_low, second_high, tail, width_by, char_width, utf8, code_by, code_head};
 
+// How many bytes a character has whose first byte is `a`.
+// Kept: 0 for none, as in the clause of `char_width`, which may not change.
 fn lead_len(a: u8) -> usize
     ensures { result ≡ lead_len a }
 {
-    if a < 0x80 {
-        return 1;
+    match a {
+        0x00..=0x7F => 1,
+        0xC2..=0xDF => 2,
+        0xE0..=0xEF => 3,
+        0xF0..=0xF4 => 4,
+        _ => 0,
     }
-    if a < 0xC2 {
-        return 0;
-    }
-    if a < 0xE0 {
-        return 2;
-    }
-    if a < 0xF0 {
-        return 3;
-    }
-    if a < 0xF5 {
-        return 4;
-    }
-    0
 }
 
 fn second_low(a: u8) -> u8
     ensures { result ≡ second_low a }
 {
-    if a == 0xE0 {
-        return 0xA0;
+    match a {
+        0xE0 => 0xA0,
+        0xF0 => 0x90,
+        _ => 0x80,
     }
-    if a == 0xF0 {
-        return 0x90;
-    }
-    0x80
 }
 
 fn second_high(a: u8) -> u8
     ensures { result ≡ second_high a }
 {
-    if a == 0xED {
-        return 0x9F;
+    match a {
+        0xED => 0x9F,
+        0xF4 => 0x8F,
+        _ => 0xBF,
     }
-    if a == 0xF4 {
-        return 0x8F;
-    }
-    0xBF
 }
 
 // Whether `b` is a continuation byte.
 pub fn is_tail(b: u8) -> bool
     ensures { result ≡ tail b }
 {
-    if b < 0x80 {
-        return false;
-    }
-    b < 0xC0
+    matches!(b, 0x80..=0xBF)
 }
 
+// Kept: (4) `n` is a width: each test cuts off a case, and a `match` would say the same tests as guards.
 fn width_by(n: usize, a: u8, b: u8, c: u8, d: u8) -> usize
     ensures { result ≡ width_by n a b c d }
 {
     if n < 2 {
-        return n;
+        n
+    } else if b < second_low(a) || second_high(a) < b {
+        0
+    } else if n == 2 {
+        2
+    } else if !is_tail(c) {
+        0
+    } else if n == 3 {
+        3
+    } else if is_tail(d) {
+        4
+    } else {
+        0
     }
-    if b < second_low(a) {
-        return 0;
-    }
-    if second_high(a) < b {
-        return 0;
-    }
-    if n == 2 {
-        return 2;
-    }
-    if is_tail(c) {
-        if n == 3 {
-            return 3;
-        }
-        if is_tail(d) {
-            return 4;
-        }
-        return 0;
-    }
-    0
 }
 
 // The width of the character at the head of `s`; 0: `s` begins with none.
 pub fn char_width(s: &[u8]) -> usize
     ensures { result ≡ char_width s.now }
 {
-    let a = base::byte(s, 0);
+    let a = base::get_or(s, 0, 0);
     if a < 0x80 {
-        return 1;
+        1
+    } else {
+        width_by(
+            lead_len(a),
+            a,
+            base::get_or(s, 1, 0),
+            base::get_or(s, 2, 0),
+            base::get_or(s, 3, 0),
+        )
     }
-    width_by(
-        lead_len(a),
-        a,
-        base::byte(s, 1),
-        base::byte(s, 2),
-        base::byte(s, 3),
-    )
-}
-
-// The larger of two bytes.
-fn top(a: u8, b: u8) -> u8
-    ensures { result ≡ max a b }
-{
-    if a < b { b } else { a }
 }
 
 // Whether the 32 bytes from i on are below 80: the largest is.
@@ -114,55 +88,42 @@ fn plain(s: &[u8], i: usize) -> bool
     ensures { result ≡ true → ascii_run (drop i s.now) ≡ 32 + ascii_run (drop (i + 32) s.now) }
 {
     let mut most: u8 = 0;
-    let mut k: usize = 0;
-    while k < 32 {
-        most = top(most, s[i + k]);
-        k += 1;
+    for b in &s[i..i + 32] {
+        most = most.max(*b);
     }
     most < 0x80
+}
+
+// How many bytes below 80 `s` begins with, as far as whole blocks of 32 tell.
+// Kept: (4) `free_blocks` of text is alike: one function over both would take the test, its size and its law from the caller.
+fn plain_blocks(s: &[u8]) -> usize
+    ensures { (result ≤ length s.now) × (ascii_run s.now ≡ result + ascii_run (drop result s.now)) }
+{
+    // Kept: the new form is no plainer, since a walk over chunks of 32 would still count the bytes passed.
+    let mut i = 0;
+    while 32 <= s.len() - i && plain(s, i) {
+        i += 32;
+    }
+    i
 }
 
 // How many bytes below 80 `s` begins with.
 fn ascii_run(s: &[u8]) -> usize
     ensures { result ≡ ascii_run s.now }
 {
-    let mut i = 0;
-    while 32 <= s.len() - i {
-        if plain(s, i) {
-            i += 32;
-        } else {
-            break;
-        }
-    }
-    while i < s.len() {
+    for i in plain_blocks(s)..s.len() {
         if s[i] >= 0x80 {
             return i;
         }
-        i += 1;
     }
-    i
+    s.len()
 }
 
 // Whether these are a character of three bytes whose first is E1 to EC.
 fn three(a: u8, b: u8, c: u8) -> bool
     ensures { result ≡ true → (0xE1 ≤ a) × (a ≤ 0xEC) × (0x80 ≤ b) × (b ≤ 0xBF) × (0x80 ≤ c) × (c ≤ 0xBF) }
 {
-    if a < 0xE1 {
-        return false;
-    }
-    if 0xEC < a {
-        return false;
-    }
-    if b < 0x80 {
-        return false;
-    }
-    if 0xBF < b {
-        return false;
-    }
-    if c < 0x80 {
-        return false;
-    }
-    c <= 0xBF
+    matches!((a, b, c), (0xE1..=0xEC, 0x80..=0xBF, 0x80..=0xBF))
 }
 
 // Whether `s` is well-formed UTF-8.
@@ -170,36 +131,21 @@ pub fn is_utf8(s: &[u8]) -> bool
     ensures { result ≡ utf8 s.now }
 {
     let mut t = s;
-    while t.len() > 0 {
-        let a = t[0];
-        if a < 0x80 {
-            let n = ascii_run(t);
-            let v = base::rest(t, n);
-            t = v;
+    while let [a, ..] = t {
+        if *a < 0x80 {
+            t = base::rest(t, ascii_run(t));
             continue;
         }
-        if 6 <= t.len() {
-            if three(a, t[1], t[2]) {
-                if three(t[3], t[4], t[5]) {
-                    let y = base::rest(t, 6);
-                    t = y;
-                    continue;
-                }
-            }
-        }
-        if 3 <= t.len() {
-            if three(a, t[1], t[2]) {
-                let x = base::rest(t, 3);
-                t = x;
-                continue;
-            }
-        }
-        let w = char_width(t);
-        if w == 0 {
-            return false;
-        }
-        let u = base::rest(t, w);
-        t = u;
+        t = match t {
+            [a, b, c, u @ ..] if three(*a, *b, *c) => match u {
+                [d, e, f, v @ ..] if three(*d, *e, *f) => v,
+                _ => u,
+            },
+            _ => match char_width(t) {
+                0 => return false,
+                w => base::rest(t, w),
+            },
+        };
     }
     true
 }
@@ -207,20 +153,16 @@ pub fn is_utf8(s: &[u8]) -> bool
 fn code_by(w: usize, a: u8, b: u8, c: u8, d: u8) -> u32
     ensures { result ≡ code_by w a b c d }
 {
-    let x = a as u32;
-    let y = b as u32;
-    let z = c as u32;
-    let q = d as u32;
-    if w == 1 {
-        return x;
+    let x = u32::from(a);
+    let y = u32::from(b);
+    let z = u32::from(c);
+    let q = u32::from(d);
+    match w {
+        1 => x,
+        2 => x % 32 * 64 + y % 64,
+        3 => x % 16 * 4096 + y % 64 * 64 + z % 64,
+        _ => x % 8 * 262144 + y % 64 * 4096 + z % 64 * 64 + q % 64,
     }
-    if w == 2 {
-        return x % 32 * 64 + y % 64;
-    }
-    if w == 3 {
-        return x % 16 * 4096 + y % 64 * 64 + z % 64;
-    }
-    x % 8 * 262144 + y % 64 * 4096 + z % 64 * 64 + q % 64
 }
 
 // The code point of the character at the head of `s`.
@@ -229,9 +171,9 @@ pub fn code_head(s: &[u8]) -> u32
 {
     code_by(
         char_width(s),
-        base::byte(s, 0),
-        base::byte(s, 1),
-        base::byte(s, 2),
-        base::byte(s, 3),
+        base::get_or(s, 0, 0),
+        base::get_or(s, 1, 0),
+        base::get_or(s, 2, 0),
+        base::get_or(s, 3, 0),
     )
 }

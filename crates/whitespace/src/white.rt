@@ -8,60 +8,28 @@ use utf8::{char_width, code_head};
 fn is_white_high(u: u32) -> bool
     ensures { result ≡ white_high u }
 {
-    if u < 0x2000 {
-        return false;
-    }
-    if u <= 0x200A {
-        return true;
-    }
-    if u == 0x2028 {
-        return true;
-    }
-    if u == 0x2029 {
-        return true;
-    }
-    if u == 0x202F {
-        return true;
-    }
-    if u == 0x205F {
-        return true;
-    }
-    u == 0x3000
+    matches!(
+        u,
+        0x2000..=0x200A | 0x2028 | 0x2029 | 0x202F | 0x205F | 0x3000
+    )
 }
 
 // Whether the code point `u` has the property White_Space.
 fn is_white(u: u32) -> bool
     ensures { result ≡ white u }
 {
-    if u < 0x9 {
-        return false;
+    match u {
+        0x9..=0xD | 0x20 | 0x85 | 0xA0 | 0x1680 => true,
+        _ => is_white_high(u),
     }
-    if u <= 0xD {
-        return true;
-    }
-    if u == 0x20 {
-        return true;
-    }
-    if u == 0x85 {
-        return true;
-    }
-    if u == 0xA0 {
-        return true;
-    }
-    if u == 0x1680 {
-        return true;
-    }
-    is_white_high(u)
 }
 
 // The width of the byte `a`, below 80, as a white-space character; 0: it is none.
+// Kept: 0 for none, as in the clause of `utf8::char_width`, which may not change.
 fn ascii_white(a: u8) -> usize
     ensures { result ≡ cond (white a) 1 0 }
 {
-    if is_white(a as u32) {
-        return 1;
-    }
-    0
+    usize::from(is_white(u32::from(a)))
 }
 
 // The same as `white_head`, whatever the first byte: apart from it, so that the short way through it is inlined.
@@ -69,20 +37,22 @@ fn white_wide(s: &[u8]) -> usize
     ensures { result ≡ white_head s.now }
 {
     if is_white(code_head(s)) {
-        return char_width(s);
+        char_width(s)
+    } else {
+        0
     }
-    0
 }
 
 // The width of the white-space character at the head of `s`; 0: `s` begins with none.
 fn white_head(s: &[u8]) -> usize
     ensures { result ≡ white_head s.now }
 {
-    let a = base::byte(s, 0);
+    let a = base::get_or(s, 0, 0);
     if a < 0x80 {
-        return ascii_white(a);
+        ascii_white(a)
+    } else {
+        white_wide(s)
     }
-    white_wide(s)
 }
 
 // Whether the last `k` bytes of `s` are a white-space character.
@@ -96,20 +66,18 @@ fn ends_white(s: &[u8], k: usize) -> bool
 fn white_tail(s: &[u8]) -> usize
     ensures { result ≡ white_tail s.now }
 {
-    let a = base::byte(s, base::less(s.len(), 1));
+    let a = base::get_or(s, s.len().saturating_sub(1), 0);
     if a < 0x80 {
-        return ascii_white(a);
+        ascii_white(a)
+    } else if ends_white(s, 1) {
+        1
+    } else if ends_white(s, 2) {
+        2
+    } else if ends_white(s, 3) {
+        3
+    } else {
+        0
     }
-    if ends_white(s, 1) {
-        return 1;
-    }
-    if ends_white(s, 2) {
-        return 2;
-    }
-    if ends_white(s, 3) {
-        return 3;
-    }
-    0
 }
 
 // The slice without the white space at its head.
@@ -117,13 +85,12 @@ pub fn trim_head(s: &[u8]) -> &[u8]
     ensures { result.now ≡ trim_head s.now }
 {
     let mut t = s;
-    while t.len() > 0 {
+    while !t.is_empty() {
         let w = white_head(t);
         if w == 0 {
             return t;
         }
-        let u = base::rest(t, w);
-        t = u;
+        t = base::rest(t, w);
     }
     t
 }
@@ -138,7 +105,7 @@ pub fn trim_tail(s: &[u8]) -> &[u8]
         if w == 0 {
             return base::front(s, n);
         }
-        n = base::less(n, w);
+        n = n.saturating_sub(w);
     }
     base::front(s, 0)
 }

@@ -8,15 +8,7 @@ fn main(rt: HostRuntime) -> io::Result<()> {
     let sheet = files_map::load(&rt, b"", b"sheet.bin")?;
     let list = files_map::load(&rt, b"", b"trim.txt")?;
     let times = files_map::load(&rt, b"", b"times.txt")?;
-    let s = sheet.bytes;
-    let l = list.bytes;
-    let t = times.bytes;
     let mut to = io::writer(&rt);
-    files_why::tell(
-        &mut to,
-        base::front(&s, sheet.length),
-        base::front(&l, list.length),
-        base::front(&t, times.length),
-    )?;
+    files_why::tell(&mut to, sheet.held(), list.held(), times.held())?;
     to.flush()
 }

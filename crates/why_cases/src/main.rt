@@ -10,41 +10,16 @@ use std::rt::Files;
 fn run_case<R: Files, W: Write>(rt: &R, to: &mut W, name: &[u8]) -> io::Result<()>
     ensures grows { Grows (W.contents to.old) (W.contents to.new) }
 {
-    streams::write_text(to, name)?;
-    streams::write_text(to, b":\n")?;
     let sheet = files_map::load(rt, name, b"sheet.bin")?;
     let list = files_map::load(rt, name, b"trim.txt")?;
     let times = files_map::load(rt, name, b"times.txt")?;
-    let s = sheet.bytes;
-    let l = list.bytes;
-    let t = times.bytes;
-    files_why::tell(
-        to,
-        base::front(&s, sheet.length),
-        base::front(&l, list.length),
-        base::front(&t, times.length),
-    )?;
+    files_why::tell(to, sheet.held(), list.held(), times.held())?;
     streams::write_text(to, b"\n")
 }
 
-fn run_cases<R: Files, W: Write>(rt: &R, to: &mut W, names: &[u8]) -> io::Result<()>
-    ensures grows { Grows (W.contents to.old) (W.contents to.new) }
-{
-    let mut t = names;
-    while 0 < t.len() {
-        let n = text::line_length(t);
-        let line = base::front(t, n);
-        run_case(rt, to, text::text_of(line))?;
-        let u = base::rest(t, n);
-        t = u;
-    }
-    Ok(())
-}
-
 fn main(rt: HostRuntime) -> io::Result<()> {
-    let file = files_map::load(&rt, b"", b"cases.txt")?;
-    let names = file.bytes;
+    let cases = files_map::load(&rt, b"", b"cases.txt")?;
     let mut to = io::writer(&rt);
-    run_cases(&rt, &mut to, base::front(&names, file.length))?;
+    files_map::run_cases(&mut to, cases.held(), |to, name| run_case(&rt, to, name))?;
     to.flush()
 }

@@ -1,6 +1,7 @@
-use mathlib.Core.Path.{ap}
+use mathlib.Core.Path.{ap, ◌∙◌}
 use Rattle.spec_time.specs.declared.caption_time.Converted.{Converted}
+use Rattle.caption_time.proofs.AnswerLaws.{value_told}
 use Rattle.c_api.proofs.retimer_ticks_to_units_ceil.Goals as goal
 
 pub returns : goal.returns
-returns c = ap (λ (x : Converted). x.value) c.ticks_to_units_ceil-c.ensures
+returns c = c.unwrap_or.ensures ∙ value_told c.ticks_to_units_ceil.result ∙ ap (λ (x : Converted). x.value) c.ticks_to_units_ceil.ensures

@@ -7,6 +7,7 @@ use native.Mathlib.Omega.{arith}
 use lib.Dec.{ltb}
 use lib.IntN.{ℤ, pos, negsuc}
 use borrow.Author.Tests.{ltb-true, ltb-false}
+use Rattle.std.specs.Prelude.{Some, None}
 use Rattle.spec_base.proofs.base.Laws.{and_left, and_right}
 use Rattle.spec_time.specs.caption_time.Kind.{units_of}
 use Rattle.spec_time.specs.caption_time.Convert.{ticks_of}
@@ -18,7 +19,6 @@ use Rattle.spec_caption.specs.caption_fate.Hit.{meets, hit, find_from, met_of}
 use Rattle.spec_caption.specs.caption_fate.Lost.{lost_rule}
 use Rattle.spec_caption.specs.caption_fate.Decide.{retimed_at, decide_hit, decide_ticks, decide_of}
 use Rattle.spec_caption.specs.caption_fate.Fates.{shifted, clipped, fate_by, fate_of}
-use Rattle.spec_ask.specs.declared.ask_delay.Moved.TheVariants.{At, Below}
 use Rattle.spec_ask.specs.ask_delay.Delay.{delayed_of}
 use Rattle.spec_ask.specs.ask_delay.Loss.{whole, lost_at, lost_under, exceeds_all, too_long, count_lost, loss_of, floor_of}
 
@@ -76,7 +76,7 @@ module _ (c : Config) (pos_u : 0 < units_of c.kind) where
         ap not (by_times S E (S + n) (E + n) p t)
     too_long_lost (negsuc n) S E t = go (ltb S (suc n)) (ltb E (suc n)) refl refl
       where
-        go : (u v : Bool) → ltb S (suc n) ≡ u → ltb E (suc n) ≡ v → lost_at c m (cond u Below (At (S - suc n))) (cond v Below (At (E - suc n))) ≡ true
+        go : (u v : Bool) → ltb S (suc n) ≡ u → ltb E (suc n) ≡ v → lost_at c m (cond u None (Some (S - suc n))) (cond v None (Some (E - suc n))) ≡ true
         go true v p q = refl
         go false true p q = refl
         go false false p q =

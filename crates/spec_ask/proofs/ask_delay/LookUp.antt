@@ -8,13 +8,13 @@ use lib.Dec.{ltb, eqb}
 use lib.IntN.{ℤ, pos, negsuc}
 use lib.ListN.{get_or}
 use borrow.Author.Tests.{ltb-false}
+use Rattle.std.specs.Prelude.{Some, None}
 use Rattle.spec_time.specs.caption_time.Kind.{units_of}
 use Rattle.spec_map.specs.declared.segment.Segment.{Segment}
 use Rattle.spec_caption.specs.declared.caption_fate.Config.{Config}
 use Rattle.spec_caption.specs.caption_fate.Fates.{Fate, passed, dropped, shifted, clipped, fate_of}
 use Rattle.spec_ask.specs.ask_edges.Edge.{edges_of, fate_grade, grade_through}
 use Rattle.spec_ask.proofs.ask_edges.Units.{fate_grades}
-use Rattle.spec_ask.specs.declared.ask_delay.Moved.TheVariants.{At, Below}
 use Rattle.spec_ask.specs.ask_delay.Delay.{delayed_of, Near}
 use Rattle.spec_ask.specs.ask_delay.Loss.{whole, lost_at, lost_under}
 use Rattle.spec_ask.specs.ask_delay.Paint.{reach, Window, lost_moved, lost_by}
@@ -42,7 +42,7 @@ module _ (c : Config) (m : List Segment) (hT : 0 < c.timescale) (hU : 0 < units_
   looked_up (negsuc n) h = go (ltb S (suc n)) (ltb E (suc n)) refl refl
     where
       go : (u v : Bool) → ltb S (suc n) ≡ u → ltb E (suc n) ≡ v
-          → lost_moved l S (cond u Below (At (S - suc n))) (cond v Below (At (E - suc n))) ≡ lost_at c m (cond u Below (At (S - suc n))) (cond v Below (At (E - suc n)))
+          → lost_moved l S (cond u None (Some (S - suc n))) (cond v None (Some (E - suc n))) ≡ lost_at c m (cond u None (Some (S - suc n))) (cond v None (Some (E - suc n)))
       go true v p q = refl
       go false true p q = refl
       go false false p q =

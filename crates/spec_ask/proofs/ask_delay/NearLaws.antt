@@ -12,8 +12,7 @@ use lib.Dec.{ltb, eqb}
 use lib.IntN.{ℤ, pos, negsuc, neg_ℤ}
 use lib.ListN.{get_or}
 use borrow.Author.Tests.{eqb-true, ltb-false}
-use Rattle.spec_ask.specs.declared.ask_delay.Moved.{Moved}
-use Rattle.spec_ask.specs.declared.ask_delay.Moved.TheVariants.{At, Below}
+use Rattle.std.specs.Prelude.{Option, Some, None}
 use Rattle.spec_ask.specs.ask_delay.Delay.{delayed_of, delay_of, near, Near}
 use Rattle.spec_ask.specs.ask_delay.Paint.{lost_moved, lost_by}
 
@@ -33,17 +32,17 @@ pub near_try : (k : ℕ) (d : ℤ) → d ≡ delay_of k → k ≤ 12000 → Near
 near_try k d e h = subst Near (sym e) (near_of k h)
 
 -- a moved time is at most 6000 away
-value : ℕ → Moved → ℕ
-value s (At t) = t
-value s Below = s
+value : ℕ → Option ℕ → ℕ
+value s (Some t) = t
+value s None = s
 
-bounds : (t s : ℕ) (d : ℤ) → Near d → delayed_of t d ≡ At s → (t ≤ s + 6000) × (s ≤ t + 6000)
+bounds : (t s : ℕ) (d : ℤ) → Near d → delayed_of t d ≡ Some s → (t ≤ s + 6000) × (s ≤ t + 6000)
 unfolding delayed_of value
 bounds t s (pos n) h e = let z : t + n ≡ s = ap (value 0) e in (omega arith, omega arith)
 bounds t s (negsuc n) h e = go (ltb t (suc n)) refl e
   where
-    go : (u : Bool) → ltb t (suc n) ≡ u → cond u Below (At (t - suc n)) ≡ At s → (t ≤ s + 6000) × (s ≤ t + 6000)
-    go true p q = absurd (let z : ◌≡◌ {A = ℕ} (value 0 Below) (value 0 (At s)) = ap (value 0) q in let y : ◌≡◌ {A = ℕ} 1 0 = ap (λ (m : Moved). elim m [ At v ↦ 0 | Below ↦ 1 ]) q in omega arith)
+    go : (u : Bool) → ltb t (suc n) ≡ u → cond u None (Some (t - suc n)) ≡ Some s → (t ≤ s + 6000) × (s ≤ t + 6000)
+    go true p q = absurd (let z : ◌≡◌ {A = ℕ} (value 0 None) (value 0 (Some s)) = ap (value 0) q in let y : ◌≡◌ {A = ℕ} 1 0 = ap (λ (m : Option ℕ). elim m [ Some v ↦ 0 | None ↦ 1 ]) q in omega arith)
     go false p q = let z : t - suc n ≡ s = ap (value 0) q in let y = ltb-false t (suc n) p in (omega arith, omega arith)
 
 -- a signed local, read back from its bits
@@ -57,10 +56,10 @@ bits_back k d e h = to_z-of_z w64 d (sfits d (near_try k d e h))
 pub near_back : (k : ℕ) (d : ℤ) → d ≡ delay_of k → k ≤ 12000 → Near (to_z w64 (of_z w64 d))
 near_back k d e h = subst Near (sym (bits_back k d e h)) (near_try k d e h)
 
-pub under_is : (t k : ℕ) (d : ℤ) (r : Moved) → d ≡ delay_of k → k ≤ 12000 → r ≡ delayed_of t (to_z w64 (of_z w64 d)) → r ≡ delayed_of t (delay_of k)
+pub under_is : (t k : ℕ) (d : ℤ) (r : Option ℕ) → d ≡ delay_of k → k ≤ 12000 → r ≡ delayed_of t (to_z w64 (of_z w64 d)) → r ≡ delayed_of t (delay_of k)
 under_is t k d r e h q = q ∙ ap (delayed_of t) (bits_back k d e h ∙ e)
 
-module _ (k t s : ℕ) (r : Moved) (hk : k ≤ 12000) (er : r ≡ delayed_of t (delay_of k)) (es : r ≡ At s) where
+module _ (k t s : ℕ) (r : Option ℕ) (hk : k ≤ 12000) (er : r ≡ delayed_of t (delay_of k)) (es : r ≡ Some s) where
   both : (t ≤ s + 6000) × (s ≤ t + 6000)
   both = bounds t s (delay_of k) (near_of k hk) (sym er ∙ es)
 
@@ -70,17 +69,17 @@ module _ (k t s : ℕ) (r : Moved) (hk : k ≤ 12000) (er : r ≡ delayed_of t (
   pub less_fits : t ≤ s + 6000
   less_fits = both.0
 
-module _ (l : List ℕ) (S E k : ℕ) (r : Moved) (er : r ≡ delayed_of S (delay_of k)) where
-  pub lost_start : r ≡ Below → true ≡ lost_by l S E (delay_of k)
+module _ (l : List ℕ) (S E k : ℕ) (r : Option ℕ) (er : r ≡ delayed_of S (delay_of k)) where
+  pub lost_start : r ≡ None → true ≡ lost_by l S E (delay_of k)
   unfolding lost_by
-  lost_start q = sym (ap (λ (m : Moved). lost_moved l S m (delayed_of E (delay_of k))) (sym er ∙ q))
+  lost_start q = sym (ap (λ (m : Option ℕ). lost_moved l S m (delayed_of E (delay_of k))) (sym er ∙ q))
 
-  module _ (s : ℕ) (q : r ≡ At s) (r' : Moved) (er' : r' ≡ delayed_of E (delay_of k)) where
-    pub lost_end : r' ≡ Below → true ≡ lost_by l S E (delay_of k)
+  module _ (s : ℕ) (q : r ≡ Some s) (r' : Option ℕ) (er' : r' ≡ delayed_of E (delay_of k)) where
+    pub lost_end : r' ≡ None → true ≡ lost_by l S E (delay_of k)
     unfolding lost_by
-    lost_end p = sym (ap (λ (m : Moved). lost_moved l S m (delayed_of E (delay_of k))) (sym er ∙ q) ∙ ap (λ (m : Moved). lost_moved l S (At s) m) (sym er' ∙ p))
+    lost_end p = sym (ap (λ (m : Option ℕ). lost_moved l S m (delayed_of E (delay_of k))) (sym er ∙ q) ∙ ap (λ (m : Option ℕ). lost_moved l S (Some s) m) (sym er' ∙ p))
 
-    pub lost_grade : (e b : ℕ) → r' ≡ At e → b ≡ get_or l (s + 6000 - S) 0 → not (eqb b 2) ≡ lost_by l S E (delay_of k)
+    pub lost_grade : (e b : ℕ) → r' ≡ Some e → b ≡ get_or l (s + 6000 - S) 0 → not (eqb b 2) ≡ lost_by l S E (delay_of k)
     unfolding lost_by
     lost_grade e b p eb =
-        sym (ap (λ (m : Moved). lost_moved l S m (delayed_of E (delay_of k))) (sym er ∙ q) ∙ ap (λ (m : Moved). lost_moved l S (At s) m) (sym er' ∙ p) ∙ ap (λ (n : ℕ). not (eqb n 2)) (sym eb))
+        sym (ap (λ (m : Option ℕ). lost_moved l S m (delayed_of E (delay_of k))) (sym er ∙ q) ∙ ap (λ (m : Option ℕ). lost_moved l S (Some s) m) (sym er' ∙ p) ∙ ap (λ (n : ℕ). not (eqb n 2)) (sym eb))

@@ -3,6 +3,7 @@ use mathlib.Core.Path.{◌≡◌, refl}
 use mathlib.Core.List.{List, [], ◌∷◌}
 use Prim.Native.Nat.{ℕ}
 use lib.IntN.{pos, negsuc}
+use Rattle.std.specs.Prelude.{Some, None}
 use Rattle.spec_time.specs.caption_time.Kind.{units_of}
 use Rattle.spec_time.specs.caption_time.Convert.{scaled_up, ticks_of, start_units, end_units}
 use Rattle.spec_map.specs.declared.segment.Segment.{Segment}
@@ -11,7 +12,6 @@ use Rattle.spec_caption.specs.caption_fate.Hit.{meets_parts, find_from}
 use Rattle.spec_caption.specs.caption_fate.Lost.{lost_later}
 use Rattle.spec_caption.specs.caption_fate.Decide.{decide_ticks, decide_of}
 use Rattle.spec_caption.specs.caption_fate.Fates.{fate_of}
-use Rattle.spec_ask.specs.declared.ask_delay.Moved.TheVariants.{At, Below}
 use Rattle.spec_ask.specs.ask_delay.Delay.{delayed_of, delay_of}
 use Rattle.spec_ask.specs.ask_delay.Loss.{exceeds_all, lost_under, too_long, loss_of, floor_of, best_try, tried_of}
 use Rattle.spec_ask.specs.ask_delay.Tally.{config_with}
@@ -31,7 +31,7 @@ unfolding tried_of
 tried = (refl, refl, refl, refl)
 
 -- ---- exactly zero is not below zero
-at_zero : (delayed_of 5 (negsuc 4) ≡ At 0) × (delayed_of 4 (negsuc 4) ≡ Below) × (delayed_of 0 (pos 0) ≡ At 0)
+at_zero : (delayed_of 5 (negsuc 4) ≡ Some 0) × (delayed_of 4 (negsuc 4) ≡ None) × (delayed_of 0 (pos 0) ≡ Some 0)
 unfolding delayed_of
 at_zero = (refl, refl, refl)
 

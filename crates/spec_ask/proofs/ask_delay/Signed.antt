@@ -11,8 +11,8 @@ use lib.IntN.{ℤ, pos, negsuc, neg_ℤ, nat_abs, ◌-ℤ◌, +ℤ_idl}
 use lib.Signed.{lt_z, non_neg}
 use mir.Syntax.{w64}
 use mir.Val.{SFits, Fits}
+use Rattle.std.specs.Prelude.{Some, None}
 use Rattle.spec_ask.specs.ask_delay.Delay.{delayed_of, Near}
-use Rattle.spec_ask.specs.declared.ask_delay.Moved.TheVariants.{At, Below}
 
 pub zero_less : (d : ℤ) → pos 0 -ℤ d ≡ neg_ℤ d
 zero_less d = +ℤ_idl (neg_ℤ d)
@@ -30,17 +30,17 @@ pub pos_cast : (d : ℤ) → Near d → lt_z d (pos 0) ≡ false → T (non_neg 
 pos_cast (pos n) h t = (tt, record { fits = omega arith })
 pos_cast (negsuc n) h t = absurd (true≢false t)
 
-pub neg_below : (t : ℕ) (d : ℤ) → lt_z d (pos 0) ≡ true → t < nat_abs (neg_ℤ d) → Below ≡ delayed_of t d
+pub neg_below : (t : ℕ) (d : ℤ) → lt_z d (pos 0) ≡ true → t < nat_abs (neg_ℤ d) → None ≡ delayed_of t d
 unfolding delayed_of
 neg_below t (pos n) h k = absurd (not-suc-le-zero (ltb-true n 0 h))
 neg_below t (negsuc n) h k = rw (lt-ltb t (suc n) (omega arith))
 
-pub neg_at : (t : ℕ) (d : ℤ) → lt_z d (pos 0) ≡ true → nat_abs (neg_ℤ d) ≤ t → At (t - nat_abs (neg_ℤ d)) ≡ delayed_of t d
+pub neg_at : (t : ℕ) (d : ℤ) → lt_z d (pos 0) ≡ true → nat_abs (neg_ℤ d) ≤ t → Some (t - nat_abs (neg_ℤ d)) ≡ delayed_of t d
 unfolding delayed_of
 neg_at t (pos n) h k = absurd (not-suc-le-zero (ltb-true n 0 h))
 neg_at t (negsuc n) h k = rw (le-ltb t (suc n) (omega arith))
 
-pub pos_at : (t : ℕ) (d : ℤ) → lt_z d (pos 0) ≡ false → At (t + nat_abs d) ≡ delayed_of t d
+pub pos_at : (t : ℕ) (d : ℤ) → lt_z d (pos 0) ≡ false → Some (t + nat_abs d) ≡ delayed_of t d
 unfolding delayed_of
 pos_at t (pos n) h = refl
 pos_at t (negsuc n) h = absurd (true≢false h)

@@ -9,6 +9,7 @@ use mir.Val.{Fits}
 use lib.Dec.{eqb, leb}
 use lib.ListN.{length}
 use borrow.Author.Tests.{eq-eqb, ne_eqb, leb-true, not-true}
+use Rattle.std.specs.Prelude.{Option, Some, None}
 use Rattle.spec_base.specs.base.Limits.{most_units, most_ticks}
 use Rattle.spec_base.specs.base.Refusal.{fault_unless}
 use Rattle.spec_base.specs.base.Put.{put}
@@ -24,8 +25,6 @@ use Rattle.spec_caption.specs.declared.caption_fate.Config.{Config}
 use Rattle.spec_caption.specs.declared.caption_fate.Counted.{Counted}
 use Rattle.spec_caption.specs.declared.caption_fate.Counted.TheVariants.{Nothing, Dropped}
 use Rattle.spec_caption.specs.declared.caption_fate.Met.{Met}
-use Rattle.spec_caption.specs.declared.caption_fate.Hit.{Hit}
-use Rattle.spec_caption.specs.declared.caption_fate.Hit.TheVariants.{Miss, At}
 use Rattle.spec_caption.specs.caption_fate.Hit.{meets, Found, miss, hit, find_from, find_hit, met_of, hit_of}
 use Rattle.spec_caption.proofs.caption_fate.FineLaws.{Set, segment_good}
 use Rattle.spec_ask.specs.declared.ask_reason.Why.{Why}
@@ -110,25 +109,25 @@ module _ (m : List ℕ) (T kind S E r : ℕ) (l : List ℕ) (e : r ≡ why_numbe
     unfolding causes_left
     left_is = yes! _ zero_number (rw (ta, tb))
 
-    missing : (f : Found) → hit_of f ≡ Miss → f ≡ miss
+    missing : (f : Found) → hit_of f ≡ None → f ≡ miss
     missing miss q = refl
-    missing (hit i x xs) q = absurd (let w : ◌≡◌ {A = ℕ} 0 1 = ap (λ (h : Hit). elim h [ Miss ↦ 1 | At v ↦ 0 ]) q in omega arith)
+    missing (hit i x xs) q = absurd (let w : ◌≡◌ {A = ℕ} 0 1 = ap (λ (h : Option Met). elim h [ None ↦ 1 | Some v ↦ 0 ]) q in omega arith)
 
-    module _ (h : Hit) (eh : h ≡ hit_of (find_hit (segments_of m) a b)) where
-      pub dropped_why_lem : h ≡ Miss → ◌≡◌ {A = Why} (record { number = 0; fate = Dropped; place = 0; start_cut = 0; end_cut = 0 }) (why_of m T kind S E (length l))
+    module _ (h : Option Met) (eh : h ≡ hit_of (find_hit (segments_of m) a b)) where
+      pub dropped_why_lem : h ≡ None → ◌≡◌ {A = Why} (record { number = 0; fate = Dropped; place = 0; start_cut = 0; end_cut = 0 }) (why_of m T kind S E (length l))
       dropped_why_lem q = ap (why_found a b) (sym (missing (find_hit (segments_of m) a b) (sym eh ∙ q))) ∙ why_is
 
-      pub dropped_left : h ≡ Miss → (l' : List ℕ) → l' ≡ put (causes_of (segments_of m) a b) l → l' ≡ causes_left m T kind S E l
+      pub dropped_left : h ≡ None → (l' : List ℕ) → l' ≡ put (causes_of (segments_of m) a b) l → l' ≡ causes_left m T kind S E l
       dropped_left q l' el =
           el ∙ ap (λ (f : Found). causes_found (segments_of m) a b f l) (sym (missing (find_hit (segments_of m) a b) (sym eh ∙ q))) ∙ left_is
 
-      module _ (v : Met) (q : h ≡ At v) where
+      module _ (v : Met) (q : h ≡ Some v) where
         -- the hit as numbers
-        by_met : (f : Found) → hit_of f ≡ At v → Sound f
+        by_met : (f : Found) → hit_of f ≡ Some v → Sound f
             → (v.source + v.duration ≤ most_ticks) × (why_found a b f ≡ kept_why v.place (v.source - a) (b - (v.source + v.duration))) × (causes_found (segments_of m) a b f l ≡ l)
-        by_met miss p s = absurd (let w : ◌≡◌ {A = ℕ} 0 1 = ap (λ (h : Hit). elim h [ Miss ↦ 0 | At v ↦ 1 ]) p in omega arith)
+        by_met miss p s = absurd (let w : ◌≡◌ {A = ℕ} 0 1 = ap (λ (h : Option Met). elim h [ None ↦ 0 | Some v ↦ 1 ]) p in omega arith)
         by_met (hit i x xs) p s =
-            let w : met_of i x ≡ v = ap (λ (h : Hit). elim h [ Miss ↦ v | At v ↦ v ]) p in (
+            let w : met_of i x ≡ v = ap (λ (h : Option Met). elim h [ None ↦ v | Some v ↦ v ]) p in (
               subst (λ (y : Met). y.source + y.duration ≤ most_ticks) w (end_good (source_of x) x.duration s),
               subst (λ (y : Met). kept_why i (source_of x - a) (b - source_end x) ≡ kept_why y.place (y.source - a) (b - (y.source + y.duration))) w refl,
               refl,

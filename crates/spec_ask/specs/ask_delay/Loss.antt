@@ -1,6 +1,6 @@
 -- Request 2.14. What captions lose under a delay, the delay that loses least among those tried, and how far off it can be. Captions are flat numbers,
 -- start and end in units.
-use Rattle.std.specs.Prelude.{Bool, true, false, ◌&&◌, cond, not, List, [], ◌∷◌, ℕ, zero, suc, ◌-◌, ◌/◌, ◌%◌, ◌≤◌, ◌<◌, min, ltb, leb, eqb, length, ℤ}
+use Rattle.std.specs.Prelude.{Bool, true, false, ◌&&◌, cond, not, List, [], ◌∷◌, ℕ, zero, suc, ◌-◌, ◌/◌, ◌%◌, ◌≤◌, ◌<◌, min, ltb, leb, eqb, length, ℤ, Option, Some, None}
 use Rattle.spec_base.specs.base.Limits.{most_units}
 use Rattle.spec_base.specs.base.Refusal.{◌or_else◌, fault_unless}
 use Rattle.spec_time.specs.caption_time.Kind.{kind_bad, units_of}
@@ -9,8 +9,6 @@ use Rattle.spec_map.specs.declared.segment.Segment.{Segment}
 use Rattle.spec_map.specs.segment.Segment.{map_bad}
 use Rattle.spec_caption.specs.declared.caption_fate.Config.{Config}
 use Rattle.spec_caption.specs.caption_fate.Fates.{Fate, passed, dropped, shifted, clipped, fate_of}
-use Rattle.spec_ask.specs.declared.ask_delay.Moved.{Moved}
-use Rattle.spec_ask.specs.declared.ask_delay.Moved.TheVariants.{At, Below}
 use Rattle.spec_ask.specs.ask_delay.Delay.{delayed_of, delay_of}
 
 abbrev pub most_tries : ℕ
@@ -37,10 +35,10 @@ count_lost false n = n
 
 module _ (c : Config) (m : List Segment) where
   -- lost under a delay: either time falls below zero, or it is clipped or dropped
-  abbrev pub lost_at : Moved → Moved → Bool
-  lost_at Below e = true
-  lost_at (At s) Below = true
-  lost_at (At s) (At e) = not (whole (fate_of c m s e))
+  abbrev pub lost_at : Option ℕ → Option ℕ → Bool
+  lost_at None e = true
+  lost_at (Some s) None = true
+  lost_at (Some s) (Some e) = not (whole (fate_of c m s e))
 
   unfoldable pub lost_under : ℤ → (S E : ℕ) → Bool
   lost_under d S E = lost_at (delayed_of S d) (delayed_of E d)

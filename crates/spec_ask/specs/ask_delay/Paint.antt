@@ -1,8 +1,6 @@
 -- Fates over a window of delays: grade j belongs to the delay j − 6000.
-use Rattle.std.specs.Prelude.{◌≡◌, Bool, true, ◌&&◌, cond, not, List, ℕ, ◌+◌, ◌-◌, ◌≤◌, ◌<◌, ltb, leb, eqb, ℤ, length, get_or}
+use Rattle.std.specs.Prelude.{◌≡◌, Bool, true, ◌&&◌, cond, not, List, ℕ, ◌+◌, ◌-◌, ◌≤◌, ◌<◌, ltb, leb, eqb, ℤ, length, get_or, Option, Some, None}
 use Rattle.spec_ask.specs.declared.ask_edges.Edge.{Edge}
-use Rattle.spec_ask.specs.declared.ask_delay.Moved.{Moved}
-use Rattle.spec_ask.specs.declared.ask_delay.Moved.TheVariants.{At, Below}
 use Rattle.spec_ask.specs.ask_delay.Delay.{delayed_of}
 use Rattle.spec_ask.specs.ask_edges.Edge.{grade_by, grade_through}
 
@@ -32,10 +30,10 @@ pub record Window (es : List Edge) (S E : ℕ) (l : List ℕ) : Type 0 where
   pub grades : (j : ℕ) → j < 12001 → reach ≤ S + j → reach ≤ E + j → get_or l j 0 ≡ grade_through es (S + j - reach) (E + j - reach)
 
 -- a caption lost under a delay, by its grades
-abbrev pub lost_moved : List ℕ → (S : ℕ) → Moved → Moved → Bool
-lost_moved l S Below e = true
-lost_moved l S (At s) Below = true
-lost_moved l S (At s) (At e) = not (eqb (get_or l (s + reach - S) 0) 2)
+abbrev pub lost_moved : List ℕ → (S : ℕ) → Option ℕ → Option ℕ → Bool
+lost_moved l S None e = true
+lost_moved l S (Some s) None = true
+lost_moved l S (Some s) (Some e) = not (eqb (get_or l (s + reach - S) 0) 2)
 
 unfoldable pub lost_by : List ℕ → (S E : ℕ) → ℤ → Bool
 lost_by l S E d = lost_moved l S (delayed_of S d) (delayed_of E d)

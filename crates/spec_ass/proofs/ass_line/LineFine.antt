@@ -7,11 +7,11 @@ use native.Mathlib.Omega.{arith}
 use borrow.Author.Tests.{le-ltb}
 use lib.Dec.{eqb, ltb}
 use lib.ListN.{length, drop}
+use Rattle.std.specs.Prelude.{Option, Some, None}
 use Rattle.spec_text.specs.whitespace.White.{trim}
 use Rattle.spec_text.specs.pattern.Find.{starts, equals}
 use Rattle.spec_text.specs.text.Line.{text_of, terminator_of}
-use Rattle.spec_time.specs.declared.caption_stamp.Time.{Time}
-use Rattle.spec_time.specs.declared.caption_stamp.Time.TheVariants.{At, Bad}
+use Rattle.spec_time.specs.declared.caption_stamp.Stamp.{Stamp}
 use Rattle.spec_time.specs.caption_time.Kind.{units_of, mark_of}
 use Rattle.spec_time.specs.caption_stamp.Read.{mark_in, time_in}
 use Rattle.spec_time.proofs.caption_stamp.Reading.{time_below, time_mark_lem}
@@ -45,7 +45,7 @@ caption_timed : (c : Columns) (n : ℕ) (l v r : List ℕ) → Timed n (caption_
 unfolding mark_in caption_says
 caption_timed c n l v r = go (eqb c.start 0) (eqb c.«end» 0) (ltb (length (fields c.columns r)) c.columns) _ _ refl refl
   where
-    go : (x y z : Bool) (X Y : Time) → time_in 0 (field_at c.start (fields c.columns r)) ≡ X → time_in 0 (field_at c.«end» (fields c.columns r)) ≡ Y
+    go : (x y z : Bool) (X Y : Option Stamp) → time_in 0 (field_at c.start (fields c.columns r)) ≡ X → time_in 0 (field_at c.«end» (fields c.columns r)) ≡ Y
         → Timed n
         (cond x (says c (passes unplaced (suc n) l))
         (cond y (says c (passes unplaced (suc n) l))
@@ -54,15 +54,15 @@ caption_timed c n l v r = go (eqb c.start 0) (eqb c.«end» 0) (ltb (length (fie
     go true y z X Y p q = tt
     go false true z X Y p q = tt
     go false false true X Y p q = tt
-    go false false false Bad Y p q = tt
-    go false false false (At S a) Bad p q = tt
-    go false false false (At S a) (At E b) p q =
+    go false false false None Y p q = tt
+    go false false false (Some S) None p q = tt
+    go false false false (Some S) (Some E) p q =
         record {
           line = refl;
-          start_below = time_below 0 S a _ p;
-          stop_below = time_below 0 E b _ q;
-          start_mark = time_mark_lem 0 S a _ p;
-          stop_mark = time_mark_lem 0 E b _ q;
+          start_below = time_below 0 S.units S.mark _ p;
+          stop_below = time_below 0 E.units E.mark _ q;
+          start_mark = time_mark_lem 0 S.units S.mark _ p;
+          stop_mark = time_mark_lem 0 E.units E.mark _ q;
         }
 
 word_timed : (c : Columns) (n : ℕ) (l t : List ℕ) → Timed n (word_says c n l t)

@@ -6,12 +6,12 @@ use Prim.Native.Nat.{ℕ, suc, ◌+◌, ◌*◌, ◌≤◌}
 use native.Mathlib.Omega.{arith}
 use lib.Dec.{eqb, ltb}
 use lib.ListN.{length, drop}
+use Rattle.std.specs.Prelude.{Option, Some, None}
 use Rattle.spec_text.specs.whitespace.White.{trim}
 use Rattle.spec_text.specs.pattern.Find.{starts, equals}
 use Rattle.spec_text.specs.text.Line.{text_of, terminator_of}
-use Rattle.spec_time.specs.declared.caption_stamp.Time.{Time}
-use Rattle.spec_time.specs.declared.caption_stamp.Time.TheVariants.{At, Bad}
-use Rattle.spec_time.specs.caption_stamp.Read.{time_in}
+use Rattle.spec_time.specs.declared.caption_stamp.Stamp.{Stamp}
+use Rattle.spec_time.specs.caption_stamp.Read.{stamp, time_in}
 use Rattle.spec_time.specs.caption_stamp.Write.{time_text}
 use Rattle.spec_time.specs.caption_time.Convert.{core_units}
 use Rattle.spec_time.proofs.caption_stamp.Reading.{time_most}
@@ -61,7 +61,7 @@ module _ (kind : ℕ) (d : ℕ → ℕ → Decision) (wd : (S E : ℕ) → S ≤
 
   -- a caption line of a word of 8 bytes or more, with the rest r
   module _ (c : Columns) (n : ℕ) (l v r : List ℕ) (hv : 8 ≤ length v) (parts : length v + length r + length (terminator_of l) ≤ length l) where
-    cue_small : (S a E b : ℕ) → time_in 0 (field_at c.start (fields c.columns r)) ≡ At S a → time_in 0 (field_at c.«end» (fields c.columns r)) ≡ At E b
+    cue_small : (S a E b : ℕ) → time_in 0 (field_at c.start (fields c.columns r)) ≡ stamp S a → time_in 0 (field_at c.«end» (fields c.columns r)) ≡ stamp E b
         → (D : Decision) → Words D → Small (length l) (cue_emit kind (line_cue c n v (fields c.columns r) (terminator_of l) S a E b) D)
     cue_small S a E b p q Strange w = nothing (length l) _ refl refl
     cue_small S a E b p q Dropped w = nothing (length l) _ refl refl
@@ -78,15 +78,15 @@ module _ (kind : ℕ) (d : ℕ → ℕ → Decision) (wd : (S E : ℕ) → S ≤
           warned_long = omega (arith, two, long);
         }
 
-    times_small : (X Y : Time) → time_in 0 (field_at c.start (fields c.columns r)) ≡ X → time_in 0 (field_at c.«end» (fields c.columns r)) ≡ Y
+    times_small : (X Y : Option Stamp) → time_in 0 (field_at c.start (fields c.columns r)) ≡ X → time_in 0 (field_at c.«end» (fields c.columns r)) ≡ Y
         → SaysSmall kind d (length l) (times_say c n v (fields c.columns r) (terminator_of l) X Y)
     unfolding emit_by
-    times_small Bad Y p q = tt
-    times_small (At S a) Bad p q = tt
-    times_small (At S a) (At E b) p q =
-        let hs : S ≤ core_units = omega (arith, time_most 0 S a _ p) in
-        let he : E ≤ core_units = omega (arith, time_most 0 E b _ q) in
-        cue_small S a E b p q (d S E) (wd S E hs he)
+    times_small None Y p q = tt
+    times_small (Some S) None p q = tt
+    times_small (Some S) (Some E) p q =
+        let hs : S.units ≤ core_units = omega (arith, time_most 0 S.units S.mark _ p) in
+        let he : E.units ≤ core_units = omega (arith, time_most 0 E.units E.mark _ q) in
+        cue_small S.units S.mark E.units E.mark p q (d S.units E.units) (wd S.units E.units hs he)
 
     caption_small : SaysSmall kind d (length l) (caption_says c n l v r)
     unfolding caption_says emit_by

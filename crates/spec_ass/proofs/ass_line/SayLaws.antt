@@ -8,14 +8,14 @@ use native.Mathlib.Numerals.{add-one}
 use borrow.Author.Tests.{lt-ltb, le-ltb, eq-eqb, ne_eqb, leb-true, leb-false}
 use lib.Dec.{eqb, ltb, leb}
 use lib.ListN.{length, drop, length-append, length-drop}
+use Rattle.std.specs.Prelude.{Option, Some, None}
 use Rattle.spec_base.specs.base.Put.{put}
 use Rattle.spec_text.specs.whitespace.White.{trim}
 use Rattle.spec_text.specs.pattern.Find.{starts, equals}
 use Rattle.spec_text.specs.text.Line.{text_of, terminator_of}
 use Rattle.spec_text.proofs.text.LineLaws.{text_terminator}
-use Rattle.spec_time.specs.declared.caption_stamp.Time.{Time}
-use Rattle.spec_time.specs.declared.caption_stamp.Time.TheVariants.{At, Bad}
-use Rattle.spec_time.specs.caption_stamp.Read.{time_in}
+use Rattle.spec_time.specs.declared.caption_stamp.Stamp.{Stamp}
+use Rattle.spec_time.specs.caption_stamp.Read.{stamp, time_in}
 use Rattle.spec_map.specs.declared.segment.Segment.{Segment}
 use Rattle.spec_caption.specs.declared.caption_fate.Config.{Config}
 use Rattle.spec_caption.specs.declared.caption_fate.Told.{Told}
@@ -63,14 +63,14 @@ module _ (c : Columns) (n : ℕ) (l v r : List ℕ) where
       go (eqb c.start 0) (eqb c.«end» 0) (ltb (length (fields c.columns r)) c.columns)
       (time_in 0 (field_at c.start (fields c.columns r))) (time_in 0 (field_at c.«end» (fields c.columns r)))
     where
-      go : (x y z : Bool) (S E : Time)
+      go : (x y z : Bool) (S E : Option Stamp)
           → columns_after c (cond x (says c (passes unplaced n l)) (cond y (says c (passes unplaced n l)) (cond z (says c (passes short n l)) (times_say c n v (fields c.columns r) (terminator_of l) S E)))) ≡ c
       go true y z S E = refl
       go false true z S E = refl
       go false false true S E = refl
-      go false false false Bad E = refl
-      go false false false (At S a) Bad = refl
-      go false false false (At S a) (At E b) = refl
+      go false false false None E = refl
+      go false false false (Some S) None = refl
+      go false false false (Some S) (Some E) = refl
 
 -- a part that stays, and a caption that passes
 stays_in : (s : Config) (m : List Segment) (c : Columns) (l : List ℕ) → line_answer_in s m (says c (stays l)) ≡ answered (emit l [] none)
@@ -116,31 +116,31 @@ parts_room l T v r k eT ek er h =
     omega arith
 
 -- ---- the times: x and y are what the code read
-module _ (s : Config) (m : List Segment) (c : Columns) (n : ℕ) (l v r f : List ℕ) (x : Time) (ef : f ≡ field_at c.start (fields c.columns r)) (ex : x ≡ time_in 0 f) where
+module _ (s : Config) (m : List Segment) (c : Columns) (n : ℕ) (l v r f : List ℕ) (x : Option Stamp) (ef : f ≡ field_at c.start (fields c.columns r)) (ex : x ≡ time_in 0 f) where
   abbrev Says : LineSays
   Says = times_say c n v (fields c.columns r) (terminator_of l) (time_in 0 (field_at c.start (fields c.columns r))) (time_in 0 (field_at c.«end» (fields c.columns r)))
 
   start_is : time_in 0 (field_at c.start (fields c.columns r)) ≡ x
   start_is = sym (ex ∙ ap (time_in 0) ef)
 
-  pub times_1 : (t : Told) (o w : List ℕ) → x ≡ Bad → t ≡ refused_with 22 → Tells (line_answer_in s m Says) t o o w w
+  pub times_1 : (t : Told) (o w : List ℕ) → x ≡ None → t ≡ refused_with 22 → Tells (line_answer_in s m Says) t o o w w
   times_1 t o w p q =
-      tells_same (ap (λ (X : Time). line_answer_in s m (times_say c n v (fields c.columns r) (terminator_of l) X (time_in 0 (field_at c.«end» (fields c.columns r))))) (start_is ∙ p))
+      tells_same (ap (λ (X : Option Stamp). line_answer_in s m (times_say c n v (fields c.columns r) (terminator_of l) X (time_in 0 (field_at c.«end» (fields c.columns r))))) (start_is ∙ p))
       (tells_refused 22 t o w q)
 
-  module _ (g : List ℕ) (y : Time) (eg : g ≡ field_at c.«end» (fields c.columns r)) (ey : y ≡ time_in 0 g) (S a : ℕ) (p : x ≡ At S a) where
+  module _ (g : List ℕ) (y : Option Stamp) (eg : g ≡ field_at c.«end» (fields c.columns r)) (ey : y ≡ time_in 0 g) (S a : ℕ) (p : x ≡ stamp S a) where
     end_is : time_in 0 (field_at c.«end» (fields c.columns r)) ≡ y
     end_is = sym (ey ∙ ap (time_in 0) eg)
 
-    says_is : (Y : Time) → y ≡ Y → Says ≡ times_say c n v (fields c.columns r) (terminator_of l) (At S a) Y
+    says_is : (Y : Option Stamp) → y ≡ Y → Says ≡ times_say c n v (fields c.columns r) (terminator_of l) (stamp S a) Y
     says_is Y q =
-        ap (λ (X : Time). times_say c n v (fields c.columns r) (terminator_of l) X (time_in 0 (field_at c.«end» (fields c.columns r)))) (start_is ∙ p)
-        ∙ ap (times_say c n v (fields c.columns r) (terminator_of l) (At S a)) (end_is ∙ q)
+        ap (λ (X : Option Stamp). times_say c n v (fields c.columns r) (terminator_of l) X (time_in 0 (field_at c.«end» (fields c.columns r)))) (start_is ∙ p)
+        ∙ ap (times_say c n v (fields c.columns r) (terminator_of l) (stamp S a)) (end_is ∙ q)
 
-    pub times_2 : (t : Told) (o w : List ℕ) → y ≡ Bad → t ≡ refused_with 22 → Tells (line_answer_in s m Says) t o o w w
-    times_2 t o w q e = tells_same (ap (line_answer_in s m) (says_is Bad q)) (tells_refused 22 t o w e)
+    pub times_2 : (t : Told) (o w : List ℕ) → y ≡ None → t ≡ refused_with 22 → Tells (line_answer_in s m Says) t o o w w
+    times_2 t o w q e = tells_same (ap (line_answer_in s m) (says_is None q)) (tells_refused 22 t o w e)
 
-    module _ (E b : ℕ) (q : y ≡ At E b) (z : List ℕ) (ez : z ≡ terminator_of l) where
+    module _ (E b : ℕ) (q : y ≡ stamp E b) (z : List ℕ) (ez : z ≡ terminator_of l) where
       pub times_room : (o : List ℕ) → 3 * length l ≤ length o → 1 ≤ length v → length v + length r + length (terminator_of l) ≤ length l → frame_most (line_frame c v (fields c.columns r) z) ≤ length o
       times_room o h k d =
           let u : length z ≡ length (terminator_of l) = ap length ez in
@@ -150,7 +150,7 @@ module _ (s : Config) (m : List Segment) (c : Columns) (n : ℕ) (l v r f : List
       unfolding part_in
       times_3 t o o' w w' h =
           tells_same
-          (ap (line_answer_in s m) (says_is (At E b) q)
+          (ap (line_answer_in s m) (says_is (stamp E b) q)
           ∙ ap (λ (k : List ℕ). cue_in s.kind (line_cue c n v (fields c.columns r) k S a E b) (decide_in s m S E)) (sym ez))
           h
 

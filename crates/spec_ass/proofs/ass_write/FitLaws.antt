@@ -9,8 +9,7 @@ use lib.Dec.{ltb, eqb}
 use lib.ListN.{length, take, drop, length-drop}
 use lib.Seq.{length-take-le}
 use Rattle.spec_text.specs.pattern.Find.{first}
-use Rattle.spec_time.specs.declared.caption_stamp.Time.TheVariants.{At}
-use Rattle.spec_time.specs.caption_stamp.Read.{time_in}
+use Rattle.spec_time.specs.caption_stamp.Read.{stamp, time_in}
 use Rattle.spec_time.proofs.caption_stamp.Reading.{time_long}
 use Rattle.spec_caption.specs.caption_fate.Says.{Piece, bytes, start, stop}
 use Rattle.spec_ass.specs.declared.ass_columns.Columns.{Columns}
@@ -114,7 +113,7 @@ line_parts c v y fs =
     ap (λ (n : ℕ). length v + n) (frame_append (field_pieces c.start c.«end» 1 fs) (bytes y ∷ []) ∙ omega arith)
 
 -- both times read
-module _ (c : Columns) (v r y : List ℕ) (S a E b : ℕ) (es : time_in 0 (field_at c.start (fields c.columns r)) ≡ At S a) (ee : time_in 0 (field_at c.«end» (fields c.columns r)) ≡ At E b) where
+module _ (c : Columns) (v r y : List ℕ) (S a E b : ℕ) (es : time_in 0 (field_at c.start (fields c.columns r)) ≡ stamp S a) (ee : time_in 0 (field_at c.«end» (fields c.columns r)) ≡ stamp E b) where
   start_long : 7 ≤ length (field_at c.start (fields c.columns r))
   start_long = time_long 0 S a _ es
 

@@ -1,11 +1,10 @@
 -- What an ASS line says by the text alone. A line is given with its terminator and without a BOM.
-use Rattle.std.specs.Prelude.{false, cond, List, [], ◌∷◌, ℕ, suc, eqb, ltb, length, drop}
+use Rattle.std.specs.Prelude.{false, cond, List, [], ◌∷◌, ℕ, suc, eqb, ltb, length, drop, Option, Some, None}
 use Rattle.spec_text.specs.whitespace.White.{trim}
 use Rattle.spec_text.specs.pattern.Find.{starts, equals}
 use Rattle.spec_text.specs.text.Line.{text_of, terminator_of}
+use Rattle.spec_time.specs.declared.caption_stamp.Stamp.{Stamp}
 use Rattle.spec_time.specs.caption_stamp.Read.{time_in}
-use Rattle.spec_time.specs.declared.caption_stamp.Time.{Time}
-use Rattle.spec_time.specs.declared.caption_stamp.Time.TheVariants.{At, Bad}
 use Rattle.spec_caption.specs.caption_fate.Says.{unplaced, short, Cue, cue_of, Part, stays, passes, cue, Fault, bad_time}
 use Rattle.spec_ass.specs.declared.ass_columns.Columns.{Columns}
 use Rattle.spec_ass.specs.ass_columns.Columns.{columns_in, fields, field_at}
@@ -33,10 +32,10 @@ abbrev pub line_cue : Columns → (line : ℕ) → (word : List ℕ) → List (L
 line_cue c n word fs end S a E b = cue_of n S a E b (tagged (field_at c.columns fs)) false (line_frame c word fs end)
 
 -- both times must read
-abbrev pub times_say : Columns → (line : ℕ) → (word : List ℕ) → List (List ℕ) → (end : List ℕ) → Time → Time → LineSays
-times_say c n word fs end Bad E = faulty bad_time
-times_say c n word fs end (At S a) Bad = faulty bad_time
-times_say c n word fs end (At S a) (At E b) = says c (cue (line_cue c n word fs end S a E b))
+abbrev pub times_say : Columns → (line : ℕ) → (word : List ℕ) → List (List ℕ) → (end : List ℕ) → Option Stamp → Option Stamp → LineSays
+times_say c n word fs end None E = faulty bad_time
+times_say c n word fs end (Some S) None = faulty bad_time
+times_say c n word fs end (Some S) (Some E) = says c (cue (line_cue c n word fs end S.units S.mark E.units E.mark))
 
 -- a column unknown: warning 1; fewer fields than columns: warning 2; else the two times
 unfoldable pub caption_says : Columns → (line : ℕ) → (l word rest : List ℕ) → LineSays

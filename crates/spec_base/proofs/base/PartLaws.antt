@@ -8,10 +8,10 @@ use lib.Seq.{take_all, take-nil}
 use native.Mathlib.Nat.{sub-zero, zero-sub, suc-sub-suc}
 
 -- the list of `&s[a..]`
-pub rest_all : (a : ℕ) (s : List ℕ) → take (length s - a) (drop a s) ≡ drop a s
+pub rest_all : {A : Type 0} (a : ℕ) (s : List A) → take (length s - a) (drop a s) ≡ drop a s
 rest_all a s = take_all (length s - a) (drop a s) (omega (arith, length-drop a s))
 
-pub rest_length : (a : ℕ) (s : List ℕ) → length (take (length s - a) (drop a s)) ≡ length s - a
+pub rest_length : {A : Type 0} (a : ℕ) (s : List A) → length (take (length s - a) (drop a s)) ≡ length s - a
 rest_length a s = ap length (rest_all a s) ∙ length-drop a s
 
 pub part_lengths : (n : ℕ) (r : List ℕ) → length (take n r) + length (drop n r) ≡ length r

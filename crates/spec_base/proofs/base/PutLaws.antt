@@ -13,11 +13,11 @@ use lib.Seq.{sets, sets-eq, take_all, take-suc, drop-drop, length-take-le, take-
 use Rattle.spec_base.specs.base.Put.{put, put_at, placed, placed_length, placed_at, place_after}
 use Rattle.spec_base.proofs.base.PartLaws.{rest_length}
 
-pub put_nil : (l : List ℕ) → put [] l ≡ l
+pub put_nil : {A : Type 0} (l : List A) → put [] l ≡ l
 unfolding put
 put_nil l = refl
 
-pub length_put : (v l : List ℕ) → length v ≤ length l → length (put v l) ≡ length l
+pub length_put : {A : Type 0} (v l : List A) → length v ≤ length l → length (put v l) ≡ length l
 unfolding put
 length_put v l h = simp (length-append, length-drop) (omega arith)
 
@@ -65,12 +65,12 @@ put_take s l i h k =
     (put_snoc_at (take i s) l (get_or s i 0) i (sym (length-take-le i s (omega arith))) (omega arith))
 
 -- what was lent from a on is back, with v written at its start
-pub tail_back : (a : ℕ) (v xs ys : List ℕ) → ys ≡ put v (take (length xs - a) (drop a xs)) → take a xs ++ (ys ++ drop (length xs - a) (drop a xs)) ≡ put_at a v xs
+pub tail_back : {A : Type 0} (a : ℕ) (v xs ys : List A) → ys ≡ put v (take (length xs - a) (drop a xs)) → take a xs ++ (ys ++ drop (length xs - a) (drop a xs)) ≡ put_at a v xs
 unfolding put_at
 tail_back a v xs ys f =
     rw (f, take_all (length xs - a) (drop a xs) (le_of_eq (length-drop a xs)), drop_of_length-le (drop a xs) (le_of_eq (length-drop a xs)), append-nil)
 
-pub put_at_zero : (v l : List ℕ) → put_at 0 v l ≡ put v l
+pub put_at_zero : {A : Type 0} (v l : List A) → put_at 0 v l ≡ put v l
 unfolding put_at
 put_at_zero v l = refl
 
@@ -83,40 +83,40 @@ put_at_put a w v l h = rw (h, take_put, drop_put) (put_append w v l)
 pub then_put : (a : ℕ) (w v l xs ys : List ℕ) → xs ≡ put w l → a ≡ length w → ys ≡ put_at a v xs → ys ≡ put (w ++ v) l
 then_put a w v l xs ys e h f = rw (f, e) (put_at_put a w v l h)
 
-pub put_at_nil : (a : ℕ) (l : List ℕ) → put_at a [] l ≡ l
+pub put_at_nil : {A : Type 0} (a : ℕ) (l : List A) → put_at a [] l ≡ l
 unfolding put_at put
 put_at_nil a l = take-append-drop a l
 
 -- a piece that fits is placed, and one that does not is not
-pub placed_yes : (v l : List ℕ) → length v ≤ length l → placed v l ≡ put v l
+pub placed_yes : {A : Type 0} (v l : List A) → length v ≤ length l → placed v l ≡ put v l
 unfolding placed
 placed_yes v l h = rw (le-leb (length v) (length l) h)
 
-pub placed_no : (v l : List ℕ) → length l < length v → placed v l ≡ l
+pub placed_no : {A : Type 0} (v l : List A) → length l < length v → placed v l ≡ l
 unfolding placed
 placed_no v l h = rw (lt-leb (length v) (length l) h)
 
-pub length_yes : (v l : List ℕ) → length v ≤ length l → placed_length v l ≡ length v
+pub length_yes : {A : Type 0} (v l : List A) → length v ≤ length l → placed_length v l ≡ length v
 unfolding placed_length
 length_yes v l h = rw (le-leb (length v) (length l) h)
 
-pub length_no : (v l : List ℕ) → length l < length v → placed_length v l ≡ 0
+pub length_no : {A : Type 0} (v l : List A) → length l < length v → placed_length v l ≡ 0
 unfolding placed_length
 length_no v l h = rw (lt-leb (length v) (length l) h)
 
-pub at_yes : (a : ℕ) (v l : List ℕ) → a + length v ≤ length l → placed_at a v l ≡ put_at a v l
+pub at_yes : {A : Type 0} (a : ℕ) (v l : List A) → a + length v ≤ length l → placed_at a v l ≡ put_at a v l
 unfolding placed_at
 at_yes a v l h = rw (le-leb (a + length v) (length l) h)
 
-pub at_no : (a : ℕ) (v l : List ℕ) → length l < a + length v → placed_at a v l ≡ l
+pub at_no : {A : Type 0} (a : ℕ) (v l : List A) → length l < a + length v → placed_at a v l ≡ l
 unfolding placed_at
 at_no a v l h = rw (lt-leb (a + length v) (length l) h)
 
-pub after_yes : (a : ℕ) (v l : List ℕ) → a + length v ≤ length l → place_after a v l ≡ a + length v
+pub after_yes : {A : Type 0} (a : ℕ) (v l : List A) → a + length v ≤ length l → place_after a v l ≡ a + length v
 unfolding place_after
 after_yes a v l h = rw (le-leb (a + length v) (length l) h)
 
-pub after_no : (a : ℕ) (v l : List ℕ) → length l < a + length v → place_after a v l ≡ a
+pub after_no : {A : Type 0} (a : ℕ) (v l : List A) → length l < a + length v → place_after a v l ≡ a
 unfolding place_after
 after_no a v l h = rw (lt-leb (a + length v) (length l) h)
 
@@ -127,11 +127,11 @@ copied s l₀ l i a b r e =
     let t : take i s ≡ s = take_all i s b in
     (n ∙ sym (length_yes s l₀ r), e ∙ ap (λ (x : List ℕ). put x l₀) t ∙ sym (placed_yes s l₀ r))
 
-pub not_copied : (s l : List ℕ) → length l < length s → (0 ≡ placed_length s l) × (l ≡ placed s l)
+pub not_copied : {A : Type 0} (s l : List A) → length l < length s → (0 ≡ placed_length s l) × (l ≡ placed s l)
 not_copied s l h = (sym (length_no s l h), sym (placed_no s l h))
 
 -- the writer at a place: the tail was lent, and is back
-pub at_back : (a n : ℕ) (v xs ys : List ℕ) → a ≤ length xs → n ≡ placed_length v (take (length xs - a) (drop a xs)) → ys ≡ placed v (take (length xs - a) (drop a xs))
+pub at_back : {A : Type 0} (a n : ℕ) (v xs ys : List A) → a ≤ length xs → n ≡ placed_length v (take (length xs - a) (drop a xs)) → ys ≡ placed v (take (length xs - a) (drop a xs))
     → (a + n ≡ place_after a v xs) × (take a xs ++ (ys ++ drop (length xs - a) (drop a xs)) ≡ placed_at a v xs)
 at_back a n v xs ys h en ey = go (leb (a + length v) (length xs)) refl
   where
@@ -147,7 +147,7 @@ at_back a n v xs ys h en ey = go (leb (a + length v) (length xs)) refl
         let z : n ≡ 0 = en ∙ length_no v _ r in
         (omega (arith, after_no a v xs f), tail_back a [] xs ys b ∙ put_at_nil a xs ∙ sym (at_no a v xs f))
 
-pub at_past : (a : ℕ) (v l : List ℕ) → length l < a → (a ≡ place_after a v l) × (l ≡ placed_at a v l)
+pub at_past : {A : Type 0} (a : ℕ) (v l : List A) → length l < a → (a ≡ place_after a v l) × (l ≡ placed_at a v l)
 at_past a v l h = (sym (after_no a v l (omega arith)), sym (at_no a v l (omega arith)))
 
 -- one more piece, with room
@@ -159,7 +159,7 @@ then_placed a n w v l xs ys e h r en ey =
     let f : a + length v ≤ length xs = omega arith in
     (then_put a w v l xs ys e h (ey ∙ at_yes a v xs f), en ∙ after_yes a v xs f ∙ omega arith)
 
-pub placed_room : (v l : List ℕ) (n : ℕ) → n ≡ placed_length v l → n ≤ length l
+pub placed_room : {A : Type 0} (v l : List A) (n : ℕ) → n ≡ placed_length v l → n ≤ length l
 unfolding placed_length
 placed_room v l n e = go (leb (length v) (length l)) refl e
   where
@@ -167,7 +167,7 @@ placed_room v l n e = go (leb (length v) (length l)) refl e
     go true h q = omega (arith, leb-true (length v) (length l) h)
     go false h q = omega arith
 
-pub none_placed : (l : List ℕ) → (0 ≡ placed_length [] l) × (l ≡ placed [] l)
+pub none_placed : {A : Type 0} (l : List A) → (0 ≡ placed_length [] l) × (l ≡ placed [] l)
 none_placed l = (sym (length_yes [] l (omega arith)), sym (placed_yes [] l (omega arith) ∙ put_nil l))
 
 -- two numbers stored at a place

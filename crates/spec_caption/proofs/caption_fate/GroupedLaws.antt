@@ -9,6 +9,7 @@ use borrow.Author.Tests.{le-ltb, ltb-false, leb-true, leb-false, le-leb, lt-leb,
 use lib.Dec.{ltb, leb, eqb}
 use lib.ListN.{length, take, drop, get_or, length-drop}
 use lib.Seq.{drop-drop, get_or-drop, length-take-le}
+use Rattle.std.specs.Prelude.{Option, Some, None, is_some}
 use Rattle.spec_base.proofs.base.Laws.{and_left, and_right, and_false, and_true}
 use Rattle.spec_base.specs.base.Limits.{most_frame, most_ticks, most_segments}
 use Rattle.spec_map.specs.declared.segment.Segment.{Segment}
@@ -17,8 +18,6 @@ use Rattle.spec_map.specs.segment.Groups.{low_of, high_of, groups_by, group_coun
 use Rattle.spec_map.proofs.segment.SegmentLaws.{segments_cut, segments_short, any_good}
 use Rattle.spec_map.proofs.segment.GroupLaws.{segments_split, front_few}
 use Rattle.spec_caption.specs.declared.caption_fate.Met.{Met}
-use Rattle.spec_caption.specs.declared.caption_fate.Hit.{Hit}
-use Rattle.spec_caption.specs.declared.caption_fate.Hit.TheVariants.{Miss, At}
 use Rattle.spec_caption.specs.caption_fate.Hit.{meets_parts, meets, Found, miss, hit, find_from, find_hit, met_of, hit_of, met_at}
 use Rattle.spec_caption.specs.caption_fate.Grouped.{low_at, high_at, within_parts, emptied, bounded, bounded_from, bounded_by, segments_by, passable, passed_at}
 use Rattle.spec_caption.specs.caption_fate.Lost.{lost_rule}
@@ -28,7 +27,7 @@ use Rattle.spec_caption.specs.declared.caption_fate.Decision.TheVariants.{Kept}
 use Rattle.spec_time.specs.caption_time.Convert.{ticks_within, start_within, end_within}
 use Rattle.spec_caption.specs.caption_fate.Decide.{retimed_by, decide_in}
 use Rattle.spec_caption.proofs.caption_fate.DecideLaws.{decide_kept}
-use Rattle.spec_caption.proofs.caption_fate.HitLaws.{head_of, met_is, is_hit, lost_found, no_hit, behind_of}
+use Rattle.spec_caption.proofs.caption_fate.HitLaws.{head_of, met_is, lost_found, no_hit, behind_of}
 
 -- ---- within the bounds, without a sum
 pub within_1 : (q d low high : ℕ) → q < low → false ≡ within_parts q d low high
@@ -181,12 +180,12 @@ module _ (m g t : List ℕ) (from a b i q d : ℕ) (f : Bool) (s : Seeking m g f
         inside = λ y. omega (arith, l, s.inside (omega arith));
       }
 
-  pub seeking_found : (x : Met) → f ≡ true → x ≡ met_at i t → At x ≡ hit_of (find_from from (bounded_from g from (segments_of (drop (6 * from) m))) a b)
+  pub seeking_found : (x : Met) → f ≡ true → x ≡ met_at i t → Some x ≡ hit_of (find_from from (bounded_from g from (segments_of (drop (6 * from) m))) a b)
   seeking_found x p ex =
       let w : within_parts (get_or t 2 0) (get_or t 5 0) (low_at g i) (high_at g i) ≡ true = and_right (meets_parts (get_or t 2 0) (get_or t 5 0) a b) _ (rw (sym eq, sym ed) (sym ef ∙ p)) in
-      ap At (ex ∙ met_is i t) ∙ ap (λ (y : Segment). At (met_of i y)) (sym (ap (λ (y : Bool). cond y (head_of t) (emptied (head_of t))) w)) ∙ ap hit_of (sym (cut true p) ∙ s.same)
+      ap Some (ex ∙ met_is i t) ∙ ap (λ (y : Segment). Some (met_of i y)) (sym (ap (λ (y : Bool). cond y (head_of t) (emptied (head_of t))) w)) ∙ ap hit_of (sym (cut true p) ∙ s.same)
 
-pub seeking_none : (m g t : List ℕ) (from a b i : ℕ) → Seeking m g from a b i t → length t < 6 → Miss ≡ hit_of (find_from from (bounded_from g from (segments_of (drop (6 * from) m))) a b)
+pub seeking_none : (m g t : List ℕ) (from a b i : ℕ) → Seeking m g from a b i t → length t < 6 → None ≡ hit_of (find_from from (bounded_from g from (segments_of (drop (6 * from) m))) a b)
 seeking_none m g t from a b i s h = ap hit_of (sym (bounded_short g t i a b h) ∙ s.same)
 
 pub seeking_less : (t u : List ℕ) → u ≡ drop 96 t → 6 ≤ length t → length u < length t
@@ -203,10 +202,10 @@ unfolding bounded_by
 bounded_some [] i xs h = absurd (h refl)
 bounded_some (x ∷ g) i xs h = refl
 
-pub by_none : (m g : List ℕ) (a b : ℕ) (h : Hit) → length g ≡ 0 → h ≡ hit_of (find_hit (segments_of m) a b) → h ≡ hit_of (find_hit (segments_by g m) a b)
+pub by_none : (m g : List ℕ) (a b : ℕ) (h : Option Met) → length g ≡ 0 → h ≡ hit_of (find_hit (segments_of m) a b) → h ≡ hit_of (find_hit (segments_by g m) a b)
 by_none m g a b h e p = p ∙ ap (λ (x : List Segment). hit_of (find_hit x a b)) (sym (bounded_empty g 0 (segments_of m) e))
 
-pub by_some : (m g : List ℕ) (a b : ℕ) (h : Hit) → (length g ≡ 0 → ⊥) → h ≡ hit_of (find_from 0 (bounded_from g 0 (segments_of (drop (6 * 0) m))) a b) → h ≡ hit_of (find_hit (segments_by g m) a b)
+pub by_some : (m g : List ℕ) (a b : ℕ) (h : Option Met) → (length g ≡ 0 → ⊥) → h ≡ hit_of (find_from 0 (bounded_from g 0 (segments_of (drop (6 * 0) m))) a b) → h ≡ hit_of (find_hit (segments_by g m) a b)
 by_some m g a b h e p = p ∙ ap (λ (x : List Segment). hit_of (find_hit x a b)) (sym (bounded_some g 0 (segments_of m) e))
 
 -- the segments behind place k
@@ -217,20 +216,16 @@ pub lost_plain : (m g u : List ℕ) (k a b : ℕ) (r : Bool) → length g ≡ 0 
 lost_plain m g u k a b r e eu p =
     p ∙ ap (λ (x : List ℕ). lost_rule (segments_of x) a b) eu ∙ ap (λ (x : List Segment). lost_rule x a b) (sym (bounded_empty g (k + 1) (segments_of (drop (6 * k + 6) m)) e))
 
-lost_any : (m g : List ℕ) (k a b : ℕ) (h : Hit) → (length g ≡ 0 → ⊥) → h ≡ hit_of (find_from (k + 1) (bounded_from g (k + 1) (segments_of (drop (6 * (k + 1)) m))) a b) → lost_rule (behind_by g m k) a b ≡ is_hit h
+lost_any : (m g : List ℕ) (k a b : ℕ) (h : Option Met) → (length g ≡ 0 → ⊥) → h ≡ hit_of (find_from (k + 1) (bounded_from g (k + 1) (segments_of (drop (6 * (k + 1)) m))) a b) → lost_rule (behind_by g m k) a b ≡ is_some h
 lost_any m g k a b h e p =
     let z : 6 * k + 6 ≡ 6 * (k + 1) = omega arith in
     ap (λ (x : List Segment). lost_rule x a b) (bounded_some g (k + 1) (segments_of (drop (6 * k + 6) m)) e)
     ∙ ap (λ (j : ℕ). lost_rule (bounded_from g (k + 1) (segments_of (drop j m))) a b) z
-    ∙ lost_found (k + 1) (bounded_from g (k + 1) (segments_of (drop (6 * (k + 1)) m))) a b ∙ ap is_hit (sym p)
+    ∙ lost_found (k + 1) (bounded_from g (k + 1) (segments_of (drop (6 * (k + 1)) m))) a b ∙ ap (λ (x : Option Met). is_some x) (sym p)
 
-pub lost_miss : (m g : List ℕ) (k a b : ℕ) (h : Hit) → (length g ≡ 0 → ⊥) → h ≡ hit_of (find_from (k + 1) (bounded_from g (k + 1) (segments_of (drop (6 * (k + 1)) m))) a b) → h ≡ Miss
-    → false ≡ lost_rule (behind_by g m k) a b
-lost_miss m g k a b h e p q = sym (lost_any m g k a b h e p ∙ ap is_hit q)
-
-pub lost_hit : (m g : List ℕ) (k a b : ℕ) (h : Hit) (z : Met) → (length g ≡ 0 → ⊥) → h ≡ hit_of (find_from (k + 1) (bounded_from g (k + 1) (segments_of (drop (6 * (k + 1)) m))) a b) → h ≡ At z
-    → true ≡ lost_rule (behind_by g m k) a b
-lost_hit m g k a b h z e p q = sym (lost_any m g k a b h e p ∙ ap is_hit q)
+pub lost_hit : (m g : List ℕ) (k a b : ℕ) (h : Option Met) (f : Bool) → (length g ≡ 0 → ⊥) → h ≡ hit_of (find_from (k + 1) (bounded_from g (k + 1) (segments_of (drop (6 * (k + 1)) m))) a b) → f ≡ is_some h
+    → f ≡ lost_rule (behind_by g m k) a b
+lost_hit m g k a b h f e p q = q ∙ sym (lost_any m g k a b h e p)
 
 -- ---- what a hit tells of the rest of the map
 record FoundIn (i : ℕ) (xs : List Segment) (z : Met) (f : Found) : Type 0 where
@@ -239,16 +234,16 @@ record FoundIn (i : ℕ) (xs : List Segment) (z : Met) (f : Found) : Type 0 wher
   pub others : behind_of f ≡ drop (z.place - i + 1) xs
 
 module _ (a b : ℕ) where
-  found_in : (i : ℕ) (xs : List Segment) (z : Met) → hit_of (find_from i xs a b) ≡ At z → FoundIn i xs z (find_from i xs a b)
+  found_in : (i : ℕ) (xs : List Segment) (z : Met) → hit_of (find_from i xs a b) ≡ Some z → FoundIn i xs z (find_from i xs a b)
   unfolding find_from
   found_in i [] z p = absurd (no_hit z p)
   found_in i (x ∷ xs) z p = go (meets x a b) p (found_in (suc i) xs z)
     where
-      go : (t : Bool) → hit_of (cond t (hit i x xs) (find_from (suc i) xs a b)) ≡ At z
-          → (hit_of (find_from (suc i) xs a b) ≡ At z → FoundIn (suc i) xs z (find_from (suc i) xs a b))
+      go : (t : Bool) → hit_of (cond t (hit i x xs) (find_from (suc i) xs a b)) ≡ Some z
+          → (hit_of (find_from (suc i) xs a b) ≡ Some z → FoundIn (suc i) xs z (find_from (suc i) xs a b))
           → FoundIn i (x ∷ xs) z (cond t (hit i x xs) (find_from (suc i) xs a b))
       go true q ih =
-          let v : i ≡ z.place = ap (λ (h : Hit). elim h [ Miss ↦ i | At w ↦ w.place ]) q in
+          let v : i ≡ z.place = ap (λ (h : Option Met). elim h [ None ↦ i | Some w ↦ w.place ]) q in
           let k : 1 ≡ z.place - i + 1 = omega (arith, v) in
           record { low = omega (arith, v); room = omega (arith, v); others = ap (λ (n : ℕ). drop n (x ∷ xs)) k }
       go false q ih =
@@ -309,12 +304,12 @@ segments_count (suc k) t h =
     let i : k ≤ length (segments_of (drop 6 t)) = segments_count k (drop 6 t) (omega (arith, d)) in
     rw (segments_cut t (omega arith)) (omega (arith, i))
 
-pub by_room : (m g : List ℕ) (a b : ℕ) (h : Hit) (z : Met) → h ≡ hit_of (find_hit (segments_by g m) a b) → h ≡ At z → 6 * z.place + 6 ≤ length m
+pub by_room : (m g : List ℕ) (a b : ℕ) (h : Option Met) (z : Met) → h ≡ hit_of (find_hit (segments_by g m) a b) → h ≡ Some z → 6 * z.place + 6 ≤ length m
 by_room m g a b h z p q =
     let w = found_in a b 0 (segments_by g m) z (sym p ∙ q) in
     segments_room z.place m (omega (arith, w.room, length_by g 0 (segments_of m)))
 
-pub by_others : (m g : List ℕ) (a b : ℕ) (h : Hit) (z : Met) → h ≡ hit_of (find_hit (segments_by g m) a b) → h ≡ At z
+pub by_others : (m g : List ℕ) (a b : ℕ) (h : Option Met) (z : Met) → h ≡ hit_of (find_hit (segments_by g m) a b) → h ≡ Some z
     → behind_of (find_hit (segments_by g m) a b) ≡ behind_by g m z.place
 by_others m g a b h z p q =
     let w = found_in a b 0 (segments_by g m) z (sym p ∙ q) in
@@ -459,8 +454,8 @@ groups_right m e = go (length (groups_of m)) refl
         ∙ groups_all (groups_of m) (group_count (length m)) 0 m refl (omega arith) (whole_map m e) (any_good m e)
 
 -- ---- the decision by a hit that the code found
-pub by_kept : (c : Config) (m g : List ℕ) (S E a b : ℕ) (h : Hit) (z : Met) (f k : Bool) (r : Retimed) → a ≡ ticks_within c.kind c.timescale S → b ≡ ticks_within c.kind c.timescale E
-    → h ≡ hit_of (find_hit (segments_by g m) a b) → h ≡ At z → f ≡ end_bad z.source z.duration → f ≡ false → k ≡ end_bad z.output z.duration → k ≡ false
+pub by_kept : (c : Config) (m g : List ℕ) (S E a b : ℕ) (h : Option Met) (z : Met) (f k : Bool) (r : Retimed) → a ≡ ticks_within c.kind c.timescale S → b ≡ ticks_within c.kind c.timescale E
+    → h ≡ hit_of (find_hit (segments_by g m) a b) → h ≡ Some z → f ≡ end_bad z.source z.duration → f ≡ false → k ≡ end_bad z.output z.duration → k ≡ false
     → r ≡ retimed_by (start_within c.kind c.timescale) (end_within c.kind c.timescale) a b (lost_rule (behind_by g m z.place) a b) z
     → Kept r ≡ decide_in c (segments_by g m) S E
 by_kept c m g S E a b h z f k r ea eb p q ef tf ek tk er = decide_kept c (segments_by g m) S E a b ea eb (behind_by g m z.place) h z f k r p q ef tf ek tk er (by_others m g a b h z p q)

@@ -9,13 +9,12 @@ use borrow.Author.Tests.{lt-ltb, le-ltb, ltb-true, ltb-false}
 use lib.Dec.{ltb}
 use lib.ListN.{length, drop, get_or, length-drop}
 use lib.Seq.{drop-drop}
+use Rattle.std.specs.Prelude.{Option, Some, None, is_some}
 use Rattle.spec_base.proofs.base.Laws.{and_left, and_right, and_false, and_true}
 use Rattle.spec_map.specs.declared.segment.Segment.{Segment}
 use Rattle.spec_map.specs.segment.Segment.{segment, segments_of}
 use Rattle.spec_map.proofs.segment.SegmentLaws.{segments_cut, segments_short}
 use Rattle.spec_caption.specs.declared.caption_fate.Met.{Met}
-use Rattle.spec_caption.specs.declared.caption_fate.Hit.{Hit}
-use Rattle.spec_caption.specs.declared.caption_fate.Hit.TheVariants.{Miss, At}
 use Rattle.spec_caption.specs.caption_fate.Hit.{meets_parts, meets, Found, miss, hit, find_from, find_hit, met_of, hit_of, met_at}
 use Rattle.spec_caption.specs.caption_fate.Lost.{lost_later, lost_rule}
 
@@ -83,35 +82,28 @@ hit_again m t u i a b q d f inv h eq ed ef p eu =
     ∙ ap (λ (x : List ℕ). find_from (suc i) (segments_of x) a b) (sym eu))
 
 pub hit_found : (m t : List ℕ) (i a b q d : ℕ) (f : Bool) (x : Met) → find_hit (segments_of m) a b ≡ find_from i (segments_of t) a b → 6 ≤ length t → q ≡ get_or t 2 0 → d ≡ get_or t 5 0 → f ≡ meets_parts q d a b → f ≡ true → x ≡ met_at i t
-    → At x ≡ hit_of (find_hit (segments_of m) a b)
+    → Some x ≡ hit_of (find_hit (segments_of m) a b)
 hit_found m t i a b q d f x inv h eq ed ef p ex =
     sym
     (ap hit_of (inv ∙ find_cut t i a b q d f h eq ed ef ∙ ap (λ (x : Bool). cond x (hit i (head_of t) (segments_of (drop 6 t))) (find_from (suc i) (segments_of (drop 6 t)) a b)) p)
-    ∙ ap At (sym (met_is i t)) ∙ ap At (sym ex))
+    ∙ ap Some (sym (met_is i t)) ∙ ap Some (sym ex))
 
-pub hit_none : (m t : List ℕ) (i a b : ℕ) → find_hit (segments_of m) a b ≡ find_from i (segments_of t) a b → length t < 6 → Miss ≡ hit_of (find_hit (segments_of m) a b)
+pub hit_none : (m t : List ℕ) (i a b : ℕ) → find_hit (segments_of m) a b ≡ find_from i (segments_of t) a b → length t < 6 → None ≡ hit_of (find_hit (segments_of m) a b)
 unfolding find_from
 hit_none m t i a b inv h = sym (ap hit_of (inv ∙ ap (λ (x : List Segment). find_from i x a b) (segments_short t h)))
 
 -- ---- the part-lost rule: a segment behind is met where a search there finds one
-abbrev pub is_hit : Hit → Bool
-is_hit Miss = false
-is_hit (At z) = true
-
-pub lost_found : (i : ℕ) (xs : List Segment) (a b : ℕ) → lost_later xs a b ≡ is_hit (hit_of (find_from i xs a b))
+pub lost_found : (i : ℕ) (xs : List Segment) (a b : ℕ) → lost_later xs a b ≡ is_some (hit_of (find_from i xs a b))
 unfolding lost_later find_from
 lost_found i [] a b = refl
 lost_found i (x ∷ xs) a b = go (meets x a b) (lost_found (suc i) xs a b)
   where
-    go : (t : Bool) → lost_later xs a b ≡ is_hit (hit_of (find_from (suc i) xs a b)) → cond t true (lost_later xs a b) ≡ is_hit (hit_of (cond t (hit i x xs) (find_from (suc i) xs a b)))
+    go : (t : Bool) → lost_later xs a b ≡ is_some (hit_of (find_from (suc i) xs a b)) → cond t true (lost_later xs a b) ≡ is_some (hit_of (cond t (hit i x xs) (find_from (suc i) xs a b)))
     go true ih = refl
     go false ih = ih
 
-pub lost_none : (xs : List Segment) (a b : ℕ) (h : Hit) → h ≡ hit_of (find_hit xs a b) → h ≡ Miss → false ≡ lost_rule xs a b
-lost_none xs a b h p q = sym (lost_found 0 xs a b ∙ ap is_hit (sym p ∙ q))
-
-pub lost_some : (xs : List Segment) (a b : ℕ) (h : Hit) (z : Met) → h ≡ hit_of (find_hit xs a b) → h ≡ At z → true ≡ lost_rule xs a b
-lost_some xs a b h z p q = sym (lost_found 0 xs a b ∙ ap is_hit (sym p ∙ q))
+pub lost_some : (xs : List Segment) (a b : ℕ) (h : Option Met) (f : Bool) → h ≡ hit_of (find_hit xs a b) → f ≡ is_some h → f ≡ lost_rule xs a b
+lost_some xs a b h f p q = q ∙ ap (λ (x : Option Met). is_some x) p ∙ sym (lost_found 0 xs a b)
 
 -- ---- the segments behind a hit, by its place
 abbrev pub behind_of : Found → List Segment
@@ -123,11 +115,11 @@ pub record Behind (i : ℕ) (t : List ℕ) (z : Met) (f : Found) : Type 0 where
   pub room : 6 * (z.place - i) + 6 ≤ length t
   pub others : behind_of f ≡ segments_of (drop (6 * (z.place - i) + 6) t)
 
-pub no_hit : (z : Met) → Miss ≡ At z → ⊥
-no_hit z p = let w : ◌≡◌ {A = ℕ} 0 1 = ap (λ (h : Hit). elim h [ Miss ↦ 0 | At v ↦ 1 ]) p in omega arith
+pub no_hit : (z : Met) → None ≡ Some z → ⊥
+no_hit z p = let w : ◌≡◌ {A = ℕ} 0 1 = ap (λ (h : Option Met). elim h [ None ↦ 0 | Some v ↦ 1 ]) p in omega arith
 
 module _ (a b : ℕ) where
-  pub found_behind : (i : ℕ) (t : List ℕ) (z : Met) → hit_of (find_from i (segments_of t) a b) ≡ At z → Behind i t z (find_from i (segments_of t) a b)
+  pub found_behind : (i : ℕ) (t : List ℕ) (z : Met) → hit_of (find_from i (segments_of t) a b) ≡ Some z → Behind i t z (find_from i (segments_of t) a b)
   unfolding find_from segments_of
   found_behind i [] z p = absurd (no_hit z p)
   found_behind i (t0 ∷ []) z p = absurd (no_hit z p)
@@ -143,11 +135,11 @@ module _ (a b : ℕ) where
       l : List ℕ
       l = t0 ∷ t1 ∷ t2 ∷ t3 ∷ t4 ∷ t5 ∷ r
 
-      go : (t : Bool) → meets x a b ≡ t → hit_of (cond t (hit i x (segments_of r)) (find_from (suc i) (segments_of r) a b)) ≡ At z
-          → (hit_of (find_from (suc i) (segments_of r) a b) ≡ At z → Behind (suc i) r z (find_from (suc i) (segments_of r) a b))
+      go : (t : Bool) → meets x a b ≡ t → hit_of (cond t (hit i x (segments_of r)) (find_from (suc i) (segments_of r) a b)) ≡ Some z
+          → (hit_of (find_from (suc i) (segments_of r) a b) ≡ Some z → Behind (suc i) r z (find_from (suc i) (segments_of r) a b))
           → Behind i l z (cond t (hit i x (segments_of r)) (find_from (suc i) (segments_of r) a b))
       go true e q ih =
-          let v : i ≡ z.place = ap (λ (h : Hit). elim h [ Miss ↦ i | At v ↦ v.place ]) q in
+          let v : i ≡ z.place = ap (λ (h : Option Met). elim h [ None ↦ i | Some v ↦ v.place ]) q in
           let k : 6 ≡ 6 * (z.place - i) + 6 = omega (arith, v) in
           record { low = omega (arith, v); room = omega (arith, v); others = ap (λ (n : ℕ). segments_of (drop n l)) k }
       go false e q ih =
@@ -160,10 +152,10 @@ module _ (a b : ℕ) where
           }
 
 -- what a hit of the whole map tells of the rest of it
-pub hit_room : (m : List ℕ) (a b : ℕ) (h : Hit) (z : Met) → h ≡ hit_of (find_hit (segments_of m) a b) → h ≡ At z → 6 * z.place + 6 ≤ length m
+pub hit_room : (m : List ℕ) (a b : ℕ) (h : Option Met) (z : Met) → h ≡ hit_of (find_hit (segments_of m) a b) → h ≡ Some z → 6 * z.place + 6 ≤ length m
 hit_room m a b h z p q = let w = found_behind a b 0 m z (sym p ∙ q) in omega (arith, w.room)
 
-pub hit_others : (m : List ℕ) (a b : ℕ) (h : Hit) (z : Met) → h ≡ hit_of (find_hit (segments_of m) a b) → h ≡ At z
+pub hit_others : (m : List ℕ) (a b : ℕ) (h : Option Met) (z : Met) → h ≡ hit_of (find_hit (segments_of m) a b) → h ≡ Some z
     → behind_of (find_hit (segments_of m) a b) ≡ segments_of (drop (6 * z.place + 6) m)
 hit_others m a b h z p q =
     let w = found_behind a b 0 m z (sym p ∙ q) in

@@ -1,7 +1,6 @@
 -- Document 01's number and values for each case of the enums that are answered here: a hit, a decision, and how a caption is counted.
-use Rattle.std.specs.Prelude.{Bool, true, false, List, [], ◌∷◌, ℕ}
-use Rattle.spec_caption.specs.declared.caption_fate.Hit.{Hit}
-use Rattle.spec_caption.specs.declared.caption_fate.Hit.TheVariants.{Miss, At}
+use Rattle.std.specs.Prelude.{Bool, true, false, List, [], ◌∷◌, ℕ, Option, Some, None}
+use Rattle.spec_caption.specs.declared.caption_fate.Met.{Met}
 use Rattle.spec_caption.specs.declared.caption_fate.Decision.{Decision}
 use Rattle.spec_caption.specs.declared.caption_fate.Decision.TheVariants.{Strange, Dropped as Gone, Kept}
 use Rattle.spec_caption.specs.declared.caption_fate.Counted.{Counted}
@@ -15,9 +14,9 @@ abbrev pub told : ℕ → List ℕ → Case
 told n l = record { number = n; values = l }
 
 -- the segment that is met: its place in the list from 0, source start, output start and duration; none is met: no values
-abbrev pub hit_case : Hit → Case
-hit_case Miss = told 0 []
-hit_case (At x) = told 0 (x.place ∷ x.source ∷ x.output ∷ x.duration ∷ [])
+abbrev pub hit_case : Option Met → Case
+hit_case None = told 0 []
+hit_case (Some x) = told 0 (x.place ∷ x.source ∷ x.output ∷ x.duration ∷ [])
 
 -- a map limit is broken: 15, bad map; dropped: no values; kept: the units written, start and end
 abbrev pub decision_case : Decision → Case

@@ -1,10 +1,8 @@
 -- The segment that a caption meets: document 01's hit. a and b are the ticks of the caption's start and end.
-use Rattle.std.specs.Prelude.{Bool, ◌&&◌, cond, List, [], ◌∷◌, ℕ, suc, ◌+◌, ltb, get_or}
+use Rattle.std.specs.Prelude.{Bool, ◌&&◌, cond, List, [], ◌∷◌, ℕ, suc, ◌+◌, ltb, get_or, Option, Some, None}
 use Rattle.spec_map.specs.declared.segment.Segment.{Segment}
 use Rattle.spec_map.specs.segment.Segment.{source_of, output_start_of}
 use Rattle.spec_caption.specs.declared.caption_fate.Met.{Met}
-use Rattle.spec_caption.specs.declared.caption_fate.Hit.{Hit}
-use Rattle.spec_caption.specs.declared.caption_fate.Hit.TheVariants.{Miss, At}
 
 -- of positive length, ends after tick a and starts before tick b
 unfoldable pub meets_parts : (source duration a b : ℕ) → Bool
@@ -31,9 +29,9 @@ abbrev pub met_of : (place : ℕ) → Segment → Met
 met_of i x = record { place = i; source = source_of x; output = output_start_of x; duration = x.duration }
 
 -- what the code answers
-abbrev pub hit_of : Found → Hit
-hit_of miss = Miss
-hit_of (hit i x xs) = At (met_of i x)
+abbrev pub hit_of : Found → Option Met
+hit_of miss = None
+hit_of (hit i x xs) = Some (met_of i x)
 
 -- the segment at the head of a row of flat numbers
 unfoldable pub met_at : (place : ℕ) → List ℕ → Met

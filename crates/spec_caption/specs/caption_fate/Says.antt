@@ -1,6 +1,5 @@
 -- What a text alone says, part by part: bytes that stay, captions that pass, captions with their times (cues). No timescale and no map.
-use Rattle.std.specs.Prelude.{Bool, List, [], ◌∷◌, ℕ, suc}
-use Rattle.spec_time.specs.declared.caption_stamp.Time.TheVariants.{Bad}
+use Rattle.std.specs.Prelude.{Bool, List, [], ◌∷◌, ℕ, suc, None}
 use Rattle.spec_time.specs.caption_stamp.Read.{time_number}
 
 -- the bytes around a caption's two times: pieces that stay, and the places of the start and of the end
@@ -48,7 +47,7 @@ abbrev pub fault_number : Fault → ℕ
 fault_number long_line = 19
 fault_number not_utf8 = 20
 fault_number long_block = 21
-fault_number bad_time = time_number Bad
+fault_number bad_time = time_number None
 fault_number bad_header = 24
 
 -- captions decided: the cues, and the captions that pass

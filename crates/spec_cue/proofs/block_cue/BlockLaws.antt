@@ -1,20 +1,20 @@
 -- Laws of what the functions of a block answer.
 use mathlib.Core.Path.{◌≡◌, refl, sym, ap, ◌∙◌}
-use mathlib.Core.Bool.{Bool, true, false, ◌&&◌, true≢false}
+use mathlib.Core.Bool.{Bool, true, false, ◌&&◌}
 use mathlib.Core.List.{List, ◌++◌}
 use Prim.Native.Nat.{ℕ, ◌+◌, ◌*◌, ◌/◌, ◌≤◌, ◌<◌}
 use native.Mathlib.Omega.{arith}
 use borrow.Author.Tests.{lt-ltb, le-ltb}
 use lib.ListN.{length, take, drop}
+use Rattle.std.specs.Prelude.{Option, Some, None}
 use Rattle.spec_base.specs.base.Put.{put, placed, placed_length}
 use Rattle.spec_base.proofs.base.PartLaws.{part_lengths}
 use Rattle.spec_base.proofs.base.PutLaws.{put_nil, placed_yes, length_yes}
 use Rattle.spec_text.specs.pattern.Find.{up_to}
 use Rattle.spec_text.specs.text.Line.{lines_of, text_of, terminator_of}
 use Rattle.spec_text.proofs.text.LineLaws.{lines_joined}
-use Rattle.spec_time.specs.declared.caption_stamp.Time.{Time}
-use Rattle.spec_time.specs.declared.caption_stamp.Time.TheVariants.{At, Bad}
-use Rattle.spec_time.specs.caption_stamp.Read.{time_in}
+use Rattle.spec_time.specs.declared.caption_stamp.Stamp.{Stamp}
+use Rattle.spec_time.specs.caption_stamp.Read.{stamp, time_in}
 use Rattle.spec_time.specs.caption_stamp.Write.{time_text}
 use Rattle.spec_map.specs.declared.segment.Segment.{Segment}
 use Rattle.spec_caption.specs.declared.caption_fate.Config.{Config}
@@ -30,8 +30,6 @@ use Rattle.spec_caption.specs.caption_fate.Emit.{Warning, decided, warn_if, plac
 use Rattle.spec_caption.specs.caption_fate.Told.{refusal, counted_of, cue_in, part_in, Tells, refused_with}
 use Rattle.spec_caption.proofs.caption_fate.TellLaws.{tells_same, tells_refused}
 use Rattle.spec_cue.specs.declared.block_cue.Times.{Times}
-use Rattle.spec_cue.specs.declared.block_cue.Reading.{Reading}
-use Rattle.spec_cue.specs.declared.block_cue.Reading.TheVariants.{Bad as Unread, Both}
 use Rattle.spec_cue.specs.declared.block_timing.Place.{Place}
 use Rattle.spec_cue.specs.block_timing.Style.{end_in, stamps_in, style_of}
 use Rattle.spec_cue.specs.block_timing.Arrow
@@ -65,34 +63,34 @@ keep_told kind n S a E b z ps r c i j o o' w w' ec eo y ey ew =
     }
 
 -- ---- read_times
-pub read_1 : (kind : ℕ) (s v : List ℕ) (x : Time) → x ≡ time_in kind s → x ≡ Bad → Unread ≡ times_read (time_in kind s) (time_in kind v)
-read_1 kind s v x e p = ap (λ (X : Time). times_read X (time_in kind v)) (sym p ∙ e)
+pub read_1 : (kind : ℕ) (s v : List ℕ) → None ≡ time_in kind s → None ≡ times_read (time_in kind s) (time_in kind v)
+read_1 kind s v e = ap (λ (X : Option Stamp). times_read X (time_in kind v)) e
 
-pub read_2 : (kind : ℕ) (s v : List ℕ) (x y : Time) (S a : ℕ) → x ≡ time_in kind s → x ≡ At S a → y ≡ time_in kind v → y ≡ Bad → Unread ≡ times_read (time_in kind s) (time_in kind v)
-read_2 kind s v x y S a e p f q = ap (λ (Y : Time). times_read (At S a) Y) (sym q ∙ f) ∙ ap (λ (X : Time). times_read X (time_in kind v)) (sym p ∙ e)
+pub read_2 : (kind : ℕ) (s v : List ℕ) (S : Stamp) → Some S ≡ time_in kind s → None ≡ time_in kind v → None ≡ times_read (time_in kind s) (time_in kind v)
+read_2 kind s v S e f = ap (λ (Y : Option Stamp). times_read (Some S) Y) f ∙ ap (λ (X : Option Stamp). times_read X (time_in kind v)) e
 
-pub read_3 : (kind : ℕ) (s v : List ℕ) (x y : Time) (S a E b : ℕ) → x ≡ time_in kind s → x ≡ At S a → y ≡ time_in kind v → y ≡ At E b
-    → Both (record { start = S; start_mark = a; stop = E; stop_mark = b }) ≡ times_read (time_in kind s) (time_in kind v)
-read_3 kind s v x y S a E b e p f q = ap (λ (Y : Time). times_read (At S a) Y) (sym q ∙ f) ∙ ap (λ (X : Time). times_read X (time_in kind v)) (sym p ∙ e)
+pub read_3 : (kind : ℕ) (s v : List ℕ) (S E : Stamp) → Some S ≡ time_in kind s → Some E ≡ time_in kind v
+    → Some (record { start = S.units; start_mark = S.mark; stop = E.units; stop_mark = E.mark }) ≡ times_read (time_in kind s) (time_in kind v)
+read_3 kind s v S E e f = ap (λ (Y : Option Stamp). times_read (Some S) Y) f ∙ ap (λ (X : Option Stamp). times_read X (time_in kind v)) e
 
-not_both : {A : Type 0} {o : Times} → Unread ≡ Both o → A
-not_both e = absurd (let z : ◌≡◌ {A = ℕ} 0 1 = ap (λ (r : Reading). elim r [ Unread ↦ 0 | Both o ↦ 1 ]) e in omega arith)
+not_both : {A : Type 0} {o : Times} → None ≡ Some o → A
+not_both e = absurd (let z : ◌≡◌ {A = ℕ} 0 1 = ap (λ (r : Option Times). elim r [ None ↦ 0 | Some o ↦ 1 ]) e in omega arith)
 
 -- a bad time, and both times, told of
-times_bad : (n : ℕ) (z : Bool) (ps : List Piece) (X Y : Time) → times_read X Y ≡ Unread → both_say n z ps X Y ≡ faulty bad_time
-times_bad n z ps Bad Y e = refl
-times_bad n z ps (At S a) Bad e = refl
-times_bad n z ps (At S a) (At E b) e = not_both (sym e)
+times_bad : (n : ℕ) (z : Bool) (ps : List Piece) (X Y : Option Stamp) → times_read X Y ≡ None → both_say n z ps X Y ≡ faulty bad_time
+times_bad n z ps None Y e = refl
+times_bad n z ps (Some S) None e = refl
+times_bad n z ps (Some S) (Some E) e = not_both (sym e)
 
-times_both : (X Y : Time) (o : Times) → times_read X Y ≡ Both o → (X ≡ At o.start o.start_mark) × (Y ≡ At o.stop o.stop_mark)
-times_both Bad Y o e = not_both e
-times_both (At S a) Bad o e = not_both e
-times_both (At S a) (At E b) o e =
-    let v : record { start = S; start_mark = a; stop = E; stop_mark = b } ≡ o = ap (λ (r : Reading). elim r [ Unread ↦ o | Both v ↦ v ]) e in
-    (ap (λ (v : Times). At v.start v.start_mark) v, ap (λ (v : Times). At v.stop v.stop_mark) v)
+times_both : (X Y : Option Stamp) (o : Times) → times_read X Y ≡ Some o → (X ≡ stamp o.start o.start_mark) × (Y ≡ stamp o.stop o.stop_mark)
+times_both None Y o e = not_both e
+times_both (Some S) None o e = not_both e
+times_both (Some S) (Some E) o e =
+    let v : record { start = S.units; start_mark = S.mark; stop = E.units; stop_mark = E.mark } ≡ o = ap (λ (r : Option Times). elim r [ None ↦ o | Some v ↦ v ]) e in
+    (ap (λ (v : Times). stamp v.start v.start_mark) v, ap (λ (v : Times). stamp v.stop v.stop_mark) v)
 
 -- ---- timed
-module _ (config : Config) (m : List Segment) (k n : ℕ) (b l a T B t z u v : List ℕ) (x : Reading) (et : T ≡ text_of l) (eb : B ≡ after_arrow T) (en : n ≡ end_in config.kind B) (ew : t ≡ drop n B) (ez : z ≡ terminator_of l) (eu : u ≡ up_to arrow T) (ev : v ≡ take n B) (ex : x ≡ times_read (time_in config.kind u) (time_in config.kind v)) where
+module _ (config : Config) (m : List Segment) (k n : ℕ) (b l a T B t z u v : List ℕ) (x : Option Times) (et : T ≡ text_of l) (eb : B ≡ after_arrow T) (en : n ≡ end_in config.kind B) (ew : t ≡ drop n B) (ez : z ≡ terminator_of l) (eu : u ≡ up_to arrow T) (ev : v ≡ take n B) (ex : x ≡ times_read (time_in config.kind u) (time_in config.kind v)) where
   behind_is : B ≡ after_arrow (text_of l)
   behind_is = eb ∙ ap after_arrow et
 
@@ -110,12 +108,12 @@ module _ (config : Config) (m : List Segment) (k n : ℕ) (b l a T B t z u v : L
   unfolding timing_line_says
   line_is = rw (start_is, end_is, trailing_is, ez)
 
-  pub timed_bad : (r : Told) (o w : List ℕ) → x ≡ Unread → r ≡ refused_with 22 → Tells (block_answer_in config m (timing_line_says (style_of config.kind) k b l a)) r o o w w
+  pub timed_bad : (r : Told) (o w : List ℕ) → x ≡ None → r ≡ refused_with 22 → Tells (block_answer_in config m (timing_line_says (style_of config.kind) k b l a)) r o o w w
   timed_bad r o w p q =
       tells_same (ap (block_answer_in config m) (line_is ∙ times_bad k (stamps_in config.kind a) (block_frame b t z a) (time_in config.kind u) (time_in config.kind v) (sym ex ∙ p))) (tells_refused 22 r o w q)
 
-  module _ (old : Times) (p : x ≡ Both old) where
-    both : (time_in config.kind u ≡ At old.start old.start_mark) × (time_in config.kind v ≡ At old.stop old.stop_mark)
+  module _ (old : Times) (p : x ≡ Some old) where
+    both : (time_in config.kind u ≡ stamp old.start old.start_mark) × (time_in config.kind v ≡ stamp old.stop old.stop_mark)
     both = times_both (time_in config.kind u) (time_in config.kind v) old (sym ex ∙ p)
 
     pub timed_room : (o : List ℕ) → 3 * (length b + length l + length a) ≤ length o → length b + length t + length z + length a + 51 ≤ length o
@@ -132,8 +130,8 @@ module _ (config : Config) (m : List Segment) (k n : ℕ) (b l a T B t z u v : L
     timed_both r o o' w w' h =
         tells_same
         (ap (block_answer_in config m)
-        (line_is ∙ ap (λ (X : Time). both_say k (stamps_in config.kind a) (block_frame b t z a) X (time_in config.kind v)) both.0 ∙
-        ap (λ (Y : Time). both_say k (stamps_in config.kind a) (block_frame b t z a) (At old.start old.start_mark) Y) both.1))
+        (line_is ∙ ap (λ (X : Option Stamp). both_say k (stamps_in config.kind a) (block_frame b t z a) X (time_in config.kind v)) both.0 ∙
+        ap (λ (Y : Option Stamp). both_say k (stamps_in config.kind a) (block_frame b t z a) (stamp old.start old.start_mark) Y) both.1))
         h
 
 -- ---- block
@@ -150,27 +148,27 @@ module _ (config : Config) (m : List Segment) (first : ℕ) (s : List ℕ) (room
   unfolding block_in
   answer_3 h i = rw (le-ltb room (3 * length s) (omega arith), le-ltb places 4 i)
 
-module _ (config : Config) (m : List Segment) (first : ℕ) (s : List ℕ) (p : Place) (e : p ≡ timing_place (lines_of s) 0 0) where
-  says_of : (t : Timing) → Stands s p t → p.found ≡ true
+module _ (config : Config) (m : List Segment) (first : ℕ) (s : List ℕ) (x : Option Place) (e : x ≡ timing_place (lines_of s) 0 0) where
+  says_of : (t : Timing) (p : Place) → Stands s (Some p) t
       → timing_says (style_of config.kind) first (lines_of s) t ≡ timing_line_says (style_of config.kind) (first + p.lines) (take p.at s) (take p.size (drop p.at s)) (drop p.size (drop p.at s))
-  says_of Arrow.untimed h f = absurd (true≢false (sym f ∙ h))
-  says_of (Arrow.timed b l a) h f = rw (h.before, h.line, h.after, h.lines)
+  says_of Arrow.untimed p h = absurd h
+  says_of (Arrow.timed b l a) p h = rw (h.before, h.line, h.after, h.lines)
 
-  block_timed : p.found ≡ true
+  block_timed : (p : Place) → x ≡ Some p
       → block_says (style_of config.kind) first (lines_of s) ≡ timing_line_says (style_of config.kind) (first + p.lines) (take p.at s) (take p.size (drop p.at s)) (drop p.size (drop p.at s))
   unfolding block_says
-  block_timed f = says_of (timing_of (lines_of s)) (stands s p e) f
+  block_timed p f = says_of (timing_of (lines_of s)) p (stands s x (Some p) e f)
 
-  untimed_of : (t : Timing) → Stands s p t → p.found ≡ false → t ≡ Arrow.untimed
-  untimed_of Arrow.untimed h f = refl
-  untimed_of (Arrow.timed b l a) h f = absurd (true≢false (sym h.found ∙ f))
+  untimed_of : (t : Timing) → Stands s None t → t ≡ Arrow.untimed
+  untimed_of Arrow.untimed h = refl
+  untimed_of (Arrow.timed b l a) h = absurd h
 
-  block_untimed : p.found ≡ false → block_says (style_of config.kind) first (lines_of s) ≡ says (stays s)
+  block_untimed : x ≡ None → block_says (style_of config.kind) first (lines_of s) ≡ says (stays s)
   unfolding block_says
   block_untimed f =
-      ap (timing_says (style_of config.kind) first (lines_of s)) (untimed_of (timing_of (lines_of s)) (stands s p e) f) ∙ ap (λ (x : List ℕ). says (stays x)) (lines_joined s)
+      ap (timing_says (style_of config.kind) first (lines_of s)) (untimed_of (timing_of (lines_of s)) (stands s x None e f)) ∙ ap (λ (x : List ℕ). says (stays x)) (lines_joined s)
 
-  pub block_4 : (n : ℕ) (o o' w : List ℕ) → p.found ≡ false → length s ≤ length o / 3 → 4 ≤ length w → (n ≡ placed_length s o) × (o' ≡ placed s o)
+  pub block_4 : (n : ℕ) (o o' w : List ℕ) → x ≡ None → length s ≤ length o / 3 → 4 ≤ length w → (n ≡ placed_length s o) × (o' ≡ placed s o)
       → Tells (block_in config m first s (length o) (length w)) (record { number = 0; counted = Nothing; written = n; warned = 0 }) o o' w w
   unfolding part_in emit_by places_of
   block_4 n o o' w f h i q =
@@ -185,12 +183,12 @@ module _ (config : Config) (m : List Segment) (first : ℕ) (s : List ℕ) (p : 
         warnings = sym (put_nil w);
       })
 
-  pub block_3 : (k : ℕ) (r0 f1 f2 r2 : List ℕ) (r : Told) (o o' w w' : List ℕ) → length s ≤ length o / 3 → 4 ≤ length w → p.found ≡ true
+  pub block_3 : (p : Place) (k : ℕ) (r0 f1 f2 r2 : List ℕ) (r : Told) (o o' w w' : List ℕ) → length s ≤ length o / 3 → 4 ≤ length w → x ≡ Some p
       → k ≡ first + p.lines → r0 ≡ drop p.at s → f1 ≡ take p.at s → f2 ≡ take p.size r0 → r2 ≡ drop p.size r0
       → Tells (block_answer_in config m (timing_line_says (style_of config.kind) k f1 f2 r2)) r o o' w w' → Tells (block_in config m first s (length o) (length w)) r o o' w w'
-  block_3 k r0 f1 f2 r2 r o o' w w' h i f ek e0 e1 e2 e3 t =
+  block_3 p k r0 f1 f2 r2 r o o' w w' h i f ek e0 e1 e2 e3 t =
       let line : timing_line_says (style_of config.kind) (first + p.lines) (take p.at s) (take p.size (drop p.at s)) (drop p.size (drop p.at s)) ≡ timing_line_says (style_of config.kind) k f1 f2 r2 = rw (ek, e3, e2, e1, e0) in
-      tells_same (answer_3 config m first s (length o) (length w) h i ∙ ap (block_answer_in config m) (block_timed f ∙ line)) t
+      tells_same (answer_3 config m first s (length o) (length w) h i ∙ ap (block_answer_in config m) (block_timed p f ∙ line)) t
 
 pub block_room : (s r0 f1 f2 r2 o : List ℕ) (i n : ℕ) → r0 ≡ drop i s → f1 ≡ take i s → f2 ≡ take n r0 → r2 ≡ drop n r0 → length s ≤ length o / 3 → 3 * (length f1 + length f2 + length r2) ≤ length o
 block_room s r0 f1 f2 r2 o i n e0 e1 e2 e3 h =

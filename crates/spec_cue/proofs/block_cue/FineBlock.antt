@@ -7,11 +7,11 @@ use Prim.Native.Nat.{ℕ, ◌+◌, ◌*◌, ◌≤◌, ◌<◌}
 use native.Mathlib.Omega.{arith}
 use borrow.Author.Tests.{le-ltb}
 use lib.ListN.{length}
+use Rattle.std.specs.Prelude.{Option, Some, None}
 use Rattle.spec_text.specs.pattern.Find.{up_to}
 use Rattle.spec_text.specs.text.Line.{lines_of, concat, line_count, text_of, terminator_of, has_lf}
 use Rattle.spec_text.proofs.text.LineLaws.{Finished, lines_back, line_last}
-use Rattle.spec_time.specs.declared.caption_stamp.Time.{Time}
-use Rattle.spec_time.specs.declared.caption_stamp.Time.TheVariants.{At, Bad}
+use Rattle.spec_time.specs.declared.caption_stamp.Stamp.{Stamp}
 use Rattle.spec_time.specs.caption_time.Kind.{units_of}
 use Rattle.spec_time.proofs.caption_time.Limits.{units_high}
 use Rattle.spec_time.specs.caption_stamp.Read.{time_in}
@@ -46,16 +46,16 @@ line_timed : (kind k : ℕ) (b l a : List ℕ) → Timed kind (timing_line_says 
 unfolding timing_line_says
 line_timed kind k b l a = go (time_in kind (up_to arrow (text_of l))) (time_in kind (end_text (style_of kind) (text_of l))) refl refl
   where
-    go : (X Y : Time) → time_in kind (up_to arrow (text_of l)) ≡ X → time_in kind (end_text (style_of kind) (text_of l)) ≡ Y
+    go : (X Y : Option Stamp) → time_in kind (up_to arrow (text_of l)) ≡ X → time_in kind (end_text (style_of kind) (text_of l)) ≡ Y
         → Timed kind (both_say k (stamps_in kind a) (block_frame b (trailing (style_of kind) (text_of l)) (terminator_of l) a) X Y)
-    go Bad Y p q = tt
-    go (At S i) Bad p q = tt
-    go (At S i) (At E j) p q =
+    go None Y p q = tt
+    go (Some S) None p q = tt
+    go (Some S) (Some E) p q =
         record {
-          start_below = time_below kind S i _ p;
-          stop_below = time_below kind E j _ q;
-          start_mark = time_marks kind S i _ p;
-          stop_mark = time_marks kind E j _ q;
+          start_below = time_below kind S.units S.mark _ p;
+          stop_below = time_below kind E.units E.mark _ q;
+          start_mark = time_marks kind S.units S.mark _ p;
+          stop_mark = time_marks kind E.units E.mark _ q;
           untagged = refl;
         }
 

@@ -6,11 +6,11 @@ use Prim.Native.Nat.{ℕ, ◌+◌, ◌*◌, ◌≤◌}
 use native.Mathlib.Omega.{arith}
 use lib.Dec.{ltb}
 use lib.ListN.{length, length-append}
+use Rattle.std.specs.Prelude.{Option, Some, None}
 use Rattle.spec_text.specs.pattern.Find.{up_to}
 use Rattle.spec_text.specs.text.Line.{lines_of, concat, line_count, text_of, terminator_of}
 use Rattle.spec_text.proofs.text.LineLaws.{lines_joined}
-use Rattle.spec_time.specs.declared.caption_stamp.Time.{Time}
-use Rattle.spec_time.specs.declared.caption_stamp.Time.TheVariants.{At, Bad}
+use Rattle.spec_time.specs.declared.caption_stamp.Stamp.{Stamp}
 use Rattle.spec_time.specs.caption_stamp.Read.{time_in}
 use Rattle.spec_time.specs.caption_time.Convert.{core_units}
 use Rattle.spec_time.proofs.caption_stamp.Reading.{time_most}
@@ -71,14 +71,14 @@ module _ (kind y : ℕ) (d : ℕ → ℕ → Decision) (wd : (S E : ℕ) → S �
   unfolding timing_line_says emit_by
   line_small k b l a = go (time_in y (up_to arrow (text_of l))) (time_in y (end_text (style_of y) (text_of l))) refl refl
     where
-      go : (X Y : Time) → time_in y (up_to arrow (text_of l)) ≡ X → time_in y (end_text (style_of y) (text_of l)) ≡ Y
+      go : (X Y : Option Stamp) → time_in y (up_to arrow (text_of l)) ≡ X → time_in y (end_text (style_of y) (text_of l)) ≡ Y
           → SaysSmall kind d (length b + length l + length a) (both_say k (stamps_in y a) (block_frame b (trailing (style_of y) (text_of l)) (terminator_of l) a) X Y)
-      go Bad Y p q = tt
-      go (At S i) Bad p q = tt
-      go (At S i) (At E j) p q =
-          let hs : S ≤ core_units = omega (arith, time_most y S i _ p) in
-          let he : E ≤ core_units = omega (arith, time_most y E j _ q) in
-          cue_small kind _ k S i E j (stamps_in y a) b (trailing (style_of y) (text_of l)) (terminator_of l) a (d S E) (wd S E hs he) (omega (arith, line_long y l S E i j p q))
+      go None Y p q = tt
+      go (Some S) None p q = tt
+      go (Some S) (Some E) p q =
+          let hs : S.units ≤ core_units = omega (arith, time_most y S.units S.mark _ p) in
+          let he : E.units ≤ core_units = omega (arith, time_most y E.units E.mark _ q) in
+          cue_small kind _ k S.units S.mark E.units E.mark (stamps_in y a) b (trailing (style_of y) (text_of l)) (terminator_of l) a (d S.units E.units) (wd S.units E.units hs he) (omega (arith, line_long y l S.units E.units S.mark E.mark p q))
 
   timing_small : (first i j : ℕ) (ls : List (List ℕ)) (t : Timing) → Placed t ls i j (timing_place ls i j) → SaysSmall kind d (length (concat ls)) (timing_says (style_of y) first ls t)
   unfolding emit_by

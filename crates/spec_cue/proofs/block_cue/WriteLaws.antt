@@ -13,8 +13,7 @@ use Rattle.spec_text.specs.whitespace.White.{trim_head}
 use Rattle.spec_text.specs.text.Line.{text_of, terminator_of}
 use Rattle.spec_text.proofs.pattern.Laws.{up_past}
 use Rattle.spec_text.proofs.text.LineLaws.{text_terminator, trim_head_length}
-use Rattle.spec_time.specs.declared.caption_stamp.Time.TheVariants.{At}
-use Rattle.spec_time.specs.caption_stamp.Read.{time_in}
+use Rattle.spec_time.specs.caption_stamp.Read.{stamp, time_in}
 use Rattle.spec_time.specs.caption_stamp.Write.{time_text}
 use Rattle.spec_time.proofs.caption_stamp.Reading.{time_long}
 use Rattle.spec_time.proofs.caption_stamp.Written.{text_23}
@@ -68,7 +67,7 @@ module _ (b S E t x a o l1 l2 l3 l4 l5 l6 l7 : List ℕ) (n1 n2 n3 n4 n5 n6 n7 :
       (q7.0 ∙ ap (λ (y : List ℕ). put y o) (sym f), q7.1 ∙ ap length (sym f))
 
 -- a timing line whose times are read has 17 bytes beside what is trailing and its terminator
-pub line_long : (kind : ℕ) (l : List ℕ) (S E i j : ℕ) → time_in kind (up_to arrow (text_of l)) ≡ At S i → time_in kind (end_text (style_of kind) (text_of l)) ≡ At E j
+pub line_long : (kind : ℕ) (l : List ℕ) (S E i j : ℕ) → time_in kind (up_to arrow (text_of l)) ≡ stamp S i → time_in kind (end_text (style_of kind) (text_of l)) ≡ stamp E j
     → 17 + length (trailing (style_of kind) (text_of l)) + length (terminator_of l) ≤ length l
 unfolding after_arrow
 line_long kind l S E i j eS eE =

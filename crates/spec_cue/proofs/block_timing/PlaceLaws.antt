@@ -8,6 +8,7 @@ use native.Mathlib.Omega.{arith}
 use borrow.Author.Tests.{lt-ltb, le-ltb}
 use lib.Seq.{length-take-le, take_at, drop_at}
 use lib.ListN.{length, take, drop, get_or, length-drop, length-append}
+use Rattle.std.specs.Prelude.{Option, Some, None}
 use Rattle.spec_base.proofs.base.Laws.{yes!, no! }
 use Rattle.spec_text.specs.utf8.Utf8.{tail}
 use Rattle.spec_text.specs.whitespace.White.{trim_head}
@@ -17,7 +18,7 @@ use Rattle.spec_text.proofs.text.LineLaws.{line_some, line_le, lines_cut, lines_
 use Rattle.spec_cue.specs.declared.block_timing.Place.{Place}
 use Rattle.spec_cue.specs.block_timing.Style.{srt_end}
 use Rattle.spec_cue.specs.block_timing.Arrow.{arrow, Timing, untimed, timed, later, timing_of, after_arrow}
-use Rattle.spec_cue.specs.block_timing.Place.{nowhere, somewhere, timing_place}
+use Rattle.spec_cue.specs.block_timing.Place.{somewhere, timing_place}
 
 -- ---- the end time
 pub end_1 : (r : List ℕ) → length r < 12 → length r ≡ srt_end r
@@ -46,7 +47,7 @@ place_cut t line x n i k f h en el ex ef =
     rw (c, q, ef, ex, el)
 
 pub place_found : (s t line x : List ℕ) (n i k : ℕ) (f : Bool) → timing_place (lines_of s) 0 0 ≡ timing_place (lines_of t) i k → 0 < length t → n ≡ line_length t → line ≡ take n t → x ≡ text_of line → f ≡ contains arrow x → f ≡ true
-    → ◌≡◌ {A = Place} (record { found = true; at = i; size = n; lines = k }) (timing_place (lines_of s) 0 0)
+    → Some (record { at = i; size = n; lines = k }) ≡ timing_place (lines_of s) 0 0
 place_found s t line x n i k f inv h en el ex ef p =
     sym (inv ∙ place_cut t line x n i k f h en el ex ef ∙ ap (λ (b : Bool). cond b (somewhere i n k) (timing_place (lines_of (drop n t)) (i + n) (k + 1))) p)
 
@@ -56,8 +57,7 @@ place_again s t u line x n i k f inv h en el ex ef p eu =
     inv ∙ place_cut t line x n i k f h en el ex ef ∙ ap (λ (b : Bool). cond b (somewhere i n k) (timing_place (lines_of (drop n t)) (i + n) (k + 1))) p
     ∙ ap (λ (y : List ℕ). timing_place (lines_of y) (i + n) (k + 1)) (sym eu)
 
-pub place_none : (s t : List ℕ) (i k : ℕ) → timing_place (lines_of s) 0 0 ≡ timing_place (lines_of t) i k → length t ≤ 0
-    → ◌≡◌ {A = Place} (record { found = false; at = 0; size = 0; lines = 0 }) (timing_place (lines_of s) 0 0)
+pub place_none : (s t : List ℕ) (i k : ℕ) → timing_place (lines_of s) 0 0 ≡ timing_place (lines_of t) i k → length t ≤ 0 → None ≡ timing_place (lines_of s) 0 0
 unfolding timing_place
 place_none s t i k inv h = sym (inv ∙ ap (λ (y : List (List ℕ)). timing_place y i k) (lines_end t h))
 
@@ -73,11 +73,11 @@ pub lines_few : (t : List ℕ) (n i k : ℕ) → k ≤ i → n ≡ line_length t
 lines_few t n i k h e l = omega (arith, line_some t l)
 
 -- ---- the place of the timing line, and the parts of the block about it
-abbrev pub Placed : Timing → List (List ℕ) → (i k : ℕ) → Place → Type 0
-Placed untimed ls i k p = p ≡ nowhere
+abbrev pub Placed : Timing → List (List ℕ) → (i k : ℕ) → Option Place → Type 0
+Placed untimed ls i k p = p ≡ None
 Placed (timed b l a) ls i k p = (p ≡ somewhere (i + length (concat b)) (length l) (k + line_count b)) × (concat b ++ (l ++ concat a) ≡ concat ls)
 
-later_placed : (l : List ℕ) (t : Timing) (ls : List (List ℕ)) (i k : ℕ) (p : Place) → Placed t ls (i + length l) (k + 1) p → Placed (later l t) (l ∷ ls) i k p
+later_placed : (l : List ℕ) (t : Timing) (ls : List (List ℕ)) (i k : ℕ) (p : Option Place) → Placed t ls (i + length l) (k + 1) p → Placed (later l t) (l ∷ ls) i k p
 later_placed l untimed ls i k p e = e
 later_placed l (timed b x a) ls i k p e =
     let q : i + length l + length (concat b) ≡ i + length (l ++ concat b) = omega (arith, length-append l (concat b)) in
@@ -98,30 +98,35 @@ timing_placed (l ∷ ls) i k = go (contains arrow (text_of l)) (timing_placed ls
 
 -- what the code knows of the place
 pub record Apart (s : List ℕ) (p : Place) (b : List (List ℕ)) (l : List ℕ) (a : List (List ℕ)) : Type 0 where
-  pub found : p.found ≡ true
   pub before : concat b ≡ take p.at s
   pub line : l ≡ take p.size (drop p.at s)
   pub after : concat a ≡ drop p.size (drop p.at s)
   pub lines : line_count b ≡ p.lines
   pub room : p.at + p.size ≤ length s
 
-abbrev pub Stands : List ℕ → Place → Timing → Type 0
-Stands s p untimed = p.found ≡ false
-Stands s p (timed b l a) = Apart s p b l a
+abbrev pub Stands : List ℕ → Option Place → Timing → Type 0
+Stands s None untimed = Unit
+Stands s None (timed b l a) = ⊥
+Stands s (Some p) untimed = ⊥
+Stands s (Some p) (timed b l a) = Apart s p b l a
 
-stands_of : (s : List ℕ) (p : Place) (t : Timing) → Placed t (lines_of s) 0 0 p → Stands s p t
-stands_of s p untimed e = ap (λ (q : Place). q.found) e
-stands_of s p (timed b l a) e =
+no_place : {A : Type 0} {p : Place} → None ≡ Some p → A
+no_place e = absurd (let z : ◌≡◌ {A = ℕ} 0 1 = ap (λ (x : Option Place). elim x [ None ↦ 0 | Some q ↦ 1 ]) e in omega arith)
+
+stands_of : (s : List ℕ) (x : Option Place) (t : Timing) → Placed t (lines_of s) 0 0 x → Stands s x t
+stands_of s None untimed e = tt
+stands_of s (Some p) untimed e = no_place (sym e)
+stands_of s None (timed b l a) e = no_place e.0
+stands_of s (Some p) (timed b l a) e =
     let B = concat b in
     let A = concat a in
     let w : B ++ (l ++ A) ≡ s = e.1 ∙ lines_joined s in
-    let at : p.at ≡ length B = ap (λ (q : Place). q.at) e.0 ∙ omega arith in
-    let size : p.size ≡ length l = ap (λ (q : Place). q.size) e.0 in
-    let k : p.lines ≡ line_count b = ap (λ (q : Place). q.lines) e.0 ∙ omega arith in
+    let at : p.at ≡ length B = ap (λ (x : Option Place). elim x [ None ↦ 0 | Some q ↦ q.at ]) e.0 ∙ omega arith in
+    let size : p.size ≡ length l = ap (λ (x : Option Place). elim x [ None ↦ 0 | Some q ↦ q.size ]) e.0 in
+    let k : p.lines ≡ line_count b = ap (λ (x : Option Place). elim x [ None ↦ 0 | Some q ↦ q.lines ]) e.0 ∙ omega arith in
     let d : drop p.at s ≡ l ++ A = ap (drop p.at) (sym w) ∙ drop_at B (l ++ A) p.at (sym at) in
     let n : length s ≡ length B + (length l + length A) = ap length (sym w) ∙ length-append B (l ++ A) ∙ ap (λ (m : ℕ). length B + m) (length-append l A) in
     record {
-      found = ap (λ (q : Place). q.found) e.0;
       before = sym (ap (take p.at) (sym w) ∙ take_at B (l ++ A) p.at (sym at));
       line = sym (ap (take p.size) d ∙ take_at l A p.size (sym size));
       after = sym (ap (drop p.size) d ∙ drop_at l A p.size (sym size));
@@ -129,5 +134,5 @@ stands_of s p (timed b l a) e =
       room = omega arith;
     }
 
-pub stands : (s : List ℕ) (p : Place) → p ≡ timing_place (lines_of s) 0 0 → Stands s p (timing_of (lines_of s))
-stands s p e = subst (λ (q : Place). Stands s q (timing_of (lines_of s))) (sym e) (stands_of s (timing_place (lines_of s) 0 0) (timing_of (lines_of s)) (timing_placed (lines_of s) 0 0))
+pub stands : (s : List ℕ) (x y : Option Place) → x ≡ timing_place (lines_of s) 0 0 → x ≡ y → Stands s y (timing_of (lines_of s))
+stands s x y e f = subst (λ (q : Option Place). Stands s q (timing_of (lines_of s))) (sym e ∙ f) (stands_of s (timing_place (lines_of s) 0 0) (timing_of (lines_of s)) (timing_placed (lines_of s) 0 0))

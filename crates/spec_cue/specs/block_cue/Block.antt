@@ -1,12 +1,11 @@
 -- What a block says by the text alone. A block is its non-blank lines, each with its terminator; the last may have none.
-use Rattle.std.specs.Prelude.{Bool, false, List, [], ◌∷◌, ℕ, ◌+◌, take, drop}
+use Rattle.std.specs.Prelude.{Bool, false, List, [], ◌∷◌, ℕ, ◌+◌, take, drop, Option, Some, None}
 use Rattle.spec_text.specs.pattern.Find.{up_to}
 use Rattle.spec_text.specs.text.Line.{concat, line_count, text_of, terminator_of}
-use Rattle.spec_time.specs.declared.caption_stamp.Time.{Time}
-use Rattle.spec_time.specs.declared.caption_stamp.Time.TheVariants.{At, Bad}
 use Rattle.spec_caption.specs.caption_fate.Says.{Piece, bytes, start, stop, Cue, cue_of, Part, stays, cue, Fault, bad_time}
 use Rattle.spec_cue.specs.block_timing.Style.{Style}
 use Rattle.spec_cue.specs.block_timing.Arrow.{arrow, Timing, untimed, timed, timing_of, after_arrow}
+use Rattle.spec_time.specs.declared.caption_stamp.Stamp.{Stamp}
 
 -- the arrow as it is written
 abbrev pub written_arrow : List ℕ
@@ -26,10 +25,10 @@ abbrev pub block_cue : (n S a E b : ℕ) → (z : Bool) → List Piece → Cue
 block_cue n S a E b z ps = cue_of n S a E b false z ps
 
 -- both times must read
-abbrev pub both_say : (n : ℕ) → (z : Bool) → List Piece → Time → Time → BlockSays
-both_say n z ps Bad y = faulty bad_time
-both_say n z ps (At S a) Bad = faulty bad_time
-both_say n z ps (At S a) (At E b) = says (cue (block_cue n S a E b z ps))
+abbrev pub both_say : (n : ℕ) → (z : Bool) → List Piece → Option Stamp → Option Stamp → BlockSays
+both_say n z ps None y = faulty bad_time
+both_say n z ps (Some S) None = faulty bad_time
+both_say n z ps (Some S) (Some E) = says (cue (block_cue n S.units S.mark E.units E.mark z ps))
 
 module _ (k : Style) where
   abbrev pub end_text : List ℕ → List ℕ

@@ -1,11 +1,11 @@
 -- The rules of a kind whose captions are blocks of lines: SRT and WebVTT.
-use Rattle.std.specs.Prelude.{Bool, true, false, cond, List, [], ◌∷◌, ℕ, min, ltb, eqb, length, get_or}
+use Rattle.std.specs.Prelude.{Bool, true, false, cond, List, [], ◌∷◌, ℕ, min, ltb, eqb, length, get_or, Option}
 use Rattle.spec_text.specs.utf8.Utf8.{tail}
 use Rattle.spec_text.specs.pattern.Find.{first}
 use Rattle.spec_text.specs.text.Number.{digit}
 use Rattle.spec_text.specs.text.Line.{is_empty, text_of, blank}
+use Rattle.spec_time.specs.declared.caption_stamp.Stamp.{Stamp}
 use Rattle.spec_time.specs.caption_stamp.Read.{time_in}
-use Rattle.spec_time.specs.declared.caption_stamp.Time.{Time}
 
 -- a line that ends a block, by kind: SRT's is trimmed empty, WebVTT's has nothing but its terminator; ASS has no blocks
 unfoldable pub blank_in : (kind : ℕ) → List ℕ → Bool
@@ -38,7 +38,7 @@ stamps_in kind t = cond (eqb kind 2) (stamp_in t) false
 -- blank: a line that ends a block; time: a time's text read; end_length: the end time's bytes; stamps: times inside a cue
 pub record Style : Type 0 where
   pub blank : List ℕ → Bool
-  pub time : List ℕ → Time
+  pub time : List ℕ → Option Stamp
   pub end_length : List ℕ → ℕ
   pub stamps : List ℕ → Bool
 

@@ -7,15 +7,15 @@ use native.Mathlib.Omega.{arith}
 use borrow.Author.Tests.{ne_eqb, eqb-true, eqb-false, ltb-true, ltb-false}
 use lib.Dec.{eqb, ltb}
 use lib.ListN.{length, take, drop}
+use Rattle.std.specs.Prelude.{Option, Some, None}
 use Rattle.spec_text.specs.whitespace.White.{white, white_high, keep_from, trim_head, trim_tail, trim}
 use Rattle.spec_text.specs.pattern.Find.{starts, equals}
 use Rattle.spec_text.specs.text.Line.{text_of, terminator_of}
 use Rattle.spec_text.proofs.whitespace.Laws.{white_ascii, head_none}
 use Rattle.spec_text.proofs.text.LineEnds.{last_of, last_append, last_some, Ended, ended_swap, text_again, terminator_again, line_ended}
-use Rattle.spec_time.specs.declared.caption_stamp.Time.{Time}
-use Rattle.spec_time.specs.declared.caption_stamp.Time.TheVariants.{At, Bad}
+use Rattle.spec_time.specs.declared.caption_stamp.Stamp.{Stamp}
 use Rattle.spec_time.specs.caption_time.Kind.{kind_bad, units_of, mark_of, fraction_digits, hour_digits}
-use Rattle.spec_time.specs.caption_stamp.Read.{mark_in, time_in}
+use Rattle.spec_time.specs.caption_stamp.Read.{stamp, mark_in, time_in}
 use Rattle.spec_time.specs.caption_stamp.Write.{pad, widest, text_with, time_text}
 use Rattle.spec_text.proofs.pattern.Free.{Free, none_free}
 use Rattle.spec_time.proofs.caption_stamp.Reading.{time_long, time_mark_lem}
@@ -70,7 +70,7 @@ slash_other : white 92 ≡ false
 unfolding white white_high
 slash_other = refl
 
-read_untagged : (S a : ℕ) (f : List ℕ) → time_in 0 f ≡ At S a → tagged f ≡ false
+read_untagged : (S a : ℕ) (f : List ℕ) → time_in 0 f ≡ stamp S a → tagged f ≡ false
 unfolding mark_of
 read_untagged S a f e =
     untagged f (read_free 92 (omega arith) slash_other (λ b l h q. omega arith) (λ q. omega arith) (λ q. omega arith) 0 S a f (λ q. omega arith) (λ q. omega arith) e)
@@ -137,9 +137,9 @@ frame_is w x s e ps =
 
 -- a caption line with the text w r, whose times read
 module _ (c : Columns) (n : ℕ) (l w r : List ℕ) (word : Word w) (ev : c.events ≡ true) (et : text_of l ≡ w ++ r) (hs : c.start ≡ 0 → ⊥) (he : c.«end» ≡ 0 → ⊥) (hf : c.columns ≤ length (fields c.columns r))
-    (A a B b : ℕ) (p : time_in 0 (field_at c.start (fields c.columns r)) ≡ At A a) (q : time_in 0 (field_at c.«end» (fields c.columns r)) ≡ At B b) where
+    (A a B b : ℕ) (p : time_in 0 (field_at c.start (fields c.columns r)) ≡ stamp A a) (q : time_in 0 (field_at c.«end» (fields c.columns r)) ≡ stamp B b) where
   -- its places are among the fields
-  placed : (k S x : ℕ) → time_in 0 (field_at k (fields c.columns r)) ≡ At S x → k ≤ length (fields c.columns r)
+  placed : (k S x : ℕ) → time_in 0 (field_at k (fields c.columns r)) ≡ stamp S x → k ≤ length (fields c.columns r)
   placed k S x t = go (ltb (length (fields c.columns r)) k) refl
     where
       go : (y : Bool) → ltb (length (fields c.columns r)) k ≡ y → k ≤ length (fields c.columns r)
@@ -189,12 +189,12 @@ module _ (c : Columns) (n : ℕ) (l w r : List ℕ) (word : Word w) (ev : c.even
         new_at c.start c.«end» (time_text 0 46 s) (time_text 0 46 e) k 1 Old low high
         ∙ ap (λ (x : ℕ). new_field c.start c.«end» (time_text 0 46 s) (time_text 0 46 e) x (field_at k Old)) z
 
-    start_back : time_in 0 (field_at c.start (fields c.columns Rest)) ≡ At s 46
+    start_back : time_in 0 (field_at c.start (fields c.columns Rest)) ≡ stamp s 46
     start_back =
         ap (λ (fs : List (List ℕ)). time_in 0 (field_at c.start fs)) fields_are
         ∙ ap (time_in 0) (at_place c.start (omega arith) start_in ∙ new_start c.start c.«end» (time_text 0 46 s) (time_text 0 46 e) (field_at c.start Old) apart) ∙ ass_back s ls
 
-    end_back : time_in 0 (field_at c.«end» (fields c.columns Rest)) ≡ At e 46
+    end_back : time_in 0 (field_at c.«end» (fields c.columns Rest)) ≡ stamp e 46
     end_back =
         ap (λ (fs : List (List ℕ)). time_in 0 (field_at c.«end» fs)) fields_are
         ∙ ap (time_in 0) (at_place c.«end» (omega arith) end_in_lem ∙ new_end c.start c.«end» (time_text 0 46 s) (time_text 0 46 e) (field_at c.«end» Old)) ∙ ass_back e le
@@ -226,8 +226,8 @@ module _ (c : Columns) (n : ℕ) (l w r : List ℕ) (word : Word w) (ev : c.even
         ∙ ap (text_says c n Line) (text_again (w ++ Rest) (terminator_of l) ended)
         ∙ text_says_lem Rest Line
         ∙ caption_times c (suc n) Line w Rest hs he (omega (arith, ap length fields_are, new_length c.start c.«end» (time_text 0 46 s) (time_text 0 46 e) 1 Old))
-        ∙ ap (λ (X : Time). times_say c (suc n) w (fields c.columns Rest) (terminator_of Line) X (time_in 0 (field_at c.«end» (fields c.columns Rest)))) start_back
-        ∙ ap (times_say c (suc n) w (fields c.columns Rest) (terminator_of Line) (At s 46)) end_back
+        ∙ ap (λ (X : Option Stamp). times_say c (suc n) w (fields c.columns Rest) (terminator_of Line) X (time_in 0 (field_at c.«end» (fields c.columns Rest)))) start_back
+        ∙ ap (times_say c (suc n) w (fields c.columns Rest) (terminator_of Line) (stamp s 46)) end_back
         ∙ ap (λ (fs : List (List ℕ)). says c (cue (line_cue c (suc n) w fs (terminator_of Line) s 46 e 46))) fields_are
         ∙ ap (λ (x : List ℕ). says c (cue (line_cue c (suc n) w New x s 46 e 46))) (terminator_again (w ++ Rest) (terminator_of l) ended)
         ∙ same
@@ -260,7 +260,7 @@ caption_back c n l w r word ev et =
     (time_in 0 (field_at c.start (fields c.columns r))) refl (time_in 0 (field_at c.«end» (fields c.columns r))) refl
   where
     go : (x : Bool) → eqb c.start 0 ≡ x → (y : Bool) → eqb c.«end» 0 ≡ y → (z : Bool) → ltb (length (fields c.columns r)) c.columns ≡ z
-        → (X : Time) → time_in 0 (field_at c.start (fields c.columns r)) ≡ X → (Y : Time) → time_in 0 (field_at c.«end» (fields c.columns r)) ≡ Y
+        → (X : Option Stamp) → time_in 0 (field_at c.start (fields c.columns r)) ≡ X → (Y : Option Stamp) → time_in 0 (field_at c.«end» (fields c.columns r)) ≡ Y
         → Back c n
         (cond x (says c (passes unplaced (suc n) l))
         (cond y (says c (passes unplaced (suc n) l))
@@ -269,14 +269,14 @@ caption_back c n l w r word ev et =
     go true a y b z d X e Y f = tt
     go false a true b z d X e Y f = tt
     go false a false b true d X e Y f = tt
-    go false a false b false d Bad e Y f = tt
-    go false a false b false d (At S i) e Bad f = tt
-    go false a false b false d (At S i) e (At E j) f =
-        let ei : 46 ≡ i = sym (time_mark_lem 0 S i (field_at c.start (fields c.columns r)) e) in
-        let ej : 46 ≡ j = sym (time_mark_lem 0 E j (field_at c.«end» (fields c.columns r)) f) in
-        subst (λ (k : ℕ). Back c n (says c (cue (line_cue c (suc n) w (fields c.columns r) (terminator_of l) S k E j)))) ei
-        (subst (λ (k : ℕ). Back c n (says c (cue (line_cue c (suc n) w (fields c.columns r) (terminator_of l) S 46 E k)))) ej
-        (λ apart s u. written_back c n l w r word ev et (eqb-false c.start 0 a) (eqb-false c.«end» 0 b) (ltb-false (length (fields c.columns r)) c.columns d) S i E j e f (λ k. eqb-false c.start 0 a (apart k)) s u))
+    go false a false b false d None e Y f = tt
+    go false a false b false d (Some S) e None f = tt
+    go false a false b false d (Some S) e (Some E) f =
+        let ei : 46 ≡ S.mark = sym (time_mark_lem 0 S.units S.mark (field_at c.start (fields c.columns r)) e) in
+        let ej : 46 ≡ E.mark = sym (time_mark_lem 0 E.units E.mark (field_at c.«end» (fields c.columns r)) f) in
+        subst (λ (k : ℕ). Back c n (says c (cue (line_cue c (suc n) w (fields c.columns r) (terminator_of l) S.units k E.units E.mark)))) ei
+        (subst (λ (k : ℕ). Back c n (says c (cue (line_cue c (suc n) w (fields c.columns r) (terminator_of l) S.units 46 E.units k)))) ej
+        (λ apart s u. written_back c n l w r word ev et (eqb-false c.start 0 a) (eqb-false c.«end» 0 b) (ltb-false (length (fields c.columns r)) c.columns d) S.units S.mark E.units E.mark e f (λ k. eqb-false c.start 0 a (apart k)) s u))
 
 word_back : (c : Columns) (n : ℕ) (l t : List ℕ) → c.events ≡ true → text_of l ≡ t → Back c n (word_says c n l t)
 unfolding word_says

@@ -13,8 +13,7 @@ use Rattle.spec_text.specs.utf8.Utf8.{tail}
 use Rattle.spec_text.specs.pattern.Find.{starts, first}
 use Rattle.spec_text.proofs.pattern.Free.{Free, first_free}
 use Rattle.spec_time.specs.caption_time.Kind.{kind_bad, units_of, mark_of}
-use Rattle.spec_time.specs.declared.caption_stamp.Time.TheVariants.{At}
-use Rattle.spec_time.specs.caption_stamp.Read.{mark_in, time_in}
+use Rattle.spec_time.specs.caption_stamp.Read.{stamp, mark_in, time_in}
 use Rattle.spec_time.specs.caption_stamp.Write.{time_text}
 use Rattle.spec_time.proofs.caption_stamp.Written.{srt_12}
 use Rattle.spec_time.proofs.caption_stamp.Reading.{time_mark_lem, time_marks}
@@ -27,9 +26,9 @@ srt_known : kind_bad 1 ≡ false
 unfolding kind_bad
 srt_known = refl
 
-text_back : (k : ℕ) → TimeMark k → (n : ℕ) → n < 36000000 * units_of 1 → time_in 1 (time_text 1 k n) ≡ At n k
-text_back k (inl e) n h = subst (λ (m : ℕ). time_in 1 (time_text 1 m n) ≡ At n m) (sym e) (comma_back n h)
-text_back k (inr e) n h = subst (λ (m : ℕ). time_in 1 (time_text 1 m n) ≡ At n m) (sym e) (point_back n h)
+text_back : (k : ℕ) → TimeMark k → (n : ℕ) → n < 36000000 * units_of 1 → time_in 1 (time_text 1 k n) ≡ stamp n k
+text_back k (inl e) n h = subst (λ (m : ℕ). time_in 1 (time_text 1 m n) ≡ stamp n m) (sym e) (comma_back n h)
+text_back k (inr e) n h = subst (λ (m : ℕ). time_in 1 (time_text 1 m n) ≡ stamp n m) (sym e) (point_back n h)
 
 text_12 : (k n : ℕ) → n < 360000 * units_of 1 → length (time_text 1 k n) ≡ 12
 unfolding units_of
@@ -113,7 +112,7 @@ vtt_ends : (k : ℕ) → Point k → (n : ℕ) (r : List ℕ) → end_in 2 (time
 unfolding end_in
 vtt_ends k m n r = stops (time_text 2 k n) (drop (vtt_end r) r) (plain_text 2 vtt_known k (inr m) n) (trailing_first r)
 
-vtt_point : (n k : ℕ) (text : List ℕ) → time_in 2 text ≡ At n k → Point k
+vtt_point : (n k : ℕ) (text : List ℕ) → time_in 2 text ≡ stamp n k → Point k
 unfolding mark_in mark_of
 vtt_point n k text e = time_mark_lem 2 n k text e
 
@@ -124,7 +123,7 @@ vtt_blocked =
       good = vtt_known;
       either = λ k m. inr m;
       seen = λ n k text e. vtt_point n k text e;
-      back = λ k m n h. subst (λ (j : ℕ). time_in 2 (time_text 2 j n) ≡ At n j) (sym m) (vtt_back n h);
+      back = λ k m n h. subst (λ (j : ℕ). time_in 2 (time_text 2 j n) ≡ stamp n j) (sym m) (vtt_back n h);
       most_low = omega arith;
       ends = λ k m n h r. vtt_ends k m n r;
     }

@@ -7,15 +7,15 @@ use native.Mathlib.Omega.{arith}
 use borrow.Author.Tests.{eqb-true, ltb-true}
 use lib.Dec.{eqb, ltb}
 use lib.ListN.{length, take, drop, take-append-drop}
+use Rattle.std.specs.Prelude.{Option, Some, None}
 use Rattle.spec_text.specs.whitespace.White.{trim_head, trim}
 use Rattle.spec_text.specs.pattern.Find.{starts, equals, first, contains, up_to, past}
 use Rattle.spec_text.specs.pattern.Piece.{comma}
 use Rattle.spec_text.proofs.pattern.PieceLaws.{joined, starts_cut}
 use Rattle.spec_text.specs.text.Line.{lines_of, concat, line_count, text_of, terminator_of}
 use Rattle.spec_text.proofs.text.LineLaws.{text_terminator, lines_joined}
-use Rattle.spec_time.specs.declared.caption_stamp.Time.{Time}
-use Rattle.spec_time.specs.declared.caption_stamp.Time.TheVariants.{At, Bad}
-use Rattle.spec_time.specs.caption_stamp.Read.{time_in}
+use Rattle.spec_time.specs.declared.caption_stamp.Stamp.{Stamp}
+use Rattle.spec_time.specs.caption_stamp.Read.{stamp, time_in}
 use Rattle.spec_time.proofs.caption_stamp.Reading.{time_long}
 use Rattle.spec_caption.specs.caption_fate.Says.{Piece, bytes, start, stop, unplaced, short, Cue, stays, passes, cue}
 use Rattle.spec_caption.specs.caption_fate.Emit.{render}
@@ -139,7 +139,7 @@ unfolding fields field_at
 no_field zero s = refl
 no_field (suc k) s = refl
 
-some_columns : (n k S i : ℕ) (r : List ℕ) → time_in 0 (field_at k (fields n r)) ≡ At S i → 0 < n
+some_columns : (n k S i : ℕ) (r : List ℕ) → time_in 0 (field_at k (fields n r)) ≡ stamp S i → 0 < n
 some_columns zero k S i r p = absurd (let z : length (field_at k (fields 0 r)) ≡ 0 = ap length (no_field k r) in omega (arith, time_long 0 S i (field_at k (fields 0 r)) p))
 some_columns (suc n) k S i r p = omega arith
 
@@ -149,7 +149,7 @@ caption_stood c n l w r e =
     go (eqb c.start 0) (eqb c.«end» 0) (ltb (length (fields c.columns r)) c.columns)
     (time_in 0 (field_at c.start (fields c.columns r))) refl (time_in 0 (field_at c.«end» (fields c.columns r))) refl
   where
-    go : (x y z : Bool) → (X : Time) → time_in 0 (field_at c.start (fields c.columns r)) ≡ X → (Y : Time) → time_in 0 (field_at c.«end» (fields c.columns r)) ≡ Y
+    go : (x y z : Bool) → (X : Option Stamp) → time_in 0 (field_at c.start (fields c.columns r)) ≡ X → (Y : Option Stamp) → time_in 0 (field_at c.«end» (fields c.columns r)) ≡ Y
         → Stood l
         (cond x (says c (passes unplaced n l))
         (cond y (says c (passes unplaced n l))
@@ -158,10 +158,10 @@ caption_stood c n l w r e =
     go true y z X p Y q = tt
     go false true z X p Y q = tt
     go false false true X p Y q = tt
-    go false false false Bad p Y q = tt
-    go false false false (At S i) p Bad q = tt
-    go false false false (At S i) p (At E j) q =
-        record { start_text = field_at c.start (fields c.columns r); stop_text = field_at c.«end» (fields c.columns r); start_read = p; stop_read = q; stands = line_frame_lem c l w r e (some_columns c.columns c.start S i r p) }
+    go false false false None p Y q = tt
+    go false false false (Some S) p None q = tt
+    go false false false (Some S) p (Some E) q =
+        record { start_text = field_at c.start (fields c.columns r); stop_text = field_at c.«end» (fields c.columns r); start_read = p; stop_read = q; stands = line_frame_lem c l w r e (some_columns c.columns c.start S.units S.mark r p) }
 
 word_stood : (c : Columns) (n : ℕ) (l t : List ℕ) → text_of l ≡ t → Stood l (word_says c n l t)
 unfolding word_says
@@ -243,11 +243,11 @@ module _ (kind : ℕ) (s : List ℕ) (n : ℕ) (b l a : List ℕ) (whole : s ≡
   unfolding timing_line_says T
   timing_line_lem = go (time_in kind (up_to arrow T)) refl (time_in kind (end_text (style_of kind) T)) refl
     where
-      go : (X : Time) → time_in kind (up_to arrow T) ≡ X → (Y : Time) → time_in kind (end_text (style_of kind) T) ≡ Y
+      go : (X : Option Stamp) → time_in kind (up_to arrow T) ≡ X → (Y : Option Stamp) → time_in kind (end_text (style_of kind) T) ≡ Y
           → StoodIn kind s (both_say n (stamps_in kind a) (block_frame b (trailing (style_of kind) T) (terminator_of l) a) X Y)
-      go Bad p Y q = tt
-      go (At S i) p Bad q = tt
-      go (At S i) p (At E j) q =
+      go None p Y q = tt
+      go (Some S) p None q = tt
+      go (Some S) p (Some E) q =
           record {
             before = b;
             space = space;

@@ -8,6 +8,7 @@ use native.Mathlib.Omega.{arith}
 use lib.Dec.{eqb}
 use lib.Seq.{drop-drop}
 use lib.ListN.{length, drop, get_or, length-append}
+use Rattle.std.specs.Prelude.{Option, Some, None}
 use Rattle.spec_base.specs.base.Width.{by_width}
 use Rattle.spec_text.specs.pattern.Find.{first, contains, up_to, past}
 use Rattle.spec_text.specs.whitespace.White.{white_head, head_from, trim_head}
@@ -15,8 +16,7 @@ use Rattle.spec_text.specs.pattern.Piece.{onto_first}
 use Rattle.spec_text.specs.text.Line.{lines_of, concat, line_count, text_of, terminator_of, ends_line, has_lf}
 use Rattle.spec_text.proofs.text.LineLaws.{text_terminator, line_then_lem, line_last}
 use Rattle.spec_text.proofs.text.LineEnds.{last_of, last_append, last_drop, Ended, ended_swap, text_again, terminator_again, line_ended}
-use Rattle.spec_time.specs.declared.caption_stamp.Time.{Time}
-use Rattle.spec_time.specs.declared.caption_stamp.Time.TheVariants.{At, Bad}
+use Rattle.spec_time.specs.declared.caption_stamp.Stamp.{Stamp}
 use Rattle.spec_time.specs.caption_time.Kind.{units_of}
 use Rattle.spec_time.specs.caption_stamp.Read.{time_in}
 use Rattle.spec_time.specs.caption_stamp.Write.{time_text}
@@ -245,12 +245,12 @@ module _ (kind : ℕ) (Mark : ℕ → Type 0) (most : ℕ) (K : Blocked kind Mar
   unfolding timing_line_says
   line_again = go (time_in kind (up_to arrow (text_of l))) (time_in kind (end_text (style_of kind) (text_of l))) refl refl
     where
-      go : (X Y : Time) → time_in kind (up_to arrow (text_of l)) ≡ X → time_in kind (end_text (style_of kind) (text_of l)) ≡ Y
+      go : (X Y : Option Stamp) → time_in kind (up_to arrow (text_of l)) ≡ X → time_in kind (end_text (style_of kind) (text_of l)) ≡ Y
           → Back kind most first (both_say (first + line_count b) (stamps_in kind (concat a)) (block_frame (concat b) (trailing (style_of kind) (text_of l)) (terminator_of l) (concat a)) X Y)
-      go Bad Y p q = tt
-      go (At S i) Bad p q = tt
-      go (At S i) (At E j) p q =
-          written_back i j (K.seen S i (up_to arrow (text_of l)) p) (K.seen E j (end_text (style_of kind) (text_of l)) q)
+      go None Y p q = tt
+      go (Some S) None p q = tt
+      go (Some S) (Some E) p q =
+          written_back S.mark E.mark (K.seen S.units S.mark (up_to arrow (text_of l)) p) (K.seen E.units E.mark (end_text (style_of kind) (text_of l)) q)
 
 module _ (kind : ℕ) (Mark : ℕ → Type 0) (most : ℕ) (K : Blocked kind Mark most) where
   timing_back : (first : ℕ) (ls : List (List ℕ)) (t : Timing) → Cut ls → Swaps ls t → Back kind most first (timing_says (style_of kind) first ls t)

@@ -8,16 +8,16 @@ use native.Mathlib.Omega.{arith}
 use borrow.Author.Tests.{lt-ltb, le-ltb, lt-leb, ne_eqb}
 use lib.Seq.{take_at, drop_at}
 use lib.ListN.{length, take, drop, length-append}
+use Rattle.std.specs.Prelude.{Option}
 use Rattle.spec_text.specs.pattern.Find.{starts, first, contains, up_to, past}
 use Rattle.spec_text.specs.whitespace.White.{white, white_high, trim_head, trim_tail, trim}
 use Rattle.spec_text.specs.text.Line.{text_of, terminator_of, has_lf}
 use Rattle.spec_text.specs.unicode.Encode.{Scalar}
 use Rattle.spec_text.proofs.unicode.Encoding.{head_white, head_other}
 use Rattle.spec_text.proofs.unicode.Trailing.{enc_1, tail_white}
-use Rattle.spec_time.specs.declared.caption_stamp.Time.{Time}
-use Rattle.spec_time.specs.declared.caption_stamp.Time.TheVariants.{At}
+use Rattle.spec_time.specs.declared.caption_stamp.Stamp.{Stamp}
 use Rattle.spec_time.specs.caption_time.Kind.{kind_bad, units_of, fraction_digits, hour_digits}
-use Rattle.spec_time.specs.caption_stamp.Read.{time_in}
+use Rattle.spec_time.specs.caption_stamp.Read.{stamp, time_in}
 use Rattle.spec_time.specs.caption_stamp.Write.{pad, widest, text_with, time_text}
 use Rattle.spec_time.proofs.caption_stamp.Written.{text_some, text_10}
 use Rattle.spec_caption.specs.caption_fate.Says.{cue}
@@ -69,8 +69,8 @@ plain_text kind g k hk units = subst Plain (sym (text_some kind k units g)) (pla
 pub record Blocked (kind : ℕ) (Mark : ℕ → Type 0) (most : ℕ) : Type 0 where
   pub good : kind_bad kind ≡ false
   pub either : (k : ℕ) → Mark k → TimeMark k
-  pub seen : (n k : ℕ) (text : List ℕ) → time_in kind text ≡ At n k → Mark k
-  pub back : (k : ℕ) → Mark k → (n : ℕ) → n < 36000000 * units_of kind → time_in kind (time_text kind k n) ≡ At n k
+  pub seen : (n k : ℕ) (text : List ℕ) → time_in kind text ≡ stamp n k → Mark k
+  pub back : (k : ℕ) → Mark k → (n : ℕ) → n < 36000000 * units_of kind → time_in kind (time_text kind k n) ≡ stamp n k
   pub most_low : most ≤ 36000000 * units_of kind
   pub ends : (k : ℕ) → Mark k → (n : ℕ) → n < most → (r : List ℕ) → end_in kind (time_text kind k n ++ drop (end_in kind r) r) ≡ length (time_text kind k n)
 
@@ -161,7 +161,7 @@ module _ (kind : ℕ) (Mark : ℕ → Type 0) (most : ℕ) (K : Blocked kind Mar
   after_back = ap trim_head past_back ∙ head_space (time_text kind j e ++ t) ∙ head_plain (time_text kind j e) t stop_plain (omega (arith, text_10 kind j e K.good))
 
   -- the start
-  pub start_back : s < 36000000 * units_of kind → time_in kind (up_to arrow (line_text kind i j s e t)) ≡ At s i
+  pub start_back : s < 36000000 * units_of kind → time_in kind (up_to arrow (line_text kind i j s e t)) ≡ stamp s i
   start_back h =
       ap (time_in kind) up_back ∙ same_trim kind (time_text kind i s ++ 32 ∷ []) (time_text kind i s) (trim_space (time_text kind i s) start_plain (omega (arith, text_10 kind i s K.good))) ∙ K.back i hi s h
 
@@ -170,7 +170,7 @@ module _ (kind : ℕ) (Mark : ℕ → Type 0) (most : ℕ) (K : Blocked kind Mar
     end_back = rw (after_back, ends) (take_at (time_text kind j e) t _ refl)
 
     -- the end, and what is trailing
-    pub stop_back : time_in kind (end_text (style_of kind) (line_text kind i j s e t)) ≡ At e j
+    pub stop_back : time_in kind (end_text (style_of kind) (line_text kind i j s e t)) ≡ stamp e j
     stop_back = ap (time_in kind) end_back ∙ K.back j hj e (omega (arith, K.most_low))
 
     pub trailing_back : trailing (style_of kind) (line_text kind i j s e t) ≡ t
@@ -184,8 +184,8 @@ module _ (kind : ℕ) (Mark : ℕ → Type 0) (most : ℕ) (K : Blocked kind Mar
         ap (λ (y : List ℕ). both_say n (stamps_in kind a) (block_frame b (trailing (style_of kind) y) (terminator_of l) a) (time_in kind (up_to arrow y)) (time_in kind (end_text (style_of kind) y))) et ∙
         ap (λ (y : List ℕ). both_say n (stamps_in kind a) (block_frame b (trailing (style_of kind) (line_text kind i j s e t)) y a) (time_in kind (up_to arrow (line_text kind i j s e t))) (time_in kind (end_text (style_of kind) (line_text kind i j s e t)))) ex ∙
         ap (λ (y : List ℕ). both_say n (stamps_in kind a) (block_frame b y x a) (time_in kind (up_to arrow (line_text kind i j s e t))) (time_in kind (end_text (style_of kind) (line_text kind i j s e t)))) trailing_back ∙
-        ap (λ (y : Time). both_say n (stamps_in kind a) (block_frame b t x a) y (time_in kind (end_text (style_of kind) (line_text kind i j s e t)))) (start_back hs) ∙
-        ap (λ (y : Time). both_say n (stamps_in kind a) (block_frame b t x a) (At s i) y) stop_back
+        ap (λ (y : Option Stamp). both_say n (stamps_in kind a) (block_frame b t x a) y (time_in kind (end_text (style_of kind) (line_text kind i j s e t)))) (start_back hs) ∙
+        ap (λ (y : Option Stamp). both_say n (stamps_in kind a) (block_frame b t x a) (stamp s i) y) stop_back
 
 -- no LF stands in a plain text
 pub lf_plain : (xs : List ℕ) → Plain xs → has_lf xs ≡ false

@@ -10,11 +10,11 @@ use borrow.Author.Tests.{eq-eqb, ne_eqb, le-leb, lt-leb, eqb-true, eqb-false, no
 use lib.Dec.{eqb, leb}
 use lib.ListN.{length, drop, get_or, length-drop, drop_of_length-le}
 use lib.Seq.{drop-cons}
+use Rattle.std.specs.Prelude.{Some, None}
 use Rattle.spec_base.proofs.base.Laws.{yes!, no!, and_left, and_right}
 use Rattle.spec_text.specs.text.Number.{digit, digits, value_from}
 use Rattle.spec_text.specs.text.Line.{is_empty}
 use Rattle.spec_text.proofs.text.Laws.{digit_low, digit_high, digit_some, digits_other, digits_end, value_step, value_end, value_more}
-use Rattle.spec_json.specs.declared.json.Plain.TheVariants.{Value, Bad}
 use Rattle.spec_json.specs.json.Space.{more}
 use Rattle.spec_json.specs.json.Num.{digit_run, int_width, minus_width, frac_width, is_exp, sign_width, signed, exp_width, tail_width, number_width, is_plain}
 use Rattle.spec_json.specs.json.Plain.{leads_zero, plain_of, plain_number, plain_values}
@@ -221,11 +221,11 @@ number_le s = go (int_width (drop (minus_width s) s)) refl
     go (suc k) q = subst (λ (w : ℕ). w ≤ length s) (number_some s a t (minus_width s) n (tail_width t) refl refl refl refl refl (λ z. omega arith)) (number_part s a t (minus_width s) n (tail_width t) refl refl refl refl refl)
 
 -- ---- a known field
-plain_no : (most : ℕ) (s : List ℕ) → is_plain most s ≡ false → Bad ≡ plain_of most s
+plain_no : (most : ℕ) (s : List ℕ) → is_plain most s ≡ false → None ≡ plain_of most s
 unfolding plain_of
 plain_no most s e = no! _ e refl
 
-pub plain_none : (most : ℕ) (s : List ℕ) → length s ≡ 0 → Bad ≡ plain_of most s
+pub plain_none : (most : ℕ) (s : List ℕ) → length s ≡ 0 → None ≡ plain_of most s
 unfolding is_plain
 plain_none most [] e = plain_no most [] refl
 plain_none most (b ∷ s) e = absurd (omega arith)
@@ -244,7 +244,7 @@ unfolding is_plain
 lead_by most b [] e h = absurd (h refl)
 lead_by most b (c ∷ s) e h = and_no (digits (b ∷ c ∷ s)) (cond (eqb b 0x30) false true) (leb (value_from 0 (b ∷ c ∷ s)) most) (sym (yes! _ (eq-eqb b 0x30 e) refl))
 
-pub plain_lead : (most : ℕ) (s : List ℕ) (f : Bool) → (length s ≡ 0 → ⊥) → f ≡ leads_zero s → f ≡ true → Bad ≡ plain_of most s
+pub plain_lead : (most : ℕ) (s : List ℕ) (f : Bool) → (length s ≡ 0 → ⊥) → f ≡ leads_zero s → f ≡ true → None ≡ plain_of most s
 unfolding leads_zero
 plain_lead most [] f l e h = absurd (l refl)
 plain_lead most (b ∷ s) f l e h =
@@ -269,22 +269,22 @@ unfolding is_plain
 large_by most [] e = refl
 large_by most (b ∷ s) e = and_last (digits (b ∷ s)) (cond (eqb b 0x30) (is_empty s) true) (leb (value_from 0 (b ∷ s)) most) (lt-leb _ _ e)
 
-pub plain_low : (most : ℕ) (s : List ℕ) (i : ℕ) → digits s ≡ digits (drop i s) → i < length s → get_or s i 0 < 0x30 → Bad ≡ plain_of most s
+pub plain_low : (most : ℕ) (s : List ℕ) (i : ℕ) → digits s ≡ digits (drop i s) → i < length s → get_or s i 0 < 0x30 → None ≡ plain_of most s
 plain_low most s i inv l e = plain_no most s (other_by most s (inv ∙ digits_other s i l (digit_low _ e)))
 
-pub plain_high : (most : ℕ) (s : List ℕ) (i : ℕ) → digits s ≡ digits (drop i s) → i < length s → 0x39 < get_or s i 0 → Bad ≡ plain_of most s
+pub plain_high : (most : ℕ) (s : List ℕ) (i : ℕ) → digits s ≡ digits (drop i s) → i < length s → 0x39 < get_or s i 0 → None ≡ plain_of most s
 plain_high most s i inv l e = plain_no most s (other_by most s (inv ∙ digits_other s i l (digit_high _ e)))
 
-plain_large : (most : ℕ) (s : List ℕ) (i v : ℕ) → value_from 0 s ≡ value_from v (drop i s) → i < length s → most < v * 10 + (get_or s i 0 - 0x30) → Bad ≡ plain_of most s
+plain_large : (most : ℕ) (s : List ℕ) (i v : ℕ) → value_from 0 s ≡ value_from v (drop i s) → i < length s → most < v * 10 + (get_or s i 0 - 0x30) → None ≡ plain_of most s
 plain_large most s i v inv l h =
     plain_no most s
     (large_by most s
     (subst (λ (n : ℕ). most < n) (sym (inv ∙ value_step s i v l)) (le_trans h (value_more (drop (suc i) s) (v * 10 + (get_or s i 0 - 0x30))))))
 
-pub plain_small : (most : ℕ) (s : List ℕ) (i v : ℕ) → value_from 0 s ≡ value_from v (drop i s) → i < length s → most < get_or s i 0 - 0x30 → Bad ≡ plain_of most s
+pub plain_small : (most : ℕ) (s : List ℕ) (i v : ℕ) → value_from 0 s ≡ value_from v (drop i s) → i < length s → most < get_or s i 0 - 0x30 → None ≡ plain_of most s
 plain_small most s i v inv l h = plain_large most s i v inv l (omega arith)
 
-pub plain_over : (most : ℕ) (s : List ℕ) (i v : ℕ) → value_from 0 s ≡ value_from v (drop i s) → i < length s → get_or s i 0 - 0x30 ≤ most → (most - (get_or s i 0 - 0x30)) / 10 < v → Bad ≡ plain_of most s
+pub plain_over : (most : ℕ) (s : List ℕ) (i v : ℕ) → value_from 0 s ≡ value_from v (drop i s) → i < length s → get_or s i 0 - 0x30 ≤ most → (most - (get_or s i 0 - 0x30)) / 10 < v → None ≡ plain_of most s
 plain_over most s i v inv l k h = plain_large most s i v inv l (omega arith)
 
 value_by : (most v : ℕ) (s : List ℕ) → (length s ≡ 0 → ⊥) → (get_or s 0 0 ≡ 0x30 → length s ≡ 1) → digits s ≡ true → value_from 0 s ≡ v → v ≤ most → is_plain most s ≡ true
@@ -298,18 +298,18 @@ value_by most v (b ∷ s) l z d e h =
     go true q (c ∷ s) z = absurd (let w = z (eqb-true b 0x30 q) in omega arith)
     go false q s z = refl
 
-pub plain_value : (most : ℕ) (s : List ℕ) (i v : ℕ) (f : Bool) → (length s ≡ 0 → ⊥) → f ≡ leads_zero s → f ≡ false → digits s ≡ digits (drop i s) → value_from 0 s ≡ value_from v (drop i s) → v ≤ most → length s ≤ i → Value v ≡ plain_of most s
+pub plain_value : (most : ℕ) (s : List ℕ) (i v : ℕ) (f : Bool) → (length s ≡ 0 → ⊥) → f ≡ leads_zero s → f ≡ false → digits s ≡ digits (drop i s) → value_from 0 s ≡ value_from v (drop i s) → v ≤ most → length s ≤ i → Some v ≡ plain_of most s
 unfolding plain_of
 plain_value most s i v f l z w d e h k =
     let q : value_from 0 s ≡ v = e ∙ value_end s i v k in
-    yes! _ (value_by most v s l (zero_alone s f z w) (d ∙ digits_end s i k) q h) (ap Value (sym q))
+    yes! _ (value_by most v s l (zero_alone s f z w) (d ∙ digits_end s i k) q h) (ap Some (sym q))
 
 -- the number and the values of what a field's text says
 pub plain_number_lem : (most : ℕ) (s : List ℕ) → plain_number (plain_of most s) ≡ cond (is_plain most s) 0 23
 unfolding plain_of
 plain_number_lem most s = go (is_plain most s)
   where
-    go : (t : Bool) → plain_number (cond t (Value (value_from 0 s)) Bad) ≡ cond t 0 23
+    go : (t : Bool) → plain_number (cond t (Some (value_from 0 s)) None) ≡ cond t 0 23
     go true = refl
     go false = refl
 
@@ -317,6 +317,6 @@ pub plain_values_lem : (most : ℕ) (s : List ℕ) → plain_values (plain_of mo
 unfolding plain_of
 plain_values_lem most s = go (is_plain most s)
   where
-    go : (t : Bool) → plain_values (cond t (Value (value_from 0 s)) Bad) ≡ cond t (value_from 0 s ∷ []) []
+    go : (t : Bool) → plain_values (cond t (Some (value_from 0 s)) None) ≡ cond t (value_from 0 s ∷ []) []
     go true = refl
     go false = refl

@@ -7,6 +7,7 @@ use native.Mathlib.Omega.{arith}
 use lib.Dec.{eqb, ltb}
 use lib.ListN.{length, drop, length-drop, length-take, length-map}
 use borrow.Author.Tests.{le-ltb, ltb-false}
+use Rattle.std.specs.Prelude.{Option, Some, None}
 use Rattle.spec_base.specs.base.Limits.{most_line, most_columns}
 use Rattle.spec_base.proofs.base.Laws.{or_left, or_right}
 use Rattle.spec_text.specs.whitespace.White.{trim}
@@ -14,9 +15,8 @@ use Rattle.spec_text.specs.pattern.Find.{starts, equals}
 use Rattle.spec_text.specs.pattern.Piece.{pieces_from, pieces, comma}
 use Rattle.spec_text.specs.pattern.Piece.{onto_first}
 use Rattle.spec_text.specs.text.Line.{terminator_length, text_of, terminator_of}
+use Rattle.spec_time.specs.declared.caption_stamp.Stamp.{Stamp}
 use Rattle.spec_time.specs.caption_stamp.Read.{time_in}
-use Rattle.spec_time.specs.declared.caption_stamp.Time.{Time}
-use Rattle.spec_time.specs.declared.caption_stamp.Time.TheVariants.{At, Bad}
 use Rattle.spec_ass.specs.declared.ass_columns.Columns.{Columns}
 use Rattle.spec_ass.specs.ass_columns.Columns.{start_name, end_name, names_in, further, place_in, columns_in, fields, field_at}
 use Rattle.spec_ass.specs.ass_line.Line.{format_word, dialogue_word, comment_word, times_say, caption_says, word_says, text_says, line_says, LineSays, faulty, says}
@@ -111,10 +111,10 @@ either P true x y a b = a
 either P false x y a b = b
 
 module _ (P : Columns → Type 0) (c : Columns) (h : P c) where
-  times_after : (n : ℕ) (word : List ℕ) (fs : List (List ℕ)) (e : List ℕ) (X Y : Time) → After P (times_say c n word fs e X Y)
-  times_after n word fs e Bad Y = tt
-  times_after n word fs e (At S a) Bad = tt
-  times_after n word fs e (At S a) (At E b) = h
+  times_after : (n : ℕ) (word : List ℕ) (fs : List (List ℕ)) (e : List ℕ) (X Y : Option Stamp) → After P (times_say c n word fs e X Y)
+  times_after n word fs e None Y = tt
+  times_after n word fs e (Some S) None = tt
+  times_after n word fs e (Some S) (Some E) = h
 
   caption_after : (n : ℕ) (l word rest : List ℕ) → After P (caption_says c n l word rest)
   unfolding caption_says

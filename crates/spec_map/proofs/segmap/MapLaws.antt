@@ -6,6 +6,7 @@ use Prim.Native.Nat.{ℕ, zero, suc, ◌*◌, ◌≤◌, ◌<◌}
 use native.Mathlib.Omega.{arith}
 use borrow.Author.Tests.{le-leb, lt-leb, eq-eqb, ne_eqb}
 use lib.Dec.{eqb}
+use Rattle.std.specs.Prelude.{Result, Ok, Err}
 use Rattle.spec_text.specs.text.Line.{blank}
 use lib.ListN.{length, take, set}
 use Rattle.spec_base.specs.base.Limits.{most_frames, most_ticks, most_places, most_segments}
@@ -17,8 +18,6 @@ use Rattle.spec_base.proofs.base.RefusalLaws.{else_here, else_next}
 use Rattle.spec_sheet.specs.sheet_frames.Frames.{frames_of, timescale_of, ticks_from}
 use Rattle.spec_sheet.specs.sheet.Sheet.{sheet_fault, sheet_number, work_after, sheet_of}
 use Rattle.spec_sheet.specs.declared.sheet.Head.{Head}
-use Rattle.spec_sheet.specs.declared.sheet.Sheet.{Sheet}
-use Rattle.spec_sheet.specs.declared.sheet.Sheet.TheVariants.{Sound, Refused}
 use Rattle.spec_sheet.proofs.sheet.SheetLaws.{sound_head, checked, sound_answer, refused_answer}
 use Rattle.spec_trim.specs.trim.TrimList.{ranges_in, list_number, ranges_of, range_count, parsed, list_answer, parse_of, range_places}
 use Rattle.spec_trim.specs.declared.trim.Parsed.{Parsed}
@@ -103,21 +102,21 @@ module _ (s list : List ℕ) (d lent : ℕ) (w : List ℕ) where
     past_arguments = rw (le-leb (6 * most_segments) lent room, le-leb d 1 dir)
 
     -- ---- the sheet: a is the answer of its check
-    number_sheet : (a : Sheet) (k : ℕ) → a ≡ sheet_of s (length w) → a ≡ Refused k → k ≡ map_number s list d lent (length w)
+    number_sheet : (a : Result Head ℕ) (k : ℕ) → a ≡ sheet_of s (length w) → a ≡ Err k → k ≡ map_number s list d lent (length w)
     number_sheet a k e f =
         let p = refused_answer s (length w) k a e f in
         else_here _ _ k p.0 p.1 ∙ sym past_arguments
 
-    pub sheet_made : (a : Sheet) (k : ℕ) (r : Made) → a ≡ sheet_of s (length w) → a ≡ Refused k → r ≡ made k 0 0 → r ≡ made_of (map_of s list d lent (length w))
+    pub sheet_made : (a : Result Head ℕ) (k : ℕ) (r : Made) → a ≡ sheet_of s (length w) → a ≡ Err k → r ≡ made k 0 0 → r ≡ made_of (map_of s list d lent (length w))
     unfolding map_of
     sheet_made a k r e f q = refused_made _ _ _ k (number_sheet a k e f) (refused_answer s (length w) k a e f).1 r q
 
-    pub sheet_map : (a : Sheet) (k : ℕ) (m : List ℕ) → a ≡ sheet_of s (length w) → a ≡ Refused k → m ≡ put (flat_of (map_of s list d lent (length w)).segments) m
+    pub sheet_map : (a : Result Head ℕ) (k : ℕ) (m : List ℕ) → a ≡ sheet_of s (length w) → a ≡ Err k → m ≡ put (flat_of (map_of s list d lent (length w)).segments) m
     unfolding map_of
     sheet_map a k m e f = refused_map _ _ _ k (number_sheet a k e f) (refused_answer s (length w) k a e f).1 m
 
     -- the sheet is sound: the call's map is that of its list
-    module _ (a : Sheet) (h : Head) (e : a ≡ sheet_of s (length w)) (f : a ≡ Sound h) where
+    module _ (a : Result Head ℕ) (h : Head) (e : a ≡ sheet_of s (length w)) (f : a ≡ Ok h) where
       cut_is : cut_of s list d ≡ map_of s list d lent (length w)
       unfolding cut_of map_of
       cut_is =
@@ -131,7 +130,7 @@ module _ (s list : List ℕ) (d lent : ℕ) (w : List ℕ) where
       cut_map x y q = q ∙ ap (λ (m : Map). put (flat_of m.segments) x) cut_is
 
 -- what a sound sheet's answer tells
-module _ (s w : List ℕ) (a : Sheet) (h : Head) (e : a ≡ sheet_of s (length w)) (f : a ≡ Sound h) where
+module _ (s w : List ℕ) (a : Result Head ℕ) (h : Head) (e : a ≡ sheet_of s (length w)) (f : a ≡ Ok h) where
   pub sound_fault : sheet_fault s ≡ 0
   sound_fault = (checked s (length w) (sound_answer s (length w) h a e f).number_zero).fault
 

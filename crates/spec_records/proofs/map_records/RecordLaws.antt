@@ -8,13 +8,13 @@ use native.Mathlib.Numerals.{add-one}
 use borrow.Author.Tests.{le-leb, lt-leb}
 use lib.ListN.{length, take, drop, get_or, set}
 use lib.Seq.{drop-cons, drop-length, take-suc, take_all, set_at, length-take-le}
+use Rattle.std.specs.Prelude.{None}
 use Rattle.spec_base.specs.base.Put.{put, put_at, placed}
 use Rattle.spec_base.specs.base.Refusal.{fault_unless}
 use Rattle.spec_base.proofs.base.PutLaws.{then_put, placed_yes, placed_no}
 use Rattle.spec_map.specs.declared.segment.Segment.{Segment}
 use Rattle.spec_map.specs.segment.Segment.{numbers_of, flat_of, segments_of}
 use Rattle.spec_map.proofs.segment.SegmentLaws.{flat_length}
-use Rattle.spec_caption.specs.declared.caption_fate.Hit.TheVariants.{Miss}
 use Rattle.spec_caption.specs.caption_fate.Hit.{meets, find_from, hit_of}
 use Rattle.spec_records.specs.map_records.Records.{recorded, flat_number, no_segment, narrowed, segment_at, hit_at}
 
@@ -29,7 +29,7 @@ pub hit_next : (l : List Segment) (i a b : ℕ) → i < length l → meets (get_
 unfolding find_from
 hit_next l i a b h t = rw (add-one i, drop-cons l i no_segment h, t)
 
-pub record_miss : (l : List Segment) (i a b : ℕ) → length l ≤ i → i ≤ length l → hit_of (find_from i (drop i l) a b) ≡ Miss
+pub record_miss : (l : List Segment) (i a b : ℕ) → length l ≤ i → i ≤ length l → hit_of (find_from i (drop i l) a b) ≡ None
 unfolding find_from
 record_miss l i a b h k = let e : i ≡ length l = omega arith in rw (e, drop-length)
 

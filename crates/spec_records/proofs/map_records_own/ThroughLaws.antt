@@ -6,6 +6,7 @@ use native.Mathlib.Omega.{arith}
 use borrow.Author.Tests.{le-leb}
 use lib.ListN.{length, take, drop}
 use lib.Seq.{take-append_seam}
+use Rattle.std.specs.Prelude.{Option, None}
 use Rattle.spec_base.specs.base.Limits.{most_segments}
 use Rattle.spec_base.specs.base.Put.{put, placed}
 use Rattle.spec_base.proofs.base.PutLaws.{placed_yes}
@@ -16,8 +17,7 @@ use Rattle.spec_map.specs.segmap.Map.{map_number, Map, map_of, map_work, made, m
 use Rattle.spec_map.proofs.segmap.MapLaws.{short_made}
 use Rattle.spec_map.proofs.segmap.Built.{map_count, told_number, told_count, map_refused}
 use Rattle.spec_map.proofs.segment.SegmentLaws.{flat_length}
-use Rattle.spec_caption.specs.declared.caption_fate.Hit.{Hit}
-use Rattle.spec_caption.specs.declared.caption_fate.Hit.TheVariants.{Miss}
+use Rattle.spec_caption.specs.declared.caption_fate.Met.{Met}
 use Rattle.spec_caption.specs.caption_fate.Hit.{find_from, find_hit, hit_of}
 use Rattle.spec_records.specs.declared.map_records_own.Through.{Through}
 use Rattle.spec_records.specs.map_records.Records.{recorded, map_into}
@@ -47,7 +47,7 @@ module _ (s list : List ℕ) (d : ℕ) (wk : List ℕ) (l z : List Segment) (n :
       ∙ ap (take (length m.segments)) (w ∙ ap (λ (x : Map). recorded x.segments l) same)
       ∙ take-append_seam m.segments (drop (length m.segments) l)
 
-  pub through_told : (a b : ℕ) (h : Hit) → h ≡ hit_of (find_hit (take r.count z) a b) → ◌≡◌ {A = Through} (record { made = r; hit = h }) (through_of m a b)
+  pub through_told : (a b : ℕ) (h : Option Met) → h ≡ hit_of (find_hit (take r.count z) a b) → ◌≡◌ {A = Through} (record { made = r; hit = h }) (through_of m a b)
   unfolding through_of
   through_told a b h q =
       let met : h ≡ hit_of (find_hit m.segments a b) = q ∙ ap (λ (xs : List Segment). hit_of (find_hit xs a b)) front in
@@ -67,17 +67,17 @@ module _ (s list : List ℕ) (d : ℕ) (wk : List ℕ) (a b : ℕ) (f : List ℕ
   abbrev lent : Map
   lent = map_of s list d (length f) (length wk)
 
-  short_hit : length f < 6 * most_segments → Miss ≡ hit_of (find_hit lent.segments a b)
+  short_hit : length f < 6 * most_segments → None ≡ hit_of (find_hit lent.segments a b)
   unfolding find_from
   short_hit h =
       let e : 16 ≡ map_number s list d (length f) (length wk) = told_number s list d (length f) (length wk) (made 16 0 0) (short_made s list d (length f) wk (made 16 0 0) h refl) in
       sym (ap (λ (xs : List Segment). hit_of (find_hit xs a b)) (map_refused s list d (length f) (length wk) (omega arith)))
 
-  pub short_through : length f < 6 * most_segments → ◌≡◌ {A = Through} (record { made = made 16 0 0; hit = Miss }) (through_of lent a b)
+  pub short_through : length f < 6 * most_segments → ◌≡◌ {A = Through} (record { made = made 16 0 0; hit = None }) (through_of lent a b)
   unfolding through_of
   short_through h =
       let t : made 16 0 0 ≡ made_of lent = short_made s list d (length f) wk (made 16 0 0) h refl in
-      let m : Miss ≡ hit_of (find_hit lent.segments a b) = short_hit h in
+      let m : None ≡ hit_of (find_hit lent.segments a b) = short_hit h in
       λ i. record { made = t i; hit = m i }
 
   same_lent : 6 * most_segments ≤ length f → map_of s list d 6144 (length wk) ≡ lent

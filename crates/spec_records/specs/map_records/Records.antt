@@ -1,11 +1,10 @@
 -- A lent list of records: what is written to it, and how it stands to flat numbers.
-use Rattle.std.specs.Prelude.{List, [], ◌∷◌, ◌++◌, ℕ, ◌+◌, ◌*◌, ◌%◌, leb, length, drop, get_or}
+use Rattle.std.specs.Prelude.{List, [], ◌∷◌, ◌++◌, ℕ, ◌+◌, ◌*◌, ◌%◌, leb, length, drop, get_or, Option, Some}
 use Rattle.spec_base.specs.base.Refusal.{fault_unless}
 use Rattle.spec_map.specs.declared.segment.Segment.{Segment}
 use Rattle.spec_map.specs.segment.Segment.{source_of, output_start_of, segment}
 use Rattle.spec_map.specs.segmap.Map.{Map, map_of, map_work}
-use Rattle.spec_caption.specs.declared.caption_fate.Hit.{Hit}
-use Rattle.spec_caption.specs.declared.caption_fate.Hit.TheVariants.{At}
+use Rattle.spec_caption.specs.declared.caption_fate.Met.{Met}
 
 -- v in the first records of l, and the rest of l as it was
 unfoldable pub recorded : List Segment → List Segment → List Segment
@@ -42,5 +41,5 @@ abbrev pub segment_at : List ℕ → ℕ → Segment
 segment_at l i = narrow (segment (get_or l i 0) (get_or l (i + 1) 0) (get_or l (i + 2) 0) (get_or l (i + 3) 0) (get_or l (i + 4) 0) (get_or l (i + 5) 0))
 
 -- the answer of a segment that is met
-abbrev pub hit_at : (place : ℕ) → Segment → Hit
-hit_at i x = At record { place = i; source = source_of x; output = output_start_of x; duration = x.duration }
+abbrev pub hit_at : (place : ℕ) → Segment → Option Met
+hit_at i x = Some record { place = i; source = source_of x; output = output_start_of x; duration = x.duration }

@@ -7,11 +7,11 @@ use native.Mathlib.Omega.{arith}
 use borrow.Author.Tests.{ne_eqb}
 use lib.Dec.{eqb, ltb}
 use lib.ListN.{length, drop, length-append}
+use Rattle.std.specs.Prelude.{Option, Some, None}
 use Rattle.spec_text.specs.whitespace.White.{trim}
 use Rattle.spec_text.specs.pattern.Find.{starts, equals}
 use Rattle.spec_text.specs.text.Line.{lines_of, concat, line_count, text_of, terminator_of}
-use Rattle.spec_time.specs.declared.caption_stamp.Time.{Time}
-use Rattle.spec_time.specs.declared.caption_stamp.Time.TheVariants.{At, Bad}
+use Rattle.spec_time.specs.declared.caption_stamp.Stamp.{Stamp}
 use Rattle.spec_time.specs.caption_stamp.Read.{time_in}
 use Rattle.spec_caption.specs.caption_fate.Says.{unplaced, short, reason_number, Part, stays, passes, cue, Fault, long_line, not_utf8, long_block, bad_time, bad_header, fault_number}
 use Rattle.spec_caption.specs.caption_fate.Bom.{behind_bom}
@@ -72,10 +72,10 @@ abbrev SaysOn : (n : ℕ) → (l : List ℕ) → LineSays → Type 0
 SaysOn n l (faulty f) = Unit {0}
 SaysOn n l (says d p) = PartOn n l p
 
-times_on : (c : Columns) (n : ℕ) (l w : List ℕ) (fs : List (List ℕ)) (e : List ℕ) (S E : Time) → SaysOn n l (times_say c n w fs e S E)
-times_on c n l w fs e Bad E = tt
-times_on c n l w fs e (At S a) Bad = tt
-times_on c n l w fs e (At S a) (At E b) = refl
+times_on : (c : Columns) (n : ℕ) (l w : List ℕ) (fs : List (List ℕ)) (e : List ℕ) (S E : Option Stamp) → SaysOn n l (times_say c n w fs e S E)
+times_on c n l w fs e None E = tt
+times_on c n l w fs e (Some S) None = tt
+times_on c n l w fs e (Some S) (Some E) = refl
 
 caption_on : (c : Columns) (n : ℕ) (l w r : List ℕ) → SaysOn n l (caption_says c n l w r)
 unfolding caption_says

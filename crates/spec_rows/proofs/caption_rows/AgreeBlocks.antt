@@ -7,13 +7,12 @@ use native.Mathlib.Omega.{arith}
 use borrow.Author.Tests.{ne_eqb}
 use lib.Dec.{eqb, leb}
 use lib.ListN.{length, length-append}
+use Rattle.std.specs.Prelude.{Option, Some, None}
 use Rattle.spec_base.specs.base.Limits.{most_line, most_block}
 use Rattle.spec_base.specs.base.Refusal.{◌or_else◌, fault_unless}
 use Rattle.spec_text.specs.utf8.Utf8.{utf8}
 use Rattle.spec_text.specs.pattern.Find.{contains, up_to}
 use Rattle.spec_text.specs.text.Line.{lines_of, concat, line_count, text_of, terminator_of}
-use Rattle.spec_time.specs.declared.caption_stamp.Time.{Time}
-use Rattle.spec_time.specs.declared.caption_stamp.Time.TheVariants.{At, Bad}
 use Rattle.spec_caption.specs.caption_fate.Says.{Part, stays, cue, not_utf8, bad_time}
 use Rattle.spec_caption.specs.caption_fate.Bom.{behind_bom}
 use Rattle.spec_cue.specs.block_timing.Style.{style_of, stamps_in, blank_in}
@@ -32,6 +31,7 @@ use Rattle.spec_rows.specs.caption_rows.Said.{words_length, at_fault, quiet, par
 use Rattle.spec_rows.specs.caption_rows.Walk.{Walk, stopped, ◌then◌, block_turn, block_walk}
 use Rattle.spec_rows.specs.caption_rows.Cues.{lines_before, line_at, words_at}
 use Rattle.spec_rows.proofs.caption_rows.AgreeAss.{Agree, agree_fails, agree_part, agree_fault, before_lines}
+use Rattle.spec_time.specs.declared.caption_stamp.Stamp.{Stamp}
 
 -- ---- the timing line parts the block's lines
 abbrev pub TimedIn : List (List ℕ) → Timing → Type 0
@@ -90,15 +90,15 @@ module _ (j : ℕ) (text : List ℕ) where
       abbrev F : ℕ
       F = suc (line_count done)
 
-      both_agree : (b : List (List ℕ)) (l : List ℕ) (a : List (List ℕ)) (z : Bool) (B t y : List ℕ) (X Y : Time) → ks ≡ b ++ (l ∷ a)
+      both_agree : (b : List (List ℕ)) (l : List ℕ) (a : List (List ℕ)) (z : Bool) (B t y : List ℕ) (X Y : Option Stamp) → ks ≡ b ++ (l ∷ a)
           → Agrees (held_said (suc j) F i (length (concat ks)) (timed b l a) (both_say (F + line_count b) z (block_frame B t y (concat a)) X Y) then w)
           (read_line M true (of_block s more (both_say (F + line_count b) z (block_frame B t y (concat a)) X Y)) after)
       unfolding words_length words_at
-      both_agree b l a z B t y Bad Y ek = agree_fault (suc j) text bad_time (F + line_count b) w
-      both_agree b l a z B t y (At S c) Bad ek = agree_fault (suc j) text bad_time (F + line_count b) w
-      both_agree b l a z B t y (At S c) (At E d) ek =
-          agree_part (suc j) text (part_said (suc j) i (length (concat ks)) (cue (block_cue (F + line_count b) S c E d z (block_frame B t y (concat a))))) (cue (block_cue (F + line_count b) S c E d z (block_frame B t y (concat a)))) w (more ⊕ after (with_block [] s)) refl
-          (rw not_ass (ap (λ (k : ℕ). (F + line_count b) ∷ 0 ∷ S ∷ E ∷ k ∷ length (concat a) ∷ []) (words_place b l a ek))) h
+      both_agree b l a z B t y None Y ek = agree_fault (suc j) text bad_time (F + line_count b) w
+      both_agree b l a z B t y (Some S) None ek = agree_fault (suc j) text bad_time (F + line_count b) w
+      both_agree b l a z B t y (Some S) (Some E) ek =
+          agree_part (suc j) text (part_said (suc j) i (length (concat ks)) (cue (block_cue (F + line_count b) S.units S.mark E.units E.mark z (block_frame B t y (concat a))))) (cue (block_cue (F + line_count b) S.units S.mark E.units E.mark z (block_frame B t y (concat a)))) w (more ⊕ after (with_block [] s)) refl
+          (rw not_ass (ap (λ (k : ℕ). (F + line_count b) ∷ 0 ∷ S.units ∷ E.units ∷ k ∷ length (concat a) ∷ []) (words_place b l a ek))) h
 
       held_agree : (t : Timing) → TimedIn ks t
           → Agrees (held_said (suc j) F i (length (concat ks)) t (timing_says (style_of (suc j)) F ks t) then w) (read_line M true (of_block s more (timing_says (style_of (suc j)) F ks t)) after)

@@ -7,13 +7,13 @@ use native.Mathlib.Omega.{arith}
 use borrow.Author.Tests.{le-leb, lt-leb, leb-true, leb-false}
 use lib.Dec.{eqb, leb}
 use lib.ListN.{length, drop, length-append, length-drop}
+use Rattle.std.specs.Prelude.{Option, Some, None}
 use Rattle.spec_base.specs.base.Limits.{most_block}
 use Rattle.spec_text.specs.whitespace.White.{trim}
 use Rattle.spec_text.specs.pattern.Find.{starts, equals, up_to}
 use Rattle.spec_text.specs.text.Line.{lines_of, concat, line_count, text_of, terminator_of}
 use Rattle.spec_text.proofs.text.LineLaws.{lines_joined}
-use Rattle.spec_time.specs.declared.caption_stamp.Time.{Time}
-use Rattle.spec_time.specs.declared.caption_stamp.Time.TheVariants.{At, Bad}
+use Rattle.spec_time.specs.declared.caption_stamp.Stamp.{Stamp}
 use Rattle.spec_time.specs.caption_stamp.Read.{time_in}
 use Rattle.spec_caption.specs.caption_fate.Says.{stays}
 use Rattle.spec_caption.specs.caption_fate.Bom.{starts_bom, behind_bom}
@@ -83,11 +83,11 @@ module _ (kind first i m : ℕ) where
   unfolding timing_line_says
   timed_paid b l a h = go (time_in kind (up_to arrow (text_of l))) refl (time_in kind (end_text (style_of kind) (text_of l))) refl
     where
-      go : (X : Time) → time_in kind (up_to arrow (text_of l)) ≡ X → (Y : Time) → time_in kind (end_text (style_of kind) (text_of l)) ≡ Y
+      go : (X : Option Stamp) → time_in kind (up_to arrow (text_of l)) ≡ X → (Y : Option Stamp) → time_in kind (end_text (style_of kind) (text_of l)) ≡ Y
           → Paid m (held_said kind first i m (timed b l a) (both_say (first + line_count b) (stamps_in kind (concat a)) (block_frame (concat b) (trailing (style_of kind) (text_of l)) (terminator_of l) (concat a)) X Y))
-      go Bad ex Y ey = omega arith
-      go (At S p) ex Bad ey = omega arith
-      go (At S p) ex (At E q) ey = omega (arith, line_long kind l S E p q ex ey)
+      go None ex Y ey = omega arith
+      go (Some S) ex None ey = omega arith
+      go (Some S) ex (Some E) ey = omega (arith, line_long kind l S.units E.units S.mark E.mark ex ey)
 
 block_paid : (kind first i : ℕ) (b : List ℕ) → Paid (length b) (block_said kind first i b)
 unfolding block_said block_says

@@ -8,11 +8,11 @@ use native.Mathlib.Numerals.{add-one}
 use borrow.Author.Tests.{eq-eqb, ne_eqb, leb-true, leb-false, ltb-false}
 use lib.Dec.{eqb, ltb, leb}
 use lib.ListN.{length, drop}
+use Rattle.std.specs.Prelude.{Option, Some, None}
 use Rattle.spec_text.specs.whitespace.White.{trim}
 use Rattle.spec_text.specs.pattern.Find.{starts, equals}
 use Rattle.spec_text.specs.text.Line.{text_of, terminator_of}
-use Rattle.spec_time.specs.declared.caption_stamp.Time.{Time}
-use Rattle.spec_time.specs.declared.caption_stamp.Time.TheVariants.{At, Bad}
+use Rattle.spec_time.specs.declared.caption_stamp.Stamp.{Stamp}
 use Rattle.spec_time.specs.caption_stamp.Read.{time_in}
 use Rattle.spec_caption.specs.caption_fate.Says.{bytes, start, stop, unplaced, short, stays, passes}
 use Rattle.spec_ass.specs.declared.ass_columns.Columns.{Columns}
@@ -77,44 +77,44 @@ frame_words c n w (f ∷ fs) e S a E b q =
     ∙ sym (last_piece c.start c.«end» 1 e f fs)
 
 -- what is given does not depend on the word and the terminator
-abbrev Given : Columns → (n i k : ℕ) → (w : List ℕ) → List (List ℕ) → (e : List ℕ) → Time → Time → Said
+abbrev Given : Columns → (n i k : ℕ) → (w : List ℕ) → List (List ℕ) → (e : List ℕ) → Option Stamp → Option Stamp → Said
 Given c n i k w fs e S E = line_said n i k (times_say c n w fs e S E)
 
-given_same : (c : Columns) (n i k : ℕ) (w v : List ℕ) (fs : List (List ℕ)) (e d : List ℕ) (S E : Time) → length fs ≡ c.columns
+given_same : (c : Columns) (n i k : ℕ) (w v : List ℕ) (fs : List (List ℕ)) (e d : List ℕ) (S E : Option Stamp) → length fs ≡ c.columns
     → Given c n i k w fs e S E ≡ Given c n i k v fs d S E
-given_same c n i k w v fs e d Bad E q = refl
-given_same c n i k w v fs e d (At S a) Bad q = refl
-given_same c n i k w v fs e d (At S a) (At E b) q =
-    ap (λ (m : ℕ). caption_said n 0 S E (i + (k - m)) m) (sym (frame_words c n w fs e S a E b q) ∙ frame_words c n v fs d S a E b q)
+given_same c n i k w v fs e d None E q = refl
+given_same c n i k w v fs e d (Some S) None q = refl
+given_same c n i k w v fs e d (Some S) (Some E) q =
+    ap (λ (m : ℕ). caption_said n 0 S.units E.units (i + (k - m)) m) (sym (frame_words c n w fs e S.units S.mark E.units E.mark q) ∙ frame_words c n v fs d S.units S.mark E.units E.mark q)
 
 -- ---- the times: x and y are what the code read
-module _ (c : Columns) (n i k : ℕ) (r f : List ℕ) (x : Time) (ef : f ≡ field_at c.start (fields c.columns r)) (ex : x ≡ time_in 0 f) where
+module _ (c : Columns) (n i k : ℕ) (r f : List ℕ) (x : Option Stamp) (ef : f ≡ field_at c.start (fields c.columns r)) (ex : x ≡ time_in 0 f) where
   abbrev Times : Said
   Times = line_said n i k (times_say c n [] (fields c.columns r) [] (time_in 0 (field_at c.start (fields c.columns r))) (time_in 0 (field_at c.«end» (fields c.columns r))))
 
   start_is : time_in 0 (field_at c.start (fields c.columns r)) ≡ x
   start_is = sym (ex ∙ ap (time_in 0) ef)
 
-  pub timed_1 : (t : Said) → x ≡ Bad → t ≡ at_fault 22 n → t ≡ Times
-  timed_1 t p q = q ∙ sym (ap (λ (X : Time). Given c n i k [] (fields c.columns r) [] X (time_in 0 (field_at c.«end» (fields c.columns r)))) (start_is ∙ p))
+  pub timed_1 : (t : Said) → x ≡ None → t ≡ at_fault 22 n → t ≡ Times
+  timed_1 t p q = q ∙ sym (ap (λ (X : Option Stamp). Given c n i k [] (fields c.columns r) [] X (time_in 0 (field_at c.«end» (fields c.columns r)))) (start_is ∙ p))
 
-  module _ (g : List ℕ) (y : Time) (eg : g ≡ field_at c.«end» (fields c.columns r)) (ey : y ≡ time_in 0 g) (S a : ℕ) (p : x ≡ At S a) where
+  module _ (g : List ℕ) (y : Option Stamp) (eg : g ≡ field_at c.«end» (fields c.columns r)) (ey : y ≡ time_in 0 g) (S : Stamp) (p : x ≡ Some S) where
     end_is : time_in 0 (field_at c.«end» (fields c.columns r)) ≡ y
     end_is = sym (ey ∙ ap (time_in 0) eg)
 
-    times_is : (Y : Time) → y ≡ Y → Times ≡ Given c n i k [] (fields c.columns r) [] (At S a) Y
+    times_is : (Y : Option Stamp) → y ≡ Y → Times ≡ Given c n i k [] (fields c.columns r) [] (Some S) Y
     times_is Y q =
-        ap (λ (X : Time). Given c n i k [] (fields c.columns r) [] X (time_in 0 (field_at c.«end» (fields c.columns r)))) (start_is ∙ p)
-        ∙ ap (Given c n i k [] (fields c.columns r) [] (At S a)) (end_is ∙ q)
+        ap (λ (X : Option Stamp). Given c n i k [] (fields c.columns r) [] X (time_in 0 (field_at c.«end» (fields c.columns r)))) (start_is ∙ p)
+        ∙ ap (Given c n i k [] (fields c.columns r) [] (Some S)) (end_is ∙ q)
 
-    pub timed_2 : (t : Said) → y ≡ Bad → t ≡ at_fault 22 n → t ≡ Times
-    timed_2 t q e = e ∙ sym (times_is Bad q)
+    pub timed_2 : (t : Said) → y ≡ None → t ≡ at_fault 22 n → t ≡ Times
+    timed_2 t q e = e ∙ sym (times_is None q)
 
-    pub timed_3 : (E b m d : ℕ) → y ≡ At E b → c.columns ≤ length (fields c.columns r) → m ≡ last_words c (fields c.columns r) → d ≡ k - m → caption_said n 0 S E (i + d) m ≡ Times
-    timed_3 E b m d q h em ed =
+    pub timed_3 : (E : Stamp) (m d : ℕ) → y ≡ Some E → c.columns ≤ length (fields c.columns r) → m ≡ last_words c (fields c.columns r) → d ≡ k - m → caption_said n 0 S.units E.units (i + d) m ≡ Times
+    timed_3 E m d q h em ed =
         let z : length (fields c.columns r) ≡ c.columns = omega (arith, fields_most c.columns r) in
-        ap (λ (j : ℕ). caption_said n 0 S E (i + j) m) ed
-        ∙ ap (λ (j : ℕ). caption_said n 0 S E (i + (k - j)) j) (em ∙ frame_words c n [] (fields c.columns r) [] S a E b z) ∙ sym (times_is (At E b) q)
+        ap (λ (j : ℕ). caption_said n 0 S.units E.units (i + j) m) ed
+        ∙ ap (λ (j : ℕ). caption_said n 0 S.units E.units (i + (k - j)) j) (em ∙ frame_words c n [] (fields c.columns r) [] S.units S.mark E.units E.mark z) ∙ sym (times_is (Some E) q)
 
 -- ---- a caption: T is the text of the line, u what stands behind its word
 module _ (c : Columns) (n i j k : ℕ) (l T : List ℕ) (eT : T ≡ text_of l) (t : Said) where
@@ -172,10 +172,10 @@ word_same c n i k l w r = go (eqb c.start 0) (eqb c.«end» 0) (ltb (length (fie
     F : List (List ℕ)
     F = fields c.columns r
 
-    S : Time
+    S : Option Stamp
     S = time_in 0 (field_at c.start (fields c.columns r))
 
-    E : Time
+    E : Option Stamp
     E = time_in 0 (field_at c.«end» (fields c.columns r))
 
     all : ltb (length (fields c.columns r)) c.columns ≡ false → length (fields c.columns r) ≡ c.columns

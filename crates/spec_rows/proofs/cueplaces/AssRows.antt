@@ -8,13 +8,13 @@ use native.Mathlib.Omega.{arith}
 use borrow.Author.Tests.{ltb-false}
 use lib.Dec.{eqb, ltb}
 use lib.ListN.{length, take, drop, length-append, take-append-drop}
+use Rattle.std.specs.Prelude.{Option, Some, None}
 use Rattle.spec_text.specs.whitespace.White.{trim}
 use Rattle.spec_text.specs.pattern.Find.{starts, equals, first, contains, up_to, past}
 use Rattle.spec_text.specs.pattern.Piece.{comma}
 use Rattle.spec_text.specs.text.Line.{lines_of, concat, line_count, text_of, terminator_of}
 use Rattle.spec_text.proofs.text.LineLaws.{text_terminator}
-use Rattle.spec_time.specs.declared.caption_stamp.Time.{Time}
-use Rattle.spec_time.specs.declared.caption_stamp.Time.TheVariants.{At, Bad}
+use Rattle.spec_time.specs.declared.caption_stamp.Stamp.{Stamp}
 use Rattle.spec_time.specs.caption_stamp.Read.{time_in}
 use Rattle.spec_caption.specs.caption_fate.Says.{unplaced, short, Part, stays, passes, cue, Fault, long_line, not_utf8, long_block, bad_time, bad_header, fault_number}
 use Rattle.spec_caption.specs.caption_fate.Bom.{behind_bom}
@@ -101,15 +101,15 @@ SaysOn c n l (faulty f) = Unit {0}
 SaysOn c n l (says d p) = PartOn c n l p
 
 module _ (c : Columns) (n : ℕ) (l w r : List ℕ) (named : (w ≡ dialogue_word) ⊎ (w ≡ comment_word)) (et : text_of l ≡ w ++ r) where
-  times_on : (enough : length (fields c.columns r) ≡ c.columns) (S E : Time) → SaysOn c n l (times_say c n w (fields c.columns r) (terminator_of l) S E)
-  times_on h Bad E = tt
-  times_on h (At S a) Bad = tt
-  times_on h (At S a) (At E b) = (
+  times_on : (enough : length (fields c.columns r) ≡ c.columns) (S E : Option Stamp) → SaysOn c n l (times_say c n w (fields c.columns r) (terminator_of l) S E)
+  times_on h None E = tt
+  times_on h (Some S) None = tt
+  times_on h (Some S) (Some E) = (
     refl,
     record {
       words = last_field c (fields c.columns r);
       field = record { word = w; rest = r; named = named; text = et; enough = h; last = refl };
-      size = sym (frame_words c n w (fields c.columns r) (terminator_of l) S a E b h) ∙ last_long c (fields c.columns r);
+      size = sym (frame_words c n w (fields c.columns r) (terminator_of l) S.units S.mark E.units E.mark h) ∙ last_long c (fields c.columns r);
     },
   )
 

@@ -6,14 +6,14 @@ use Prim.Native.Nat.{ℕ, zero, suc, ◌+◌}
 use native.Mathlib.Omega.{arith}
 use lib.Dec.{eqb, ltb, leb}
 use lib.ListN.{length, drop}
+use Rattle.std.specs.Prelude.{Option, Some, None}
 use Rattle.spec_base.specs.base.Limits.{most_line}
 use Rattle.spec_base.specs.base.Refusal.{◌or_else◌, fault_unless}
 use Rattle.spec_text.specs.utf8.Utf8.{utf8}
 use Rattle.spec_text.specs.whitespace.White.{trim}
 use Rattle.spec_text.specs.pattern.Find.{starts, equals}
 use Rattle.spec_text.specs.text.Line.{text_of, terminator_of}
-use Rattle.spec_time.specs.declared.caption_stamp.Time.{Time}
-use Rattle.spec_time.specs.declared.caption_stamp.Time.TheVariants.{At, Bad}
+use Rattle.spec_time.specs.declared.caption_stamp.Stamp.{Stamp}
 use Rattle.spec_time.specs.caption_stamp.Read.{time_in}
 use Rattle.spec_caption.specs.caption_fate.Says.{unplaced, short, stays, passes, cue, fault_number}
 use Rattle.spec_ass.specs.declared.ass_columns.Columns.{Columns}
@@ -44,10 +44,10 @@ abbrev TimeOnly : LineSays → Type 0
 TimeOnly (faulty f) = fault_number f ≡ 22
 TimeOnly (says d p) = Unit {0}
 
-times_only : (c : Columns) (n : ℕ) (w : List ℕ) (fs : List (List ℕ)) (e : List ℕ) (S E : Time) → TimeOnly (times_say c n w fs e S E)
-times_only c n w fs e Bad E = refl
-times_only c n w fs e (At S a) Bad = refl
-times_only c n w fs e (At S a) (At E b) = tt
+times_only : (c : Columns) (n : ℕ) (w : List ℕ) (fs : List (List ℕ)) (e : List ℕ) (S E : Option Stamp) → TimeOnly (times_say c n w fs e S E)
+times_only c n w fs e None E = refl
+times_only c n w fs e (Some S) None = refl
+times_only c n w fs e (Some S) (Some E) = tt
 
 caption_only : (c : Columns) (n : ℕ) (l w r : List ℕ) → TimeOnly (caption_says c n l w r)
 unfolding caption_says

@@ -5,10 +5,9 @@ use mathlib.Core.Bool.{Bool, true, false, cond}
 use mathlib.Core.List.{List, [], ◌∷◌, ◌++◌}
 use Prim.Native.Nat.{ℕ, suc, ◌+◌}
 use lib.ListN.{length}
+use Rattle.std.specs.Prelude.{Option, Some, None}
 use Rattle.spec_text.specs.pattern.Find.{contains, up_to}
 use Rattle.spec_text.specs.text.Line.{concat, line_count, text_of, terminator_of}
-use Rattle.spec_time.specs.declared.caption_stamp.Time.{Time}
-use Rattle.spec_time.specs.declared.caption_stamp.Time.TheVariants.{At, Bad}
 use Rattle.spec_caption.specs.caption_fate.Says.{Piece}
 use Rattle.spec_cue.specs.block_timing.Style.{style_of, stamps_in}
 use Rattle.spec_cue.specs.block_timing.Arrow.{arrow, Timing, untimed, timed, later, timing_of}
@@ -17,6 +16,7 @@ use Rattle.promise.proofs.LinesCut.{Cut, cut_lines}
 use Rattle.spec_rows.specs.declared.caption_rows.Said.{Said}
 use Rattle.spec_rows.specs.caption_rows.Said.{held_said, block_said}
 use Rattle.spec_rows.proofs.cueplaces.Stops.{zero_suc}
+use Rattle.spec_time.specs.declared.caption_stamp.Stamp.{Stamp}
 
 -- ---- the timing line of more lines
 abbrev more_timed : (ks : List (List ℕ)) → (l : List ℕ) → Timing → Timing
@@ -47,20 +47,20 @@ module _ (kind first i : ℕ) where
   said_by_lem k ks t = held_said kind first i k t (timing_says (style_of kind) first ks t)
 
   -- 22, or 0: by the two times
-  abbrev times_number : Time → Time → ℕ
-  times_number Bad Y = 22
-  times_number (At S a) Bad = 22
-  times_number (At S a) (At E b) = 0
+  abbrev times_number : Option Stamp → Option Stamp → ℕ
+  times_number None Y = 22
+  times_number (Some S) None = 22
+  times_number (Some S) (Some E) = 0
 
   abbrev line_number_lem : List ℕ → ℕ
   line_number_lem y = times_number ((style_of kind).time (up_to arrow (text_of y))) ((style_of kind).time (end_text (style_of kind) (text_of y)))
 
-  both_number : (k : ℕ) (b : List (List ℕ)) (y : List ℕ) (a : List (List ℕ)) (z : Bool) (ps : List Piece) (X Y : Time)
+  both_number : (k : ℕ) (b : List (List ℕ)) (y : List ℕ) (a : List (List ℕ)) (z : Bool) (ps : List Piece) (X Y : Option Stamp)
       → ((held_said kind first i k (timed b y a) (both_say (first + line_count b) z ps X Y)).number ≡ times_number X Y)
       × ((held_said kind first i k (timed b y a) (both_say (first + line_count b) z ps X Y)).line ≡ first + line_count b)
-  both_number k b y a z ps Bad Y = (refl, refl)
-  both_number k b y a z ps (At S c) Bad = (refl, refl)
-  both_number k b y a z ps (At S c) (At E d) = (refl, refl)
+  both_number k b y a z ps None Y = (refl, refl)
+  both_number k b y a z ps (Some S) None = (refl, refl)
+  both_number k b y a z ps (Some S) (Some E) = (refl, refl)
 
   held_number : (k : ℕ) (ks b : List (List ℕ)) (y : List ℕ) (a : List (List ℕ)) → ((said_by_lem k ks (timed b y a)).number ≡ line_number_lem y) × ((said_by_lem k ks (timed b y a)).line ≡ first + line_count b)
   unfolding timing_line_says
@@ -68,10 +68,10 @@ module _ (kind first i : ℕ) where
       both_number k b y a (stamps_in kind (concat a)) (block_frame (concat b) (trailing (style_of kind) (text_of y)) (terminator_of y) (concat a)) ((style_of kind).time (up_to arrow (text_of y)))
       ((style_of kind).time (end_text (style_of kind) (text_of y)))
 
-  times_only : (X Y : Time) (h : ℕ) → times_number X Y ≡ suc h → times_number X Y ≡ 22
-  times_only Bad Y h e = refl
-  times_only (At S a) Bad h e = refl
-  times_only (At S a) (At E b) h e = zero_suc h e
+  times_only : (X Y : Option Stamp) (h : ℕ) → times_number X Y ≡ suc h → times_number X Y ≡ 22
+  times_only None Y h e = refl
+  times_only (Some S) None h e = refl
+  times_only (Some S) (Some E) h e = zero_suc h e
 
   held_only : (k : ℕ) (ks : List (List ℕ)) (t : Timing) (h : ℕ) → (said_by_lem k ks t).number ≡ suc h → suc h ≡ 22
   held_only k ks untimed h e = zero_suc h e

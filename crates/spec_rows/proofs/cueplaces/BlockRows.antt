@@ -7,11 +7,10 @@ use native.Mathlib.Omega.{arith}
 use borrow.Author.Tests.{ne_eqb}
 use lib.Dec.{eqb, leb}
 use lib.ListN.{length, drop, length-append}
+use Rattle.std.specs.Prelude.{Option, Some, None}
 use Rattle.spec_base.specs.base.Limits.{most_block}
 use Rattle.spec_text.specs.pattern.Find.{up_to}
 use Rattle.spec_text.specs.text.Line.{lines_of, concat, line_count, text_of, terminator_of}
-use Rattle.spec_time.specs.declared.caption_stamp.Time.{Time}
-use Rattle.spec_time.specs.declared.caption_stamp.Time.TheVariants.{At, Bad}
 use Rattle.spec_caption.specs.caption_fate.Bom.{behind_bom}
 use Rattle.spec_cue.specs.block_timing.Style.{style_of, stamps_in, blank_in}
 use Rattle.spec_cue.specs.block_timing.Arrow.{arrow, Timing, untimed, timed, timing_of}
@@ -29,6 +28,7 @@ use Rattle.spec_rows.proofs.cueplaces.Bytes.{bytes_there}
 use Rattle.spec_rows.proofs.cueplaces.BlockMore.{said_by_lem, said_is}
 use Rattle.spec_rows.proofs.cueplaces.BlockStops.{Opened, open_more, open_blank, clause, turn_bad, turn_blank, turn_long, turn_fits, next_blank, next_more, end_is}
 use Rattle.spec_rows.proofs.cueplaces.AssRows.{stand_less}
+use Rattle.spec_time.specs.declared.caption_stamp.Stamp.{Stamp}
 
 module _ (j : ℕ) (text : List ℕ) where
   abbrev L : List (List ℕ)
@@ -89,12 +89,12 @@ module _ (j : ℕ) (text : List ℕ) where
           let m : line_count ks ≡ line_count b + suc (line_count a) = ap line_count ek ∙ many_append b (y ∷ a) in
           stand_less (suc j) text (F + line_count b) (line_count done + line_count ks) w.rows (omega (arith, m)) r
 
-      both_rows : (z : Bool) (B t u : List ℕ) (X Y : Time)
+      both_rows : (z : Bool) (B t u : List ℕ) (X Y : Option Stamp)
           → RowsStand (suc j) text (line_count done) (held_said (suc j) F i (length (concat ks)) (timed b y a) (both_say (F + line_count b) z (block_frame B t u (concat a)) X Y) then w).rows
       unfolding words_length
-      both_rows z B t u Bad Y = tt
-      both_rows z B t u (At S s) Bad = tt
-      both_rows z B t u (At S s) (At E v) = rw not_ass (omega arith, (block_row, behind_row))
+      both_rows z B t u None Y = tt
+      both_rows z B t u (Some S) None = tt
+      both_rows z B t u (Some S) (Some E) = rw not_ass (omega arith, (block_row, behind_row))
 
     held_rows : (t : Timing) → timing_of ks ≡ t → TimedIn ks t → RowsStand (suc j) text (line_count done) (said_by_lem (suc j) F i (length (concat ks)) ks t then w).rows
     unfolding timing_line_says

@@ -1,5 +1,5 @@
 -- What a line or a block gives: a fault with its line, nothing, or a caption with the place of its words.
-use Rattle.std.specs.Prelude.{true, false, cond, List, [], ◌∷◌, ℕ, ◌+◌, ◌-◌, eqb, length}
+use Rattle.std.specs.Prelude.{true, false, cond, List, [], ◌∷◌, ℕ, ◌+◌, ◌-◌, eqb, length, Option, Some, None}
 use Rattle.spec_text.specs.text.Line.{lines_of, line_count, text_of}
 use Rattle.spec_caption.specs.caption_fate.Says.{Piece, bytes, start, stop, reason_number, Cue, Part, stays, passes, cue, fault_number}
 use Rattle.spec_ass.specs.declared.ass_columns.Columns.{Columns}
@@ -7,9 +7,8 @@ use Rattle.spec_ass.specs.ass_columns.Columns.{field_at}
 use Rattle.spec_ass.specs.ass_line.Line.{LineSays, faulty, says}
 use Rattle.spec_cue.specs.block_timing.Style.{style_of}
 use Rattle.spec_text.specs.pattern.Find.{up_to}
+use Rattle.spec_time.specs.declared.caption_stamp.Stamp.{Stamp}
 use Rattle.spec_time.specs.caption_stamp.Read.{time_in}
-use Rattle.spec_time.specs.declared.caption_stamp.Time.{Time}
-use Rattle.spec_time.specs.declared.caption_stamp.Time.TheVariants.{At, Bad}
 use Rattle.spec_cue.specs.block_timing.Arrow.{arrow, Timing, untimed, timed, timing_of}
 use Rattle.spec_cue.specs.block_cue.Block.{BlockSays, block_says, end_text, faulty as blockFaulty, says as blockSays'}
 use Rattle.spec_rows.specs.declared.caption_rows.Said.{Said}
@@ -74,10 +73,10 @@ unfoldable pub block_said : (kind first at : ℕ) → (block : List ℕ) → Sai
 block_said kind first i b = held_said kind first i (length b) (timing_of (lines_of b)) (block_says (style_of kind) first (lines_of b))
 
 -- the timing line on line n, with the words from i on
-abbrev pub times_said : (n i k : ℕ) → Time → Time → Said
-times_said n i k Bad y = at_fault 22 n
-times_said n i k (At S a) Bad = at_fault 22 n
-times_said n i k (At S a) (At E b) = caption_said n 0 S E i k
+abbrev pub times_said : (n i k : ℕ) → Option Stamp → Option Stamp → Said
+times_said n i k None y = at_fault 22 n
+times_said n i k (Some S) None = at_fault 22 n
+times_said n i k (Some S) (Some E) = caption_said n 0 S.units E.units i k
 
 abbrev pub timing_said : (kind n : ℕ) → (line : List ℕ) → (i k : ℕ) → Said
 timing_said kind n l i k = times_said n i k (time_in kind (up_to arrow (text_of l))) (time_in kind (end_text (style_of kind) (text_of l)))

@@ -7,6 +7,7 @@ use native.Mathlib.Omega.{arith}
 use lib.Dec.{ltb, leb, eqb}
 use lib.ListN.{length}
 use borrow.Author.Tests.{lt-ltb, le-ltb, le-leb, lt-leb, eq-eqb, ne_eqb}
+use Rattle.std.specs.Prelude.{Ok, Err}
 use Rattle.spec_base.specs.base.Limits.{most_frames}
 use Rattle.spec_base.specs.base.Refusal.{◌or_else◌, fault_unless, first_of}
 use Rattle.spec_base.proofs.base.RefusalLaws.{unless_held, unless_failed, else_none, else_here, else_next, left_here, left_next}
@@ -17,7 +18,6 @@ use Rattle.spec_sheet.specs.sheet.Sheet.{spare_fault, timescale_in, head_fault, 
 use Rattle.spec_sheet.specs.sheet_permutation.Once.{once_number, work_once}
 use Rattle.spec_sheet.specs.sheet.Sheet.{sheet_number, work_after, head_of, sheet_answer, sheet_of}
 use Rattle.spec_sheet.specs.declared.sheet.Head.{Head}
-use Rattle.spec_sheet.specs.declared.sheet.Sheet.TheVariants.{Sound, Refused}
 
 -- ---- a test at the head of a chain: it fails, and k is the answer; it holds, and the rest answers
 fails : {t : Bool} (k b : ℕ) → t ≡ false → (k ≡ 0 → ⊥) → k ≡ fault_unless t k or_else b
@@ -285,18 +285,18 @@ module _ (s : List ℕ) (some : 0 < length s) (whole : length s % 512 ≡ 0) (c 
           (q ∙ ap (λ (x : ℕ). first_of (block_fault s x) 1 (record_blocks (long_of s) x)) en))))
 
 -- ---- the answer
-refused_by : (k r : ℕ) (h : Head) → r ≡ k → (r ≡ 0 → ⊥) → Refused r ≡ sheet_answer k h
+refused_by : (k r : ℕ) (h : Head) → r ≡ k → (r ≡ 0 → ⊥) → Err r ≡ sheet_answer k h
 unfolding sheet_answer
 refused_by zero r h e n = absurd (n e)
-refused_by (suc k) r h e n = ap Refused e
+refused_by (suc k) r h e n = ap Err e
 
-sound_by : (k r : ℕ) (h : Head) → r ≡ k → r ≡ 0 → Sound h ≡ sheet_answer k h
+sound_by : (k r : ℕ) (h : Head) → r ≡ k → r ≡ 0 → Ok h ≡ sheet_answer k h
 unfolding sheet_answer
 sound_by k r h e z = rw (← e, z)
 
 -- f is the fault in the sheet's bytes
 module _ (s work : List ℕ) (f : ℕ) (ef : f ≡ sheet_fault s) where
-  pub fault_answer : (f ≡ 0 → ⊥) → Refused f ≡ sheet_of s (length work)
+  pub fault_answer : (f ≡ 0 → ⊥) → Err f ≡ sheet_of s (length work)
   unfolding sheet_of sheet_number
   fault_answer n = refused_by _ f _ (else_here _ _ f ef n) n
 
@@ -309,7 +309,7 @@ module _ (s work : List ℕ) (f : ℕ) (ef : f ≡ sheet_fault s) where
     once_is : g ≡ once_number s (frames_of s) (length work)
     once_is = eg ∙ ap (λ (k : ℕ). once_number s k (length work)) en
 
-    pub once_answer : (g ≡ 0 → ⊥) → Refused g ≡ sheet_of s (length work)
+    pub once_answer : (g ≡ 0 → ⊥) → Err g ≡ sheet_of s (length work)
     unfolding sheet_of sheet_number
     once_answer m = refused_by _ g _ (else_next _ _ f g ef z (else_here _ _ g once_is m)) m
 
@@ -323,11 +323,11 @@ module _ (s work : List ℕ) (f : ℕ) (ef : f ≡ sheet_fault s) where
       unfolding sheet_number
       number = else_next _ _ f k ef z (else_next _ _ g k once_is y (ek ∙ ap (total_fault s) en))
 
-      pub total_answer : (k ≡ 0 → ⊥) → Refused k ≡ sheet_of s (length work)
+      pub total_answer : (k ≡ 0 → ⊥) → Err k ≡ sheet_of s (length work)
       unfolding sheet_of
       total_answer m = refused_by _ k _ number m
 
       pub sound_answer : (t a b : ℕ) → k ≡ 0 → t ≡ timescale_of s → a ≡ rate_num_of s → b ≡ rate_den_of s
-          → Sound (record { timescale = t; frames = n; rate_num = a; rate_den = b }) ≡ sheet_of s (length work)
+          → Ok (record { timescale = t; frames = n; rate_num = a; rate_den = b }) ≡ sheet_of s (length work)
       unfolding sheet_of head_of
       sound_answer t a b m et ea eb = rw (et, en, ea, eb) (sound_by _ k _ number m)

@@ -8,6 +8,7 @@ use native.Mathlib.Omega.{arith}
 use lib.Dec.{ltb}
 use lib.ListN.{get_or}
 use borrow.Author.Tests.{le-leb, lt-ltb, ltb-true, leb-true}
+use Rattle.std.specs.Prelude.{Result, Ok, Err}
 use Rattle.spec_base.specs.base.Limits.{most_timescale, most_frames, most_ticks, most_work}
 use Rattle.spec_base.specs.base.Refusal.{◌or_else◌, fault_unless, first_of}
 use Rattle.spec_base.proofs.base.RefusalLaws.{held, else_none, else_zero, else_either, first_zero}
@@ -19,8 +20,6 @@ use Rattle.spec_sheet.specs.sheet.Sheet.{sheet_fault, total_fault, sheet_number,
 use Rattle.spec_sheet.specs.sheet_frames.Frames.{long_of, per_block, record_word, ticks_from}
 use Rattle.spec_sheet.specs.sheet.Sheet.{spare_fault, timescale_in, head_fault, spare_record, record_fault, check_fault, block_fault, record_blocks, head_of, sheet_answer}
 use Rattle.spec_sheet.specs.declared.sheet.Head.{Head}
-use Rattle.spec_sheet.specs.declared.sheet.Sheet.{Sheet}
-use Rattle.spec_sheet.specs.declared.sheet.Sheet.TheVariants.{Sound, Refused}
 use Rattle.spec_base.proofs.base.RefusalNumbers.{else_numbers, cond_numbers, unless_numbers, first_numbers}
 
 -- ---- a sheet without a fault
@@ -262,14 +261,14 @@ pub record Answered (s : List ℕ) (lent : ℕ) (h : Head) : Type 0 where
   pub den_is : h.rate_den ≡ rate_den_of s
   pub once : EachOnce s (frames_of s)
 
-sound_by : (k : ℕ) (g h : Head) → sheet_answer k g ≡ Sound h → (k ≡ 0) × (h ≡ g)
+sound_by : (k : ℕ) (g h : Head) → sheet_answer k g ≡ Ok h → (k ≡ 0) × (h ≡ g)
 unfolding sheet_answer
 sound_by zero g h e = (refl, cc)
 sound_by (suc k) g h e =
     let z : ◌≡◌ {A = ℕ} 0 1 = cc in
     absurd (omega arith)
 
-pub sound_answer : (s : List ℕ) (lent : ℕ) (h : Head) (a : Sheet) → a ≡ sheet_of s lent → a ≡ Sound h → Answered s lent h
+pub sound_answer : (s : List ℕ) (lent : ℕ) (h : Head) (a : Result Head ℕ) → a ≡ sheet_of s lent → a ≡ Ok h → Answered s lent h
 unfolding sheet_of head_of
 sound_answer s lent h a e f =
     let p = sound_by (sheet_number s lent) (head_of s) h (sym e ∙ f) in
@@ -283,7 +282,7 @@ sound_answer s lent h a e f =
     }
 
 -- and from `Refused j`
-refused_by : (k j : ℕ) (g : Head) → sheet_answer k g ≡ Refused j → (j ≡ k) × (j ≡ 0 → ⊥)
+refused_by : (k j : ℕ) (g : Head) → sheet_answer k g ≡ Err j → (j ≡ k) × (j ≡ 0 → ⊥)
 unfolding sheet_answer
 refused_by zero j g e =
     let z : ◌≡◌ {A = ℕ} 0 1 = cc in
@@ -292,6 +291,6 @@ refused_by (suc k) j g e =
     let q : j ≡ suc k = cc in
     (q, omega arith)
 
-pub refused_answer : (s : List ℕ) (lent j : ℕ) (a : Sheet) → a ≡ sheet_of s lent → a ≡ Refused j → (j ≡ sheet_number s lent) × (j ≡ 0 → ⊥)
+pub refused_answer : (s : List ℕ) (lent j : ℕ) (a : Result Head ℕ) → a ≡ sheet_of s lent → a ≡ Err j → (j ≡ sheet_number s lent) × (j ≡ 0 → ⊥)
 unfolding sheet_of
 refused_answer s lent j a e f = refused_by _ _ _ (sym e ∙ f)

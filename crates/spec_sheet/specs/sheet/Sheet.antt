@@ -1,14 +1,12 @@
 -- The faults of a frame sheet (document 01, "The frame sheet"; requests 2.6 and 2.9), and the answer of its check. s is the sheet's bytes.
 -- Crates above name the sheet by sheet_number, and by timescale_of, frames_of, rate_num_of, rate_den_of, decode_of, sync_of and duration_of of frames.
-use Rattle.std.specs.Prelude.{ℕ, zero, suc, ◌+◌, ◌-◌, ◌*◌, ◌/◌, ◌%◌, Bool, true, false, cond, List, [], ◌∷◌, length, ltb, leb, eqb}
+use Rattle.std.specs.Prelude.{ℕ, zero, suc, ◌+◌, ◌-◌, ◌*◌, ◌/◌, ◌%◌, Bool, true, false, cond, List, [], ◌∷◌, length, ltb, leb, eqb, Result, Ok, Err}
 use Rattle.spec_base.specs.base.Limits.{most_sheet_timescale, most_timescale, most_frames, most_ticks}
 use Rattle.spec_base.specs.base.Refusal.{◌or_else◌, fault_unless, first_of}
 use Rattle.spec_sheet.specs.checked_blocks.Block.{word_at, block_holds}
 use Rattle.spec_sheet.specs.sheet_frames.Frames.{timescale_of, frames_of, rate_num_of, rate_den_of, long_of, per_block, record_word, decode_of, ticks_from}
 use Rattle.spec_sheet.specs.sheet_permutation.Once.{once_number, work_once}
 use Rattle.spec_sheet.specs.declared.sheet.Head.{Head}
-use Rattle.spec_sheet.specs.declared.sheet.Sheet.{Sheet}
-use Rattle.spec_sheet.specs.declared.sheet.Sheet.TheVariants.{Sound, Refused}
 
 -- ---- block 0
 
@@ -92,18 +90,18 @@ unfoldable pub head_of : List ℕ → Head
 head_of s = record { timescale = timescale_of s; frames = frames_of s; rate_num = rate_num_of s; rate_den = rate_den_of s }
 
 -- the answer: the head where there is no fault, else the fault
-unfoldable pub sheet_answer : ℕ → Head → Sheet
-sheet_answer zero h = Sound h
-sheet_answer (suc k) h = Refused (suc k)
+unfoldable pub sheet_answer : ℕ → Head → Result Head ℕ
+sheet_answer zero h = Ok h
+sheet_answer (suc k) h = Err (suc k)
 
-unfoldable pub sheet_of : List ℕ → (lent : ℕ) → Sheet
+unfoldable pub sheet_of : List ℕ → (lent : ℕ) → Result Head ℕ
 sheet_of s lent = sheet_answer (sheet_number s lent) (head_of s)
 
 -- an answer's number in document 01's table, and its values
-abbrev pub number_of : Sheet → ℕ
-number_of (Sound h) = 0
-number_of (Refused k) = k
+abbrev pub number_of : Result Head ℕ → ℕ
+number_of (Ok h) = 0
+number_of (Err k) = k
 
-abbrev pub values_of : Sheet → List ℕ
-values_of (Sound h) = h.timescale ∷ h.frames ∷ h.rate_num ∷ h.rate_den ∷ []
-values_of (Refused k) = []
+abbrev pub values_of : Result Head ℕ → List ℕ
+values_of (Ok h) = h.timescale ∷ h.frames ∷ h.rate_num ∷ h.rate_den ∷ []
+values_of (Err k) = []

@@ -11,11 +11,10 @@ use lib.Dec.{eqb, leb}
 use lib.Seq.{drop-cons}
 use lib.ListN.{length, take, drop, get_or, length-drop, length-take, take-append-drop, drop_of_length-le}
 use mathlib.Core.Bool.{true≢false}
+use Rattle.std.specs.Prelude.{Option, Some, None}
 use Rattle.spec_base.specs.base.Width.{by_width}
 use Rattle.spec_base.proofs.base.Laws.{yes!, no! }
 use Rattle.spec_text.specs.whitespace.White.{white_head, head_from, keep_from, trim_head, trim_tail, trim}
-use Rattle.spec_text.specs.declared.text.Number.{Number}
-use Rattle.spec_text.specs.declared.text.Number.TheVariants.{Value, Bad}
 use Rattle.spec_text.specs.text.Number.{digits, value_from, natural, unsigned, number}
 use Rattle.spec_text.specs.pattern.Piece.{onto_first}
 use Rattle.spec_text.specs.text.Line.{line_length, lines_of, concat, terminator_length, text_of, terminator_of, is_empty, blank, ends_line, has_lf}
@@ -179,27 +178,27 @@ trim_length s =
     let a : length (take (keep_from (trim_head s) (length (trim_head s)) 0) (trim_head s)) ≤ length (trim_head s) = simp length-take (omega arith) in
     omega (arith, trim_head_length s)
 
-no_value : {A : Type 0} (v : ℕ) → Bad ≡ Value v → A
-no_value v e = absurd (let z : ◌≡◌ {A = ℕ} 0 1 = ap (λ (x : Number). elim x [ Value k ↦ 1 | Bad ↦ 0 ]) e in omega arith)
+no_value : {A : Type 0} (v : ℕ) → None ≡ Some v → A
+no_value v e = absurd (let z : ◌≡◌ {A = ℕ} 0 1 = ap (λ (x : Option ℕ). elim x [ Some k ↦ 1 | None ↦ 0 ]) e in omega arith)
 
-natural_most : (most v : ℕ) (s : List ℕ) → natural most s ≡ Value v → v ≤ most
+natural_most : (most v : ℕ) (s : List ℕ) → natural most s ≡ Some v → v ≤ most
 unfolding natural
 natural_most most v [] e = no_value v e
 natural_most most v (b ∷ s) e = go (digits (b ∷ s)) (leb (value_from 0 (b ∷ s)) most) refl e
   where
-    go : (d l : Bool) → leb (value_from 0 (b ∷ s)) most ≡ l → cond d (cond l (Value (value_from 0 (b ∷ s))) Bad) Bad ≡ Value v → v ≤ most
-    go true true q f = subst (λ (n : ℕ). n ≤ most) (ap (λ (x : Number). elim x [ Value k ↦ k | Bad ↦ 0 ]) f) (leb-true _ _ q)
+    go : (d l : Bool) → leb (value_from 0 (b ∷ s)) most ≡ l → cond d (cond l (Some (value_from 0 (b ∷ s))) None) None ≡ Some v → v ≤ most
+    go true true q f = subst (λ (n : ℕ). n ≤ most) (ap (λ (x : Option ℕ). elim x [ Some k ↦ k | None ↦ 0 ]) f) (leb-true _ _ q)
     go true false q f = no_value v f
     go false l q f = no_value v f
 
 -- a number that is read has a byte
-pub number_some : (most v : ℕ) (s : List ℕ) → number most s ≡ Value v → 0 < length s
+pub number_some : (most v : ℕ) (s : List ℕ) → number most s ≡ Some v → 0 < length s
 unfolding number natural unsigned
-number_some most v [] e = absurd (let z : ◌≡◌ {A = ℕ} 0 1 = ap (λ (x : Number). elim x [ Value k ↦ 1 | Bad ↦ 0 ]) e in omega arith)
+number_some most v [] e = absurd (let z : ◌≡◌ {A = ℕ} 0 1 = ap (λ (x : Option ℕ). elim x [ Some k ↦ 1 | None ↦ 0 ]) e in omega arith)
 number_some most v (b ∷ s) e = omega arith
 
 -- and is at most the bound
-pub number_most : (most v : ℕ) (s : List ℕ) → number most s ≡ Value v → v ≤ most
+pub number_most : (most v : ℕ) (s : List ℕ) → number most s ≡ Some v → v ≤ most
 unfolding number
 number_most most v s e = natural_most most v (unsigned s) e
 

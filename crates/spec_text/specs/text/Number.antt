@@ -1,7 +1,5 @@
 -- Decimal numbers: an optional `+` and one or more digits, the value at most a given one.
-use Rattle.std.specs.Prelude.{ℕ, ◌+◌, ◌*◌, ◌-◌, Bool, true, false, List, [], ◌∷◌, eqb, ltb, leb, cond}
-use Rattle.spec_text.specs.declared.text.Number.{Number}
-use Rattle.spec_text.specs.declared.text.Number.TheVariants.{Value, Bad}
+use Rattle.std.specs.Prelude.{ℕ, ◌+◌, ◌*◌, ◌-◌, Bool, true, false, List, [], ◌∷◌, eqb, ltb, leb, cond, Option, Some, None}
 
 -- a digit, 30 to 39
 unfoldable pub digit : ℕ → Bool
@@ -17,23 +15,23 @@ value_from v [] = v
 value_from v (b ∷ r) = value_from (v * 10 + (b - 0x30)) r
 
 -- one or more digits, whose value is at most `most`
-unfoldable pub natural : ℕ → List ℕ → Number
-natural most [] = Bad
-natural most (b ∷ r) = cond (digits (b ∷ r)) (cond (leb (value_from 0 (b ∷ r)) most) (Value (value_from 0 (b ∷ r))) Bad) Bad
+unfoldable pub natural : ℕ → List ℕ → Option ℕ
+natural most [] = None
+natural most (b ∷ r) = cond (digits (b ∷ r)) (cond (leb (value_from 0 (b ∷ r)) most) (Some (value_from 0 (b ∷ r))) None) None
 
 -- s without a leading plus sign
 unfoldable pub unsigned : List ℕ → List ℕ
 unsigned [] = []
 unsigned (b ∷ r) = cond (eqb b 0x2B) r (b ∷ r)
 
-unfoldable pub number : ℕ → List ℕ → Number
+unfoldable pub number : ℕ → List ℕ → Option ℕ
 number most s = natural most (unsigned s)
 
 -- ---- an answer's number in document 01, k for one that is bad (3 in a trim list, 22 in a time), and its values
-abbrev pub number_fault : (k : ℕ) → Number → ℕ
-number_fault k (Value v) = 0
-number_fault k Bad = k
+abbrev pub number_fault : (k : ℕ) → Option ℕ → ℕ
+number_fault k (Some v) = 0
+number_fault k None = k
 
-abbrev pub number_values : Number → List ℕ
-number_values (Value v) = v ∷ []
-number_values Bad = []
+abbrev pub number_values : Option ℕ → List ℕ
+number_values (Some v) = v ∷ []
+number_values None = []

@@ -7,17 +7,15 @@ use Prim.Native.Nat.{ℕ, zero, suc, ◌+◌, ◌-◌}
 use native.Mathlib.Omega.{arith}
 use borrow.Author.Tests.{ltb-false}
 use lib.ListN.{length, drop, length-drop}
+use Rattle.std.specs.Prelude.{Option, Some, None}
 use Rattle.spec_base.specs.base.Limits.{most_hours, most_minutes, most_seconds}
-use Rattle.spec_text.specs.declared.text.Number.{Number}
-use Rattle.spec_text.specs.declared.text.Number.TheVariants.{Value, Bad as NoNumber}
 use Rattle.spec_text.specs.text.Number.{natural, unsigned, number}
 use Rattle.spec_text.specs.whitespace.White.{white, white_high, trim}
 use Rattle.spec_text.specs.pattern.Find.{first, contains, up_to, past}
 use Rattle.spec_text.specs.pattern.Piece.{comma}
 use Rattle.spec_text.proofs.pattern.Free.{Free, none_free}
-use Rattle.spec_time.specs.declared.caption_stamp.Time.TheVariants.{At, Bad}
 use Rattle.spec_time.specs.caption_time.Kind.{kind_bad, units_of}
-use Rattle.spec_time.specs.caption_stamp.Read.{colon, mark_in, time_from, time_with, time_in}
+use Rattle.spec_time.specs.caption_stamp.Read.{stamp, colon, mark_in, time_from, time_with, time_in}
 use Rattle.spec_time.proofs.caption_stamp.Reading.{not_at}
 use Rattle.spec_time.proofs.caption_stamp.ReadFree.{with_free}
 
@@ -26,7 +24,7 @@ abbrev tail_of_lem : List ℕ → List ℕ
 tail_of_lem text = past colon (past colon (trim text))
 
 -- ---- where no mark stands there is no time
-no_number : (k : ℕ) (s : List ℕ) → length s ≡ 0 → number k s ≡ NoNumber
+no_number : (k : ℕ) (s : List ℕ) → length s ≡ 0 → number k s ≡ None
 unfolding number natural unsigned
 no_number k [] e = refl
 no_number k (b ∷ s) e = absurd (omega arith)
@@ -35,13 +33,13 @@ past_none : (c : ℕ) (s : List ℕ) → contains (c ∷ []) s ≡ false → len
 unfolding contains past
 past_none c s e = length-drop (first (c ∷ []) s + 1) s ∙ omega (arith, ltb-false (first (c ∷ []) s) (length s) e)
 
-fractionless : (U mark : ℕ) (h m s : Number) → time_from U mark h m s NoNumber ≡ Bad
-fractionless U mark (Value h) (Value m) (Value s) = refl
-fractionless U mark (Value h) (Value m) NoNumber = refl
-fractionless U mark (Value h) NoNumber s = refl
-fractionless U mark NoNumber m s = refl
+fractionless : (U mark : ℕ) (h m s : Option ℕ) → time_from U mark h m s None ≡ None
+fractionless U mark (Some h) (Some m) (Some s) = refl
+fractionless U mark (Some h) (Some m) None = refl
+fractionless U mark (Some h) None s = refl
+fractionless U mark None m s = refl
 
-markless : (U mark : ℕ) (t : List ℕ) → contains (mark ∷ []) (past colon (past colon t)) ≡ false → time_with U mark t ≡ Bad
+markless : (U mark : ℕ) (t : List ℕ) → contains (mark ∷ []) (past colon (past colon t)) ≡ false → time_with U mark t ≡ None
 unfolding time_with
 markless U mark t e =
     let r = past colon (past colon t) in
@@ -67,10 +65,10 @@ pointless_as_before text e = go (contains comma (tail_of_lem text)) refl
     go false c = comma_less text c ∙ markless 1000 46 (trim text) e ∙ sym (markless 1000 44 (trim text) c)
 
 -- ---- what reads with one of the marks is read so
-comma_read : (n k : ℕ) (text : List ℕ) → time_with 1000 44 (trim text) ≡ At n k → time_in 1 text ≡ At n k
+comma_read : (n k : ℕ) (text : List ℕ) → time_with 1000 44 (trim text) ≡ stamp n k → time_in 1 text ≡ stamp n k
 comma_read n k text e = go (contains comma (tail_of_lem text)) refl
   where
-    go : (b : Bool) → contains comma (tail_of_lem text) ≡ b → time_in 1 text ≡ At n k
+    go : (b : Bool) → contains comma (tail_of_lem text) ≡ b → time_in 1 text ≡ stamp n k
     go true c = comma_as_before text c ∙ e
     go false c = not_at (sym (markless 1000 44 (trim text) c) ∙ e)
 
@@ -87,17 +85,17 @@ comma_other : white 44 ≡ false
 unfolding white white_high
 comma_other = refl
 
-point_read : (n k : ℕ) (text : List ℕ) → time_with 1000 46 (trim text) ≡ At n k → time_in 1 text ≡ At n k
+point_read : (n k : ℕ) (text : List ℕ) → time_with 1000 46 (trim text) ≡ stamp n k → time_in 1 text ≡ stamp n k
 point_read n k text e =
     let f : Free 44 (trim text) = with_free 44 (omega arith) comma_other (λ b l h q. omega arith) (λ q. omega arith) (λ q. omega arith) 1000 n 46 k (trim text) (λ q. omega arith) e in
     comma_less text (none_free 44 [] (tail_of_lem text) (past_rest 44 colon (past colon (trim text)) (past_rest 44 colon (trim text) f))) ∙ e
 
 -- an SRT time reads exactly where its text reads with a comma or with a point, and says the same
 either_mark : (n k : ℕ) (text : List ℕ)
-    → (time_in 1 text ≡ At n k → (time_with 1000 44 (trim text) ≡ At n k) ⊎ (time_with 1000 46 (trim text) ≡ At n k))
-    × ((time_with 1000 44 (trim text) ≡ At n k) ⊎ (time_with 1000 46 (trim text) ≡ At n k) → time_in 1 text ≡ At n k)
+    → (time_in 1 text ≡ stamp n k → (time_with 1000 44 (trim text) ≡ stamp n k) ⊎ (time_with 1000 46 (trim text) ≡ stamp n k))
+    × ((time_with 1000 44 (trim text) ≡ stamp n k) ⊎ (time_with 1000 46 (trim text) ≡ stamp n k) → time_in 1 text ≡ stamp n k)
 either_mark n k text = (go (contains comma (tail_of_lem text)) refl, λ o. ⊎_elim (comma_read n k text) (point_read n k text) o)
   where
-    go : (b : Bool) → contains comma (tail_of_lem text) ≡ b → time_in 1 text ≡ At n k → (time_with 1000 44 (trim text) ≡ At n k) ⊎ (time_with 1000 46 (trim text) ≡ At n k)
+    go : (b : Bool) → contains comma (tail_of_lem text) ≡ b → time_in 1 text ≡ stamp n k → (time_with 1000 44 (trim text) ≡ stamp n k) ⊎ (time_with 1000 46 (trim text) ≡ stamp n k)
     go true c e = inl (sym (comma_as_before text c) ∙ e)
     go false c e = inr (sym (comma_less text c) ∙ e)

@@ -9,11 +9,10 @@ use borrow.Author.Tests.{ltb-true, ltb-false, leb-true, eqb-true, eqb-false}
 use lib.Dec.{ltb, leb, eqb}
 use lib.ListN.{length, take, drop, get_or, length-drop, length-take}
 use lib.Seq.{take-nil, take_at, get_or-drop, get_or-take, length-take-le}
+use Rattle.std.specs.Prelude.{Option, Some, None}
 use Rattle.spec_base.specs.base.Width.{by_width}
 use Rattle.spec_base.specs.base.Part.{last}
 use Rattle.spec_base.specs.base.Limits.{most_hours, most_minutes, most_seconds}
-use Rattle.spec_text.specs.declared.text.Number.{Number}
-use Rattle.spec_text.specs.declared.text.Number.TheVariants.{Value, Bad as NoNumber}
 use Rattle.spec_text.specs.text.Number.{digit, digits, value_from, natural, unsigned, number}
 use Rattle.spec_text.specs.utf8.Utf8.{char_width, code_head}
 use Rattle.spec_text.specs.whitespace.White.{white, white_head, ends_white, white_tail, head_from, keep_from, trim_head, trim_tail, trim}
@@ -22,9 +21,8 @@ use Rattle.spec_text.specs.unicode.Encode.{encode}
 use Rattle.spec_text.proofs.unicode.Encoding.{encoded}
 use Rattle.spec_text.proofs.unicode.Decoding.{decoded}
 use Rattle.spec_text.proofs.unicode.Trailing.{enc_1, enc_2, enc_3, enc_4}
-use Rattle.spec_time.specs.declared.caption_stamp.Time.TheVariants.{At}
 use Rattle.spec_time.specs.caption_time.Kind.{units_of}
-use Rattle.spec_time.specs.caption_stamp.Read.{colon, mark_in, time_with, time_in}
+use Rattle.spec_time.specs.caption_stamp.Read.{stamp, colon, mark_in, time_with, time_in}
 use Rattle.spec_time.proofs.caption_stamp.Reading.{parts, read_known, mark_one}
 use Rattle.spec_text.proofs.pattern.Free.{Free}
 
@@ -153,21 +151,21 @@ module _ (c : ℕ) (no_digit : (b : ℕ) → 48 ≤ b → b ≤ 57 → c ≡ b �
       go false p false q e ih = absurd (true≢false (sym e))
       go false p true q e ih = (no_digit b (ltb-false b 48 p) (leb-true b 57 q), ih e)
 
-  natural_free : (most v : ℕ) (s : List ℕ) → natural most s ≡ Value v → Free c s
+  natural_free : (most v : ℕ) (s : List ℕ) → natural most s ≡ Some v → Free c s
   unfolding natural
   natural_free most v [] e = tt
   natural_free most v (b ∷ s) e = go (digits (b ∷ s)) refl e
     where
-      go : (d : Bool) → digits (b ∷ s) ≡ d → cond d (cond (leb (value_from 0 (b ∷ s)) most) (Value (value_from 0 (b ∷ s))) NoNumber) NoNumber ≡ Value v → Free c (b ∷ s)
+      go : (d : Bool) → digits (b ∷ s) ≡ d → cond d (cond (leb (value_from 0 (b ∷ s)) most) (Some (value_from 0 (b ∷ s))) None) None ≡ Some v → Free c (b ∷ s)
       go true p e = digits_free (b ∷ s) p
-      go false p e = absurd (let z : ◌≡◌ {A = ℕ} 0 1 = ap (λ (x : Number). elim x [ Value k ↦ 1 | NoNumber ↦ 0 ]) e in omega arith)
+      go false p e = absurd (let z : ◌≡◌ {A = ℕ} 0 1 = ap (λ (x : Option ℕ). elim x [ Some k ↦ 1 | None ↦ 0 ]) e in omega arith)
 
-  number_free : (most v : ℕ) (s : List ℕ) → number most s ≡ Value v → Free c s
+  number_free : (most v : ℕ) (s : List ℕ) → number most s ≡ Some v → Free c s
   unfolding number unsigned
   number_free most v [] e = tt
   number_free most v (b ∷ s) e = go (eqb b 43) refl e
     where
-      go : (t : Bool) → eqb b 43 ≡ t → natural most (cond t s (b ∷ s)) ≡ Value v → Free c (b ∷ s)
+      go : (t : Bool) → eqb b 43 ≡ t → natural most (cond t s (b ∷ s)) ≡ Some v → Free c (b ∷ s)
       go true p e = ((λ q. no_plus (q ∙ eqb-true b 43 p)), natural_free most v s e)
       go false p e = natural_free most v (b ∷ s) e
 
@@ -187,18 +185,18 @@ parts_free c d n (b ∷ s) f g = go (eqb d b) refl f g (parts_free c d n s)
 
 -- ---- a time that was read
 module _ (c : ℕ) (low : c < 0x80) (other : white c ≡ false) (no_digit : (b : ℕ) → 48 ≤ b → b ≤ 57 → c ≡ b → ⊥) (no_plus : c ≡ 43 → ⊥) (no_colon : c ≡ 58 → ⊥) where
-  pub with_free : (U n mark k : ℕ) (text : List ℕ) → (c ≡ mark → ⊥) → time_with U mark text ≡ At n k → Free c text
+  pub with_free : (U n mark k : ℕ) (text : List ℕ) → (c ≡ mark → ⊥) → time_with U mark text ≡ stamp n k → Free c text
   with_free U n mark k text no-mark e =
       let p = parts U n mark k text e in
       let sign : List ℕ = mark ∷ [] in
       let r1 = past colon text in
       let r2 = past colon r1 in
-      let free : (most v : ℕ) (s : List ℕ) → number most s ≡ Value v → Free c s = number_free c no_digit no_plus in
+      let free : (most v : ℕ) (s : List ℕ) → number most s ≡ Some v → Free c s = number_free c no_digit no_plus in
       parts_free c 58 no_colon text (free most_hours p.hours (up_to colon text) p.is_hours)
       (parts_free c 58 no_colon r1 (free most_minutes p.minutes (up_to colon r1) p.is_minutes)
       (parts_free c mark no-mark r2 (free most_seconds p.seconds (up_to sign r2) p.is_seconds) (free (U - 1) p.fraction (past sign r2) p.is_fraction)))
 
-  pub read_free : (kind n k : ℕ) (text : List ℕ) → (c ≡ 44 → ⊥) → (c ≡ 46 → ⊥) → time_in kind text ≡ At n k → Free c text
+  pub read_free : (kind n k : ℕ) (text : List ℕ) → (c ≡ 44 → ⊥) → (c ≡ 46 → ⊥) → time_in kind text ≡ stamp n k → Free c text
   read_free kind n k text no-comma no-point e =
       let p = read_known kind n k text e in
       let no-mark : c ≡ mark_in kind (trim text) → ⊥ = λ q. ⊎_elim (λ r. no-comma (q ∙ r)) (λ r. no-point (q ∙ r)) (mark_one kind (trim text) p.good) in

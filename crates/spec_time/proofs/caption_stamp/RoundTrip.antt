@@ -8,8 +8,8 @@ use lib.Seq.{append_snoc}
 use native.Mathlib.Nat.{div-add-mod', mod-lt, div-lt_iff_lt-mul, pow-le-pow_right, lt_of_lt_of_le, pow-suc, mul_assoc}
 use native.Mathlib.Omega.{arith}
 use borrow.Author.Tests.{eq-eqb, ne_eqb, lt-ltb, le-ltb, lt-leb}
+use Rattle.std.specs.Prelude.{Some}
 use Rattle.spec_base.proofs.base.Laws.{yes!, no! }
-use Rattle.spec_text.specs.declared.text.Number.TheVariants.{Value}
 use Rattle.spec_text.specs.text.Number.{digits, value_from, natural, number}
 use Rattle.spec_text.specs.pattern.Find.{first, contains, up_to, past}
 use Rattle.spec_text.specs.pattern.Piece.{comma}
@@ -18,10 +18,9 @@ use Rattle.spec_text.specs.unicode.Encode.{encode, Scalar}
 use Rattle.spec_text.proofs.text.Laws.{digit_some, natural_value, unsigned_none}
 use Rattle.spec_text.proofs.unicode.Encoding.{head_other}
 use Rattle.spec_text.proofs.unicode.Trailing.{tail_other}
-use Rattle.spec_time.specs.declared.caption_stamp.Time.TheVariants.{At}
 use Rattle.spec_base.specs.base.Limits.{most_hours, most_minutes, most_seconds}
 use Rattle.spec_time.specs.caption_time.Kind.{kind_bad, units_of, mark_of, fraction_digits, hour_digits}
-use Rattle.spec_time.specs.caption_stamp.Read.{colon, mark_in, point, time_with, wide_by, wide_from, vtt_time, time_in}
+use Rattle.spec_time.specs.caption_stamp.Read.{stamp, colon, mark_in, point, time_with, wide_by, wide_from, vtt_time, time_in}
 use Rattle.spec_time.specs.caption_stamp.Write.{pad, width, widest, text_with, time_text}
 use Rattle.spec_time.proofs.caption_time.Limits.{units_low, fraction_low, fraction_holds}
 use Rattle.spec_time.proofs.caption_stamp.Written.{text_some, text_none}
@@ -72,7 +71,7 @@ pub value_nil : (v : ℕ) → value_from v [] ≡ v
 unfolding value_from
 value_nil v = refl
 
-part_back : (most k n : ℕ) → 0 < k → n < 10 ^ k → n ≤ most → number most (pad k n) ≡ Value n
+part_back : (most k n : ℕ) → 0 < k → n < 10 ^ k → n ≤ most → number most (pad k n) ≡ Some n
 unfolding number
 part_back most k n hk small le =
     let v : value_from 0 (pad k n) ≡ n = ap (value_from 0) (sym (append-nil (pad k n))) ∙ value_pad k 0 n [] small ∙ value_nil (0 * 10 ^ k + n) ∙ omega arith in
@@ -133,7 +132,7 @@ trim_with U frac least mark units hfrac = ap trim_tail headed ∙ with_tail U fr
         ap trim_head (shape U frac least mark units) ∙ head_digit (pad w h) _ (pad_digits w h) (omega (arith, pad_length w h, width_pos h)) ∙ sym (shape U frac least mark units)
 
 module _ (U frac least mark units : ℕ) (hU : 0 < U) (hf : U ≤ 10 ^ frac) (hfrac : 0 < frac) (hm : Mark mark) (hh : units < 36000000 * U) where
-  back_with : time_with U mark (text_with U frac least mark units) ≡ At units mark
+  back_with : time_with U mark (text_with U frac least mark units) ≡ stamp units mark
   unfolding time_with
   back_with =
       let total = units / U in
@@ -152,18 +151,18 @@ module _ (U frac least mark units : ℕ) (hU : 0 < U) (hf : U ≤ 10 ^ frac) (hf
       let e : text_with U frac least mark units ≡ t1 = shape U frac least mark units in
       let p1 : past colon t1 ≡ t2 = past_byte 58 (pad w h) t2 (digits_free 58 cm (pad w h) (pad_digits w h)) in
       let p2 : past colon t2 ≡ t3 = past_byte 58 (pad 2 m) t3 (digits_free 58 cm (pad 2 m) (pad_digits 2 m)) in
-      let H : number most_hours (up_to colon t1) ≡ Value h =
+      let H : number most_hours (up_to colon t1) ≡ Some h =
       ap (number most_hours) (up_byte 58 (pad w h) t2 (digits_free 58 cm (pad w h) (pad_digits w h))) ∙ part_back most_hours w h (omega (arith, width_pos h)) wide (omega arith) in
-      let M : number most_minutes (up_to colon t2) ≡ Value m =
+      let M : number most_minutes (up_to colon t2) ≡ Some m =
       ap (number most_minutes) (up_byte 58 (pad 2 m) t3 (digits_free 58 cm (pad 2 m) (pad_digits 2 m))) ∙ part_back most_minutes 2 m (omega arith) (omega arith) (omega arith) in
-      let S : number most_seconds (up_to (mark ∷ []) t3) ≡ Value s =
+      let S : number most_seconds (up_to (mark ∷ []) t3) ≡ Some s =
       ap (number most_seconds) (up_byte mark (pad 2 s) (pad frac f) (digits_free mark hm (pad 2 s) (pad_digits 2 s))) ∙ part_back most_seconds 2 s (omega arith) (omega arith) (omega arith) in
-      let F : number (U - 1) (past (mark ∷ []) t3) ≡ Value f =
+      let F : number (U - 1) (past (mark ∷ []) t3) ≡ Some f =
       ap (number (U - 1)) (past_byte mark (pad 2 s) (pad frac f) (digits_free mark hm (pad 2 s) (pad_digits 2 s))) ∙
       part_back (U - 1) frac f hfrac (omega (arith, mod-lt units hU)) (omega (arith, mod-lt units hU)) in
       let sum : ((h * 60 + m) * 60 + s) ≡ total = omega arith in
       rw (e, p1, p2, H, M, S, F)
-      (ap (λ (n : ℕ). At n mark) (ap (λ (n : ℕ). n * U + f) sum ∙ div-add-mod' units U))
+      (ap (λ (n : ℕ). stamp n mark) (ap (λ (n : ℕ). n * U + f) sum ∙ div-add-mod' units U))
 
 -- a byte found behind others
 found_at : (c : ℕ) (s t : List ℕ) → Free c s → first (c ∷ []) (s ++ c ∷ t) ≡ length s
@@ -190,7 +189,7 @@ with_last U frac least mark units =
 -- a written time of ASS or SRT, read in its kind, is the time (hours up to 9,999), where the mark written is the one that its reading sees
 module _ (kind mark units : ℕ) (e : kind_bad kind ≡ false) (z : kind ≡ 2 → ⊥) (hm : Mark mark)
     (seen : mark_in kind (text_with (units_of kind) (fraction_digits kind) (hour_digits kind) mark units) ≡ mark) (h : units < 36000000 * units_of kind) where
-  time_back : time_in kind (time_text kind mark units) ≡ At units mark
+  time_back : time_in kind (time_text kind mark units) ≡ stamp units mark
   unfolding time_in
   time_back =
       let U = units_of kind in
@@ -208,14 +207,14 @@ module _ (kind mark units : ℕ) (e : kind_bad kind ≡ false) (z : kind ≡ 2 �
       back_with U f d mark units hU (fraction_holds kind e) hf hm h))))
 
 -- ASS has a point; SRT a comma or a point
-pub ass_back : (units : ℕ) → units < 36000000 * units_of 0 → time_in 0 (time_text 0 46 units) ≡ At units 46
+pub ass_back : (units : ℕ) → units < 36000000 * units_of 0 → time_in 0 (time_text 0 46 units) ≡ stamp units 46
 unfolding mark_in mark_of kind_bad
 ass_back units h = time_back 0 46 units refl (λ z. omega arith) (λ b l r e. omega arith) refl h
 
 plain_comma : Mark 44
 plain_comma = λ b l r e. omega arith
 
-pub comma_back : (units : ℕ) → units < 36000000 * units_of 1 → time_in 1 (time_text 1 44 units) ≡ At units 44
+pub comma_back : (units : ℕ) → units < 36000000 * units_of 1 → time_in 1 (time_text 1 44 units) ≡ stamp units 44
 unfolding mark_in kind_bad
 comma_back units h =
     let front : List ℕ = pad 2 (units / units_of 1 % 60) in
@@ -223,7 +222,7 @@ comma_back units h =
     let seen : contains comma (front ++ 44 ∷ pad (fraction_digits 1) (units % units_of 1)) ≡ true = has_byte 44 front (pad (fraction_digits 1) (units % units_of 1)) free in
     time_back 1 44 units refl (λ z. omega arith) plain_comma (rw (with_last (units_of 1) (fraction_digits 1) (hour_digits 1) 44 units, seen)) h
 
-pub point_back : (units : ℕ) → units < 36000000 * units_of 1 → time_in 1 (time_text 1 46 units) ≡ At units 46
+pub point_back : (units : ℕ) → units < 36000000 * units_of 1 → time_in 1 (time_text 1 46 units) ≡ stamp units 46
 unfolding mark_in kind_bad
 point_back units h =
     let front : List ℕ = pad 2 (units / units_of 1 % 60) in
@@ -235,23 +234,23 @@ point_back units h =
     time_back 1 46 units refl (λ z. omega arith) (λ b l r e. omega arith) (rw (with_last (units_of 1) (fraction_digits 1) (hour_digits 1) 46 units, none)) h
 
 -- ---- WebVTT: digits of their widths
-natural_back : (most k n : ℕ) → 0 < k → n < 10 ^ k → n ≤ most → natural most (pad k n) ≡ Value n
+natural_back : (most k n : ℕ) → 0 < k → n < 10 ^ k → n ≤ most → natural most (pad k n) ≡ Some n
 natural_back most k n hk small le =
     let v : value_from 0 (pad k n) ≡ n = ap (value_from 0) (sym (append-nil (pad k n))) ∙ value_pad k 0 n [] small ∙ value_nil (0 * 10 ^ k + n) ∙ omega arith in
     sym (natural_value most n (pad k n) (omega (arith, pad_length k n)) (digits_true (pad k n) (pad_digits k n)) v le)
 
-wide_back : (most k n : ℕ) → 0 < k → n < 10 ^ k → n ≤ most → wide_by k most (pad k n) ≡ Value n
+wide_back : (most k n : ℕ) → 0 < k → n < 10 ^ k → n ≤ most → wide_by k most (pad k n) ≡ Some n
 unfolding wide_by
 wide_back most k n hk small le = sym (yes! _ (eq-eqb (length (pad k n)) k (pad_length k n)) (sym (natural_back most k n hk small le)))
 
-from_back : (most k n : ℕ) → 2 ≤ k → n < 10 ^ k → n ≤ most → wide_from most (pad k n) ≡ Value n
+from_back : (most k n : ℕ) → 2 ≤ k → n < 10 ^ k → n ≤ most → wide_from most (pad k n) ≡ Some n
 unfolding wide_from
 from_back most k n hk small le = sym (no! _ (le-ltb (length (pad k n)) 2 (omega (arith, pad_length k n))) (sym (natural_back most k n (omega arith) small le)))
 
 pos : (n : ℕ) → 0 < n → 0 < n
 pos n h = h
 
-with_vtt : (units : ℕ) → units < 36000000 * 1000 → vtt_time (text_with 1000 3 2 46 units) ≡ At units 46
+with_vtt : (units : ℕ) → units < 36000000 * 1000 → vtt_time (text_with 1000 3 2 46 units) ≡ stamp units 46
 unfolding vtt_time
 with_vtt units hh =
     let total = units / 1000 in
@@ -272,20 +271,20 @@ with_vtt units hh =
     let p1 : past colon t1 ≡ t2 = past_byte 58 (pad w h) t2 (digits_free 58 cm (pad w h) (pad_digits w h)) in
     let p2 : past colon t2 ≡ t3 = past_byte 58 (pad 2 m) t3 (digits_free 58 cm (pad 2 m) (pad_digits 2 m)) in
     let c2 : contains colon t2 ≡ true = has_byte 58 (pad 2 m) t3 (digits_free 58 cm (pad 2 m) (pad_digits 2 m)) in
-    let H : wide_from most_hours (up_to colon t1) ≡ Value h =
+    let H : wide_from most_hours (up_to colon t1) ≡ Some h =
     ap (wide_from most_hours) (up_byte 58 (pad w h) t2 (digits_free 58 cm (pad w h) (pad_digits w h))) ∙ from_back most_hours w h (omega arith) wide (omega arith) in
-    let M : wide_by 2 most_minutes (up_to colon t2) ≡ Value m =
+    let M : wide_by 2 most_minutes (up_to colon t2) ≡ Some m =
     ap (wide_by 2 most_minutes) (up_byte 58 (pad 2 m) t3 (digits_free 58 cm (pad 2 m) (pad_digits 2 m))) ∙ wide_back most_minutes 2 m (omega arith) (omega arith) (omega arith) in
-    let S : wide_by 2 most_seconds (up_to point t3) ≡ Value s =
+    let S : wide_by 2 most_seconds (up_to point t3) ≡ Some s =
     ap (wide_by 2 most_seconds) (up_byte 46 (pad 2 s) (pad 3 f) (digits_free 46 pm (pad 2 s) (pad_digits 2 s))) ∙ wide_back most_seconds 2 s (omega arith) (omega arith) (omega arith) in
-    let F : wide_by 3 999 (past point t3) ≡ Value f =
+    let F : wide_by 3 999 (past point t3) ≡ Some f =
     ap (wide_by 3 999) (past_byte 46 (pad 2 s) (pad 3 f) (digits_free 46 pm (pad 2 s) (pad_digits 2 s))) ∙ wide_back 999 3 f (omega arith) (omega arith) (omega arith) in
     let sum : ((h * 60 + m) * 60 + s) ≡ total = omega arith in
     rw (e, p1, c2, p2, H, M, S, F)
-    (ap (λ (n : ℕ). At n 46) (ap (λ (n : ℕ). n * 1000 + f) sum ∙ div-add-mod' units 1000))
+    (ap (λ (n : ℕ). stamp n 46) (ap (λ (n : ℕ). n * 1000 + f) sum ∙ div-add-mod' units 1000))
 
 -- WebVTT has a point
-pub vtt_back : (units : ℕ) → units < 36000000 * units_of 2 → time_in 2 (time_text 2 46 units) ≡ At units 46
+pub vtt_back : (units : ℕ) → units < 36000000 * units_of 2 → time_in 2 (time_text 2 46 units) ≡ stamp units 46
 unfolding time_in kind_bad units_of fraction_digits hour_digits
 vtt_back units h =
     ap (λ (s : List ℕ). vtt_time (trim s)) (text_some 2 46 units refl) ∙ ap vtt_time (trim_with 1000 3 2 46 units (omega arith)) ∙ with_vtt units h

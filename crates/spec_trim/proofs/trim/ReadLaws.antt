@@ -8,6 +8,7 @@ use borrow.Author.Tests.{le-leb, lt-leb, eq-eqb, ne_eqb, eqb-true}
 use lib.Dec.{eqb}
 use lib.ListN.{length, take, drop, get_or, set, length-drop}
 use lib.Seq.{sets}
+use Rattle.std.specs.Prelude.{Result, Ok, Err}
 use Rattle.spec_base.specs.base.Limits.{most_list_bytes, most_trims, most_places}
 use Rattle.spec_base.specs.base.Refusal.{◌or_else◌, fault_unless}
 use Rattle.spec_base.specs.base.Put.{put}
@@ -17,9 +18,7 @@ use Rattle.spec_base.proofs.base.PutLaws.{put_nil, take_put, put_take, sets_put}
 use Rattle.spec_text.specs.utf8.Utf8.{utf8}
 use Rattle.spec_text.specs.text.Line.{blank}
 use Rattle.spec_text.specs.pattern.Find.{first}
-use Rattle.spec_sheet.specs.declared.order.DisplayIdx.{DisplayIdx}
-use Rattle.spec_trim.specs.declared.trim.Token.{Token}
-use Rattle.spec_trim.specs.declared.trim.Token.TheVariants.{Range, Fault}
+use Rattle.spec_trim.specs.declared.trim.Range.{Range}
 use Rattle.spec_trim.specs.declared.trim.Parsed.{Parsed}
 use Rattle.spec_trim.specs.trim.Token.{mark, step_of}
 use Rattle.spec_trim.specs.trim.TrimList.{tokens_of, list_tokens, tokens_number, ranges_in, head_number, list_number, range_count, ranges_of, parsed, list_answer, parse_of, range_places}
@@ -57,28 +56,28 @@ answered_number s n = refl
 next_left : (count : ℕ) → count < most_trims → most_trims - count ≡ suc (most_trims - (count + 1))
 next_left count h = omega arith
 
-module _ (s t p : List ℕ) (prev count k : ℕ) (token : Token) (inv : tokens_number most_trims 0 (tokens_of s) ≡ tokens_number (most_trims - count) prev (tokens_of t)) (h : count < most_trims)
+module _ (s t p : List ℕ) (prev count k : ℕ) (token : Result Range ℕ) (inv : tokens_number most_trims 0 (tokens_of s) ≡ tokens_number (most_trims - count) prev (tokens_of t)) (h : count < most_trims)
     (e : k ≡ first mark t) (d : p ≡ take k t) (f : token ≡ step_of prev p) where
   number_here : (ts : List (List ℕ)) → tokens_of t ≡ p ∷ ts → tokens_number most_trims 0 (tokens_of s) ≡ tokens_number (suc (most_trims - (count + 1))) prev (p ∷ ts)
   number_here ts q = inv ∙ ap (λ (l : ℕ). tokens_number l prev (tokens_of t)) (next_left count h) ∙ ap (tokens_number (suc (most_trims - (count + 1))) prev) q
 
   -- a refused token
-  pub read_fault : (n : ℕ) (r : Parsed) → token ≡ Fault n → r ≡ parsed n 0 → r ≡ list_answer (tokens_number most_trims 0 (tokens_of s)) s
+  pub read_fault : (n : ℕ) (r : Parsed) → token ≡ Err n → r ≡ parsed n 0 → r ≡ list_answer (tokens_number most_trims 0 (tokens_of s)) s
   read_fault n r q g =
-      let x : Fault n ≡ step_of prev p = sym q ∙ f in
+      let x : Err n ≡ step_of prev p = sym q ∙ f in
       let w : tokens_number most_trims 0 (tokens_of s) ≡ n = number_here _ (tokens_turn t p k e d) ∙ number_fault_lem (most_trims - (count + 1)) prev n p _ x in
       g ∙ answered_fault s n (fault_some prev n p x) ∙ ap (λ (m : ℕ). list_answer m s) (sym w)
 
-  pub fault_unread : (n : ℕ) (r : Parsed) (x y : List ℕ) → token ≡ Fault n → r ≡ parsed n 0 → r.number ≡ 0 → x ≡ y
+  pub fault_unread : (n : ℕ) (r : Parsed) (x y : List ℕ) → token ≡ Err n → r ≡ parsed n 0 → r.number ≡ 0 → x ≡ y
   fault_unread n r x y q g z = absurd (fault_some prev n p (sym q ∙ f) (sym (ap (λ (u : Parsed). u.number) g) ∙ z))
 
   -- a range
-  module _ (x y : DisplayIdx) (q : token ≡ Range x y) where
+  module _ (r : Range) (q : token ≡ Ok r) where
     abbrev a : ℕ
-    a = x.0
+    a = r.start.0
 
     abbrev b : ℕ
-    b = y.0
+    b = r.«end».0
 
     number_next : (ts : List (List ℕ)) → tokens_of t ≡ p ∷ ts → tokens_number most_trims 0 (tokens_of s) ≡ tokens_number (most_trims - (count + 1)) b ts
     number_next ts g = number_here ts g ∙ number_range (most_trims - (count + 1)) prev a b p ts (sym q ∙ f)

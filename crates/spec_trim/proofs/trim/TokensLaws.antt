@@ -8,6 +8,7 @@ use native.Mathlib.Omega.{arith}
 use borrow.Author.Tests.{lt-ltb, le-ltb}
 use lib.Dec.{ltb}
 use lib.ListN.{length, take, drop}
+use Rattle.std.specs.Prelude.{Result, Ok, Err}
 use Rattle.spec_base.specs.base.Limits.{most_frame}
 use Rattle.spec_base.specs.base.Refusal.{◌or_else◌}
 use Rattle.spec_base.proofs.base.Laws.{yes!, no! }
@@ -15,8 +16,7 @@ use Rattle.spec_base.proofs.base.RefusalLaws.{else_none, else_found}
 use Rattle.spec_text.specs.pattern.Find.{first}
 use Rattle.spec_text.specs.pattern.Piece.{pieces}
 use Rattle.spec_text.proofs.pattern.PieceLaws.{pieces_head, pieces_one}
-use Rattle.spec_trim.specs.declared.trim.Token.{Token}
-use Rattle.spec_trim.specs.declared.trim.Token.TheVariants.{Range, Fault}
+use Rattle.spec_trim.specs.declared.trim.Range.{Range}
 use Rattle.spec_trim.specs.trim.Token.{mark, range, step_of, token_number, token_range, token_end}
 use Rattle.spec_trim.specs.trim.TrimList.{tokens_of, tokens_number, ranges_in}
 use Rattle.spec_trim.proofs.trim.TokenLaws.{TokenKept, step_kept, step_above, step_own}
@@ -37,18 +37,18 @@ unfolding tokens_of
 tokens_one s = pieces_one mark s
 
 -- ---- the number of tokens whose first says x
-number_by : (left prev : ℕ) (t : List ℕ) (ts : List (List ℕ)) (x : Token) → x ≡ step_of prev t → tokens_number (suc left) prev (t ∷ ts) ≡ token_number x or_else tokens_number left (token_end x) ts
+number_by : (left prev : ℕ) (t : List ℕ) (ts : List (List ℕ)) (x : Result Range ℕ) → x ≡ step_of prev t → tokens_number (suc left) prev (t ∷ ts) ≡ token_number x or_else tokens_number left (token_end x) ts
 unfolding tokens_number
-number_by left prev t ts x e = ap (λ (y : Token). token_number y or_else tokens_number left (token_end y) ts) (sym e)
+number_by left prev t ts x e = ap (λ (y : Result Range ℕ). token_number y or_else tokens_number left (token_end y) ts) (sym e)
 
-pub fault_some : (prev n : ℕ) (t : List ℕ) → Fault n ≡ step_of prev t → n ≡ 0 → ⊥
+pub fault_some : (prev n : ℕ) (t : List ℕ) → Err n ≡ step_of prev t → n ≡ 0 → ⊥
 fault_some prev n t e z =
     let k : (2 ≤ n) × (n ≤ 6) = subst TokenKept (sym e) (step_kept prev t) in
     omega arith
 
-pub number_fault_lem : (left prev n : ℕ) (t : List ℕ) (ts : List (List ℕ)) → Fault n ≡ step_of prev t → tokens_number (suc left) prev (t ∷ ts) ≡ n
+pub number_fault_lem : (left prev n : ℕ) (t : List ℕ) (ts : List (List ℕ)) → Err n ≡ step_of prev t → tokens_number (suc left) prev (t ∷ ts) ≡ n
 unfolding token_number
-number_fault_lem left prev n t ts e = number_by left prev t ts (Fault n) e ∙ else_found _ _ (fault_some prev n t e)
+number_fault_lem left prev n t ts e = number_by left prev t ts (Err n) e ∙ else_found _ _ (fault_some prev n t e)
 
 pub number_range : (left prev a b : ℕ) (t : List ℕ) (ts : List (List ℕ)) → range a b ≡ step_of prev t → tokens_number (suc left) prev (t ∷ ts) ≡ tokens_number left b ts
 unfolding token_number token_end
@@ -66,7 +66,7 @@ number_done left prev = refl
 -- ---- the ranges
 pub ranges_range : (prev a b : ℕ) (t : List ℕ) (ts : List (List ℕ)) → range a b ≡ step_of prev t → ranges_in (t ∷ ts) ≡ a ∷ b ∷ ranges_in ts
 unfolding ranges_in token_range
-ranges_range prev a b t ts e = ap (λ (x : Token). token_range x ++ ranges_in ts) (step_own prev t a b (sym e))
+ranges_range prev a b t ts e = ap (λ (x : Result Range ℕ). token_range x ++ ranges_in ts) (step_own prev t a b (sym e))
 
 pub ranges_done : ranges_in [] ≡ []
 unfolding ranges_in
@@ -83,14 +83,16 @@ Ascending prev (a ∷ e ∷ r) = (prev ≤ a) × (a < e) × (e ≤ most_frame) �
 abbrev Taken : ℕ → ℕ → List (List ℕ) → Type 0
 Taken left prev ts = (length ts ≤ left) × (length (ranges_in ts) ≡ 2 * length ts) × Ascending prev (ranges_in ts)
 
-taken_next : (left prev : ℕ) (t : List ℕ) (ts : List (List ℕ)) (x : Token) → x ≡ step_of prev t → tokens_number (suc left) prev (t ∷ ts) ≡ 0
+taken_next : (left prev : ℕ) (t : List ℕ) (ts : List (List ℕ)) (x : Result Range ℕ) → x ≡ step_of prev t → tokens_number (suc left) prev (t ∷ ts) ≡ 0
     → ((e : ℕ) → tokens_number left e ts ≡ 0 → Taken left e ts) → Taken (suc left) prev (t ∷ ts)
-taken_next left prev t ts (Fault n) q z ih = absurd (fault_some prev n t q (sym (number_fault_lem left prev n t ts q) ∙ z))
-taken_next left prev t ts (Range a e) q z ih =
-    let h : Taken left e.0 ts = ih e.0 (sym (number_range left prev a.0 e.0 t ts q) ∙ z) in
-    let k : (a.0 < e.0) × (e.0 ≤ most_frame) = subst TokenKept (sym q) (step_kept prev t) in
-    let g : ranges_in (t ∷ ts) ≡ a.0 ∷ e.0 ∷ ranges_in ts = ranges_range prev a.0 e.0 t ts q in
-    (omega arith, ap length g ∙ omega arith, subst (Ascending prev) (sym g) (step_above prev t a.0 e.0 (sym q), k.0, k.1, h.2))
+taken_next left prev t ts (Err n) q z ih = absurd (fault_some prev n t q (sym (number_fault_lem left prev n t ts q) ∙ z))
+taken_next left prev t ts (Ok r) q z ih =
+    let a = r.start.0 in
+    let e = r.«end».0 in
+    let h : Taken left e ts = ih e (sym (number_range left prev a e t ts q) ∙ z) in
+    let k : (a < e) × (e ≤ most_frame) = subst TokenKept (sym q) (step_kept prev t) in
+    let g : ranges_in (t ∷ ts) ≡ a ∷ e ∷ ranges_in ts = ranges_range prev a e t ts q in
+    (omega arith, ap length g ∙ omega arith, subst (Ascending prev) (sym g) (step_above prev t a e (sym q), k.0, k.1, h.2))
 
 pub zero_taken : (left prev : ℕ) (ts : List (List ℕ)) → tokens_number left prev ts ≡ 0 → Taken left prev ts
 unfolding ranges_in
@@ -107,8 +109,8 @@ number_table left prev [] = inl (number_done left prev)
 number_table zero prev (t ∷ ts) = subst OfTokens (sym (number_many prev (t ∷ ts) (omega arith))) (inr (omega arith, omega arith))
 number_table (suc left) prev (t ∷ ts) = go (step_of prev t) refl (λ e. number_table left e ts)
   where
-    go : (x : Token) → x ≡ step_of prev t → ((e : ℕ) → OfTokens (tokens_number left e ts)) → OfTokens (tokens_number (suc left) prev (t ∷ ts))
-    go (Fault n) q ih =
+    go : (x : Result Range ℕ) → x ≡ step_of prev t → ((e : ℕ) → OfTokens (tokens_number left e ts)) → OfTokens (tokens_number (suc left) prev (t ∷ ts))
+    go (Err n) q ih =
         let k : (2 ≤ n) × (n ≤ 6) = subst TokenKept (sym q) (step_kept prev t) in
         subst OfTokens (sym (number_fault_lem left prev n t ts q)) (inr (k.0, omega arith))
-    go (Range a e) q ih = subst OfTokens (sym (number_range left prev a.0 e.0 t ts q)) (ih e.0)
+    go (Ok r) q ih = subst OfTokens (sym (number_range left prev r.start.0 r.«end».0 t ts q)) (ih r.«end».0)

@@ -1,17 +1,18 @@
+use Rattle.refusals.proofs.Laws.{refused_not_0}
 use Rattle.spec_ask.proofs.ask_census.Answers.{refused, asks_timescale, asks_kind, asks_map, asks_rises, asks_count, whole_kept, kept_count_lem, counted}
 use Rattle.ask_census.proofs.counting.census.Goals as goal
 
-pub returns-then-number-ne0 : goal.returns-then-number-ne0
-returns-then-number-ne0 c = search refused
+pub returns-in-Err : goal.returns-in-Err
+returns-in-Err c = rw c.from.ensures (search (refused, refused_not_0, c.in-Err.ensures))
 
 pub count_starts-t-requires : goal.count_starts-t-requires
-count_starts-t-requires c = (search asks_timescale, search asks_kind, search asks_map, search asks_rises, search asks_count)
+count_starts-t-requires c = let e = c.in-Ok.ensures in (search (asks_timescale, e), search (asks_kind, e), search (asks_map, e), search (asks_rises, e), search (asks_count, e))
 
 pub overflow_sub-result : goal.overflow_sub-result
-overflow_sub-result c = search whole_kept
+overflow_sub-result c = search (whole_kept, c.in-Ok.ensures)
 
-pub overflow_sub-result-2 : goal.overflow_sub-result-2
-overflow_sub-result-2 c = search kept_count_lem
+pub overflow_sub-result-in-Ok : goal.overflow_sub-result-in-Ok
+overflow_sub-result-in-Ok c = search (kept_count_lem, c.in-Ok.ensures)
 
-pub returns : goal.returns
-returns c = search counted depth 12
+pub returns-in-Ok : goal.returns-in-Ok
+returns-in-Ok c = search (counted, c.in-Ok.ensures) depth 12

@@ -4,5 +4,5 @@ use Rattle.ask_delay.proofs.choosing.better.Goals as goal
 pub returns-then-loss-best : goal.returns-then-loss-best
 returns-then-loss-best c = search better_yes
 
-pub returns : goal.returns
-returns c = search better_no
+pub returns-else-loss-best : goal.returns-else-loss-best
+returns-else-loss-best c = search better_no

@@ -1,9 +1,7 @@
-use Prim.Native.Nat.{◌-◌}
+use mathlib.Core.Path.{◌≡◌}
+use Prim.Native.Nat.{◌+◌}
 use Rattle.ask_delay.proofs.ChoiceLaws.{Choosing}
 use Rattle.ask_delay.proofs.choosing.choose.Given as goal
 
-abbrev pub invariant-loop-best : goal.invariant-loop-best
-invariant-loop-best l = Choosing l.losses l.tries l.best
-
-abbrev pub decreases-loop-best : goal.decreases-loop-best
-decreases-loop-best l = l.tries - l.best.tried
+abbrev pub invariant-loop-loss : goal.invariant-loop-loss
+invariant-loop-loss l = Choosing l.losses l.tries l.best × (l.best.tried ≡ l.loss-index + 1)

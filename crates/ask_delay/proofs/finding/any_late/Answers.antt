@@ -1,18 +1,14 @@
-use mathlib.Core.Path.{refl}
-use Rattle.ask_delay.proofs.AnswerLaws.{late_found, late_again, late_less, late_none}
+use mathlib.Core.Path.{sym, ◌∙◌}
+use borrow.Author.Rules.{rules}
+use borrow.Author.Tests.{tests}
+use lib.Dec.{ltb}
+use Rattle.std.proofs.lemmas.Iterator.{YieldsList-from_slice}
+use Rattle.std.proofs.lemmas.Iterator.Search.{any_from_yields_List}
+use Rattle.spec_base.specs.base.Limits.{most_units}
+use Rattle.ask_delay.proofs.AnswerLaws.{late_any}
 use Rattle.ask_delay.proofs.finding.any_late.Goals as goal
 
-pub loop-t-init : goal.loop-t-init
-loop-t-init c = refl
-
-pub returns-then-word-gt-MOST_UNITS : goal.returns-then-word-gt-MOST_UNITS
-returns-then-word-gt-MOST_UNITS c = search late_found
-
-pub loop-t-smaller : goal.loop-t-smaller
-loop-t-smaller c = search late_less
-
-pub loop-t-preserved : goal.loop-t-preserved
-loop-t-preserved c = search late_again
-
 pub returns : goal.returns
-returns c = search late_none
+returns c =
+    any_from_yields_List (ltb most_units) _ _ _ c.any.ensures.ran (YieldsList-from_slice c.args.captions.now cc) (λ x b q k. search (rules, tests))
+    ∙ sym (late_any c.args.captions.now)

@@ -7,11 +7,11 @@ overflow_add-at c = search sum_fits
 pub overflow_sub-at : goal.overflow_sub-at
 overflow_sub-at c = search less_fits
 
-pub returns-in-Below : goal.returns-in-Below
-returns-in-Below c = search lost_start
+pub returns-in-None : goal.returns-in-None
+returns-in-None c = search lost_start
 
-pub returns-in-Below-under : goal.returns-in-Below-under
-returns-in-Below-under c = search lost_end depth 12
+pub returns-in-None-under : goal.returns-in-None-under
+returns-in-None-under c = search lost_end depth 12
 
-pub returns-in-At-under : goal.returns-in-At-under
-returns-in-At-under c = search lost_grade depth 14
+pub returns-in-Some-under : goal.returns-in-Some-under
+returns-in-Some-under c = search lost_grade depth 14

@@ -10,11 +10,8 @@ use Rattle.ask_delay.proofs.moving.delay_at.Goals as goal
 
 pub returns-then-k-eq1 : goal.returns-then-k-eq1
 unfolding delay_of
-returns-then-k-eq1 c = let k = c.args.k in rw (to_z_pos w64 (k / 2 + 1) (omega arith), eq-eqb (k % 2) 1 c.if-k-eq1.true)
+returns-then-k-eq1 c = let k = c.args.k in rw (c.from.ensures, to_z_pos w64 (k / 2 + 1) (omega arith), eq-eqb (k % 2) 1 c.if-k-eq1.true)
 
-pub overflow_sub-result : goal.overflow_sub-result
-overflow_sub-result c = let k = c.args.k in rw (to_z_pos w64 (k / 2) (omega arith), zero_less (pos (k / 2))) (neg_fits (pos (k / 2)) (omega arith))
-
-pub returns : goal.returns
+pub returns-else-k-eq1 : goal.returns-else-k-eq1
 unfolding delay_of
-returns c = let k = c.args.k in rw (to_z_pos w64 (k / 2) (omega arith), zero_less (pos (k / 2)), to_z-of_z w64 _ (neg_fits (pos (k / 2)) (omega arith)), ne_eqb (k % 2) 1 c.if-k-eq1.false)
+returns-else-k-eq1 c = let k = c.args.k in rw (c.from-else-k-eq1.ensures, to_z_pos w64 (k / 2) (omega arith), zero_less (pos (k / 2)), to_z-of_z w64 _ (neg_fits (pos (k / 2)) (omega arith)), ne_eqb (k % 2) 1 c.if-k-eq1.false)

@@ -1,27 +1,23 @@
-use Rattle.spec_map.proofs.segment.SegmentLaws.{six_less}
-use Rattle.spec_ask.proofs.ask_reason.CauseLaws.{Filling, filling_start, filling_index, index_fits, next_fits, filling_again, filling_end}
+use mathlib.Core.Path.{◌∙◌}
+use native.Mathlib.Omega.{arith}
+use Rattle.spec_ask.proofs.ask_reason.CauseLaws.{filling_start, filling_again, filling_end}
+use Rattle.ask_reason.proofs.Chunks.{chunk}
 use Rattle.ask_reason.proofs.causes.fill.Goals as goal
 
-pub loop-t-init : goal.loop-t-init
-loop-t-init c = search filling_start
+pub loop-i-init : goal.loop-i-init
+loop-i-init c =
+    let e = c.into_iter-i-iterator.ensures.into_iter_gives in
+    let f = c.enumerate-i-items.ensures in
+    let g = c.chunks_exact.ensures in
+    (rw (e, f.source) g.size, rw (e, f.source, f.count, g.rest) (filling_start _ _ _ _ c.requires))
 
-pub offset_bounds-places-i : goal.offset_bounds-places-i
-offset_bounds-places-i c = search index_fits
-
-pub bounds-places-i : goal.bounds-places-i
-bounds-places-i c = search filling_index
-
-pub overflow_add-i : goal.overflow_add-i
-overflow_add-i c = search next_fits
-
-pub loop-t-smaller : goal.loop-t-smaller
-loop-t-smaller c = search six_less
-
-pub loop-t-preserved : goal.loop-t-preserved
-loop-t-preserved c = search filling_again depth 12
-
-pub shape_of-places : goal.shape_of-places
-shape_of-places c = search (Filling.size) depth 8
+pub loop-i-preserved : goal.loop-i-preserved
+loop-i-preserved c =
+    let l = c.loop-i.invariant in
+    let p = c.in-Some.ensures.steps in
+    let k = chunk 6 _ _ _ p.0.1.0 (p.0.1.1 ∙ l.0) in
+    let t = filling_again _ _ _ _ _ _ _ l.1 k.long _ _ _ (k.at 2 (omega arith)) (k.at 5 (omega arith)) c.cause.ensures _ k.left in
+    (p.0.0 ∙ l.0, rw (p.2, p.1) t)
 
 pub returns : goal.returns
-returns c = search filling_end
+returns c = let l = c.loop-i.invariant in let p = c.in-None.ensures.steps in filling_end _ _ _ _ _ _ _ l.1 (omega (arith, l.0, p.0.1.0))

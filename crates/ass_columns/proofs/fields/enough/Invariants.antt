@@ -4,8 +4,8 @@ use lib.ListN.{length}
 use Rattle.spec_ass.specs.ass_columns.Columns.{fields}
 use Rattle.ass_columns.proofs.fields.enough.Given as goal
 
-abbrev pub invariant-loop-t : goal.invariant-loop-t
-invariant-loop-t l = leb l.left (length (fields l.left l.t)) ≡ leb l.columns (length (fields l.columns l.s))
+abbrev pub invariant-loop-chunk : goal.invariant-loop-chunk
+invariant-loop-chunk l = leb l.left (length (fields l.left l.t)) ≡ leb l.columns (length (fields l.columns l.s))
 
-abbrev pub decreases-loop-t : goal.decreases-loop-t
-decreases-loop-t l = length l.t
+abbrev pub decreases-loop-chunk : goal.decreases-loop-chunk
+decreases-loop-chunk l = length l.t

@@ -1,9 +1,5 @@
-use lib.ListN.{length}
-use Rattle.spec_ass.proofs.ass_columns.ColumnLaws.{Left}
+use Rattle.ass_columns.proofs.PieceLoop.{Parts}
 use Rattle.ass_columns.proofs.layout.columns_of.Given as goal
 
-abbrev pub invariant-loop-t : goal.invariant-loop-t
-invariant-loop-t l = Left l.s l.t l.columns l.trimmed l.start l.end
-
-abbrev pub decreases-loop-t : goal.decreases-loop-t
-decreases-loop-t l = length l.t
+abbrev pub invariant-loop-piece : goal.invariant-loop-piece
+invariant-loop-piece l = Parts l.s l.piece-iterator.rest.now l.piece-iterator.done l.columns l.trimmed l.start l.end

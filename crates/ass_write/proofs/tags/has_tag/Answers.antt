@@ -1,24 +1,16 @@
 use mathlib.Core.Path.{refl}
-use Prim.Native.Nat.{◌-◌}
-use native.Mathlib.Omega.{arith}
-use Rattle.spec_ass.proofs.ass_write.TagLaws.{tag_found, tag_again, tag_miss, tag_none}
-use borrow.Author.Rules.{rules}
+use Rattle.spec_ass.proofs.ass_write.TagLaws.{tag_none}
+use Rattle.ass_write.proofs.TagSearch.{search_found, search_again}
 use Rattle.ass_write.proofs.tags.has_tag.Goals as goal
 
-pub found-init : goal.found-init
-found-init c = (refl, search rules, refl)
+pub loop-i-init : goal.loop-i-init
+loop-i-init c = refl
 
-pub loop-k-init : goal.loop-k-init
-loop-k-init c = (c.found.invariant.0, search rules, refl)
+pub returns-then-starts_tag : goal.returns-then-starts_tag
+returns-then-starts_tag c = search search_found
 
-pub loop-k-preserved : goal.loop-k-preserved
-loop-k-preserved c = (search rules, omega arith, search tag_miss)
+pub loop-i-preserved : goal.loop-i-preserved
+loop-i-preserved c = search search_again
 
-pub found-preserved : goal.found-preserved
-found-preserved c = (search rules, omega arith, search tag_again)
-
-pub returns-after-found : goal.returns-after-found
-returns-after-found c = search tag_none
-
-pub returns-then-tag_at : goal.returns-then-tag_at
-returns-then-tag_at c = search tag_found
+pub returns : goal.returns
+returns c = tag_none _ _ _ c.loop-i.invariant c.loop-i-test.false refl

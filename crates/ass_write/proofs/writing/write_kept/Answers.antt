@@ -1,6 +1,6 @@
-use mathlib.Core.Path.{◌≡◌}
+use mathlib.Core.Path.{◌∙◌}
 use Prim.Native.Nat.{◌^◌, ◌<◌, ◌≤◌}
-use lib.ListN.{take, length, replicate}
+use lib.ListN.{length, replicate}
 use native.Mathlib.Omega.{arith}
 use Rattle.spec_time.specs.caption_stamp.Write.{time_text}
 use Rattle.spec_time.proofs.caption_stamp.Written.{text_23}
@@ -19,4 +19,4 @@ returns c =
     let ea = text_held_lem _ (replicate 24 0) n.new.out n.result first_fits n.ensures.0 n.ensures.1 in
     let eb = text_held_lem _ (replicate 24 0) m.new.out m.result last_fits m.ensures.0 m.ensures.1 in
     let w = c.write_line.ensures in
-    (rw (ea, eb) at w.0, rw (ea, eb) at w.1)
+    (rw (c.front.ensures ∙ ea, c.front-2.ensures ∙ eb) at w.0, rw (c.front.ensures ∙ ea, c.front-2.ensures ∙ eb) at w.1)

@@ -6,6 +6,6 @@ pub returns-then-number-eq0 : goal.returns-then-number-eq0
 unfolding left_in
 returns-then-number-eq0 c = search chain depth 12
 
-pub returns : goal.returns
+pub returns-else-number-eq0 : goal.returns-else-number-eq0
 unfolding left_in
-returns c = search chain depth 12
+returns-else-number-eq0 c = search chain depth 12

@@ -1,19 +1,17 @@
 use native.Mathlib.Omega.{arith}
-use Rattle.spec_cue.proofs.block_cue.CountLaws.{count_more, lines_room, lines_over}
-use Rattle.spec_text.proofs.text.LineLaws.{line_less}
+use lib.Dec.{eqb}
+use Rattle.std.proofs.lemmas.List.Sums.{count_by-le-length}
+use Rattle.block_cue.proofs.LineCount.{no_lines, ended, one_open}
 use Rattle.block_cue.proofs.numbering.lines_in.Goals as goal
 
-pub loop-t-init : goal.loop-t-init
-loop-t-init c = (omega arith, omega arith)
+pub returns-in-empty : goal.returns-in-empty
+returns-in-empty c = search no_lines
 
-pub overflow_add-n : goal.overflow_add-n
-overflow_add-n c = omega arith
+pub returns-in-10 : goal.returns-in-10
+returns-in-10 c = search ended
 
-pub loop-t-smaller : goal.loop-t-smaller
-loop-t-smaller c = search line_less
+pub overflow_add-result : goal.overflow_add-result
+overflow_add-result c = omega (arith, c.well_formed, count_by-le-length (λ b. eqb b 10) c.args.block.now)
 
-pub loop-t-preserved : goal.loop-t-preserved
-loop-t-preserved c = (search count_more, search lines_room)
-
-pub returns : goal.returns
-returns c = search lines_over
+pub returns-in_default : goal.returns-in_default
+returns-in_default c = search one_open

@@ -1,14 +1,10 @@
-use Rattle.spec_cue.proofs.block_cue.WriteLaws.{warn_both, warn_tag, warn_lost, warn_none}
+use Rattle.spec_cue.specs.block_cue.BlockThrough.{number_in}
+use Rattle.spec_cue.proofs.block_cue.WriteLaws.{warn_none, warn_number}
+use Rattle.block_cue.proofs.BlockForms.{warn_two}
 use Rattle.block_cue.proofs.srt.warn.Goals as goal
 
-pub returns-then-stamped : goal.returns-then-stamped
-returns-then-stamped c = warn_both c.args.lost c.args.stamped c.args.line c.args.warnings.now c.requires _ _ c.pair_at-at.ensures c.if-lost.true _ _ c.if-stamped.true c.pair_at.ensures
-
-pub returns-then-lost : goal.returns-then-lost
-returns-then-lost c = warn_tag c.args.lost c.args.stamped c.args.line c.args.warnings.now c.requires _ _ c.pair_at-at.ensures c.if-lost.true c.if-stamped.false
-
-pub returns-then-stamped-2 : goal.returns-then-stamped-2
-returns-then-stamped-2 c = warn_lost c.args.lost c.args.stamped c.args.line c.args.warnings.now c.requires _ _ c.if-lost.false c.if-stamped-2.true c.pair_at-then-stamped-2.ensures
-
 pub returns : goal.returns
-returns c = warn_none c.args.lost c.args.stamped c.args.line c.args.warnings.now c.requires c.if-lost.false c.if-stamped-2.false
+returns c = warn_number c.args.lost c.args.stamped (number_in c.args.site.last c.args.site.above c.args.site.block.now) _ _ c.args.warnings.now _ c.number_in-line.ensures (warn_two _ _ _ _ _ _ _ _ _ _ c.requires.0 c.warn_at-at.ensures c.warn_at.ensures)
+
+pub returns-then-not-stamped : goal.returns-then-not-stamped
+returns-then-not-stamped c = warn_none _ _ _ _ c.requires.0 c.if-not-lost.true c.if-not-stamped.true

@@ -1,12 +1,8 @@
-use Rattle.spec_cue.specs.block_cue.BlockThrough.{number_in}
-use Rattle.spec_cue.proofs.block_cue.WriteLaws.{warn_none, warn_number}
+use Rattle.block_cue.proofs.BlockForms.{warn_yes, warn_no}
 use Rattle.block_cue.proofs.srt.warn_at.Goals as goal
 
-pub returns-then-lost : goal.returns-then-lost
-returns-then-lost c = warn_number c.args.lost c.args.stamped (number_in c.args.last c.args.k c.args.block.now) _ _ c.args.warnings.now _ c.number_in.ensures c.warn.ensures
+pub returns-then-warns : goal.returns-then-warns
+returns-then-warns c = warn_yes _ _ _ _ _ _ _ c.if-warns.true c.put_at.ensures
 
-pub returns-then-stamped : goal.returns-then-stamped
-returns-then-stamped c = warn_number c.args.lost c.args.stamped (number_in c.args.last c.args.k c.args.block.now) _ _ c.args.warnings.now _ c.number_in-then-stamped.ensures c.warn-then-stamped.ensures
-
-pub returns : goal.returns
-returns c = warn_none c.args.lost c.args.stamped (number_in c.args.last c.args.k c.args.block.now) c.args.warnings.now c.requires.0 c.if-lost.false c.if-stamped.false
+pub returns-else-warns : goal.returns-else-warns
+returns-else-warns c = warn_no _ _ _ _ _ c.if-warns.false

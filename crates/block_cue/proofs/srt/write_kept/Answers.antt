@@ -9,4 +9,4 @@ pub returns : goal.returns
 returns c =
     let first : c.args.new.start < 2 ^ 64 = omega arith in
     let last : c.args.new.stop < 2 ^ 64 = omega arith in
-    frame_written _ (time_text c.args.kind c.args.new.start_mark c.args.new.start) (time_text c.args.kind c.args.new.stop_mark c.args.new.stop) _ _ _ _ _ _ _ _ _ _ _ _ _ _ _ _ _ _ (text_23 _ _ _ first) (text_23 _ _ _ last) c.requires c.bytes_at-a.ensures c.write_time_at-b.ensures c.put_arrow-c.ensures c.write_time_at-d.ensures c.bytes_at-e.ensures c.bytes_at-f.ensures c.bytes_at.ensures
+    frame_written _ (time_text c.args.kind c.args.new.start_mark c.args.new.start) (time_text c.args.kind c.args.new.stop_mark c.args.new.stop) _ _ _ _ _ _ _ _ _ _ _ _ _ _ _ _ _ _ (text_23 _ _ _ first) (text_23 _ _ _ last) c.requires c.put_at-a.ensures c.write_time_at-b.ensures c.put_at-c.ensures c.write_time_at-d.ensures c.put_at-e.ensures c.put_at-f.ensures c.put_at.ensures

@@ -6,6 +6,6 @@ pub returns-then-kind-eq2 : goal.returns-then-kind-eq2
 unfolding end_in
 returns-then-kind-eq2 c = search calls depth 12
 
-pub returns : goal.returns
+pub returns-else-kind-eq2 : goal.returns-else-kind-eq2
 unfolding end_in
-returns c = search calls depth 12
+returns-else-kind-eq2 c = search calls depth 12

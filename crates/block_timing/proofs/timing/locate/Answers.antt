@@ -10,9 +10,6 @@ loop-t-init c = (refl, omega arith, omega arith)
 pub returns-then-has_arrow-clause-value : goal.returns-then-has_arrow-clause-value
 returns-then-has_arrow-clause-value c = search place_found depth 14
 
-pub returns-then-has_arrow-clause-few : goal.returns-then-has_arrow-clause-few
-returns-then-has_arrow-clause-few c = omega arith
-
 pub overflow_add-at : goal.overflow_add-at
 overflow_add-at c = omega (arith, line_inside _ _ c.line_length-n.ensures)
 
@@ -23,10 +20,7 @@ pub loop-t-smaller : goal.loop-t-smaller
 loop-t-smaller c = search line_less
 
 pub loop-t-preserved : goal.loop-t-preserved
-loop-t-preserved c = (place_again _ _ _ _ _ _ _ _ _ c.loop-t.invariant.0 c.loop-t-test.true c.line_length-n.ensures c.front-line.ensures c.text_of.ensures c.has_arrow.ensures c.if-has_arrow.false c.rest-u.ensures, search rest_sum, search lines_few)
+loop-t-preserved c = (place_again _ _ _ _ _ _ _ _ _ c.loop-t.invariant.0 c.loop-t-test.true c.line_length-n.ensures c.front-line.ensures c.text_of.ensures c.has_arrow.ensures c.if-has_arrow.false c.rest-t.ensures, search rest_sum, search lines_few)
 
 pub returns-clause-value : goal.returns-clause-value
 returns-clause-value c = search place_none
-
-pub returns-clause-few : goal.returns-clause-few
-returns-clause-few c = omega arith

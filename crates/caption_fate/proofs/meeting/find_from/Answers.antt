@@ -18,7 +18,7 @@ pub loop-t-smaller : goal.loop-t-smaller
 loop-t-smaller c = search six_less
 
 pub loop-t-preserved : goal.loop-t-preserved
-loop-t-preserved c = seeking_again _ _ _ _ _ _ _ _ _ _ c.loop-t.invariant c.loop-t-test.true c.word.ensures c.word-in-loop-t.ensures c.meets_within.ensures _ c.if-meets_within.false c.words_rest-u.ensures
+loop-t-preserved c = seeking_again _ _ _ _ _ _ _ _ _ _ c.loop-t.invariant c.loop-t-test.true c.get_or.ensures c.get_or-in-loop-t.ensures c.meets_within.ensures _ c.if-meets_within.false c.rest-u.ensures
 
 pub returns : goal.returns
 returns c = search seeking_none

@@ -8,7 +8,7 @@ pub overflow_mul-place : goal.overflow_mul-place
 overflow_mul-place c = omega (arith, c.passed-place.ensures.within)
 
 pub loop-t-init : goal.loop-t-init
-loop-t-init c = hit_start _ _ _ _ _ c.passed-place.ensures c.words_rest-t.ensures
+loop-t-init c = hit_start _ _ _ _ _ c.passed-place.ensures c.rest-t.ensures
 
 pub returns-then-meets : goal.returns-then-meets
 returns-then-meets c = search hit_found depth 12

@@ -1,6 +1,5 @@
-use Prim.Native.Nat.{ℕ}
 use native.Mathlib.Omega.{arith}
-use Rattle.spec_caption.proofs.caption_fate.DecideLaws.{kept_all, fits, Fits}
+use Rattle.spec_caption.proofs.caption_fate.DecideLaws.{kept_all, fits}
 use Rattle.caption_fate.proofs.retiming.retime.Goals as goal
 
 pub overflow_add-last : goal.overflow_add-last

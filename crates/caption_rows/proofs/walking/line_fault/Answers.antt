@@ -7,5 +7,5 @@ returns-then-mark-line-gt-MOST_LINE c = search fault_19
 pub returns-then-is_utf8 : goal.returns-then-is_utf8
 returns-then-is_utf8 c = search fault_none
 
-pub returns : goal.returns
-returns c = search fault_20
+pub returns-else-is_utf8 : goal.returns-else-is_utf8
+returns-else-is_utf8 c = search fault_20

@@ -1,4 +1,3 @@
-use Prim.Native.Nat.{◌-◌}
 use Rattle.spec_rows.proofs.caption_rows.WalkLaws.{ass_start, ass_room_1, ass_room_2, ass_room_3, ass_same, ass_stop, ass_count, ass_at, ass_less, ass_again, ass_over}
 use Rattle.caption_rows.proofs.walking.walk_ass.Goals as goal
 

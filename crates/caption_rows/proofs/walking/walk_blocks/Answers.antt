@@ -1,5 +1,4 @@
 use native.Mathlib.Omega.{arith}
-use Prim.Native.Nat.{◌-◌}
 use Rattle.spec_rows.proofs.caption_rows.WalkLaws.{block_start, block_known, block_first_lem, block_room_1, block_room_2, block_room_3, block_room_4, block_same, last_same, block_stop, block_count, block_at, block_less, block_again, last_first, last_from, last_stop, last_over}
 use Rattle.caption_rows.proofs.walking.walk_blocks.Goals as goal
 

@@ -1,17 +1,6 @@
-use Rattle.caption_stamp.proofs.PlainLaws.{no_plain, read_ass}
+use Rattle.caption_stamp.proofs.PlainLaws.{if_some, read_ass}
 use Rattle.caption_stamp.proofs.read.plain_ass.Goals as goal
 
-pub returns-then-t-ne10 : goal.returns-then-t-ne10
-returns-then-t-ne10 c = no_plain _ _
-
-pub returns-then-t-ne58 : goal.returns-then-t-ne58
-returns-then-t-ne58 c = no_plain _ _
-
-pub returns-then-t-ne58-2 : goal.returns-then-t-ne58-2
-returns-then-t-ne58-2 c = no_plain _ _
-
-pub returns-then-t-ne46 : goal.returns-then-t-ne46
-returns-then-t-ne46 c = no_plain _ _
-
 pub returns : goal.returns
-returns c = search read_ass depth 14
+returns c =
+    if_some _ (λ v p. read_ass c.args.t.now _ _ _ _ v c.if-t-ne10.false c.if-t-ne58.false c.if-t-ne58-2.false c.if-t-ne46.false c.in_ok-h.ensures c.in_ok-m.ensures c.in_ok-s.ensures c.in_ok-f.ensures p) c.parts_units.ensures

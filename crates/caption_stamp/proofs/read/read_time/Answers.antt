@@ -8,8 +8,8 @@ returns-then-kind_bad c = search read_none
 pub returns-then-kind-eq2 : goal.returns-then-kind-eq2
 returns-then-kind-eq2 c = search read_two
 
-pub returns-then-units-lt-NO_UNITS : goal.returns-then-units-lt-NO_UNITS
-returns-then-units-lt-NO_UNITS c = search read_plain depth 12
+pub returns-in-Some : goal.returns-in-Some
+returns-in-Some c = read_plain _ _ _ _ _ _ c.kind_bad.ensures c.if-kind_bad.false c.if-kind-eq2.false c.trimmed-t.ensures c.in-Some.ensures c.mark_of.ensures
 
 pub read_with-requires : goal.read_with-requires
 read_with-requires c = read_limits _ _ _ c.kind_bad.ensures c.if-kind_bad.false c.units_of.ensures

@@ -2,15 +2,6 @@ use native.Mathlib.Omega.{arith}
 use Rattle.spec_time.proofs.caption_stamp.Pad.{width_small, width_big}
 use Rattle.caption_stamp.proofs.write.digits.Goals as goal
 
-pub loop-rest-init : goal.loop-rest-init
-loop-rest-init c = omega arith
-
-pub overflow_add-w : goal.overflow_add-w
-overflow_add-w c = omega arith
-
-pub loop-rest-smaller : goal.loop-rest-smaller
-loop-rest-smaller c = omega arith
-
 pub loop-rest-preserved : goal.loop-rest-preserved
 loop-rest-preserved c = omega (arith, width_big c.loop-rest-test.true)
 

@@ -4,11 +4,11 @@ use Rattle.spec_time.proofs.caption_time.Limits.{ticks_fit, core_end_yes}
 use Rattle.caption_time.proofs.convert.core_end.Goals as goal
 
 pub scale_up-requires : goal.scale_up-requires
-scale_up-requires c = ticks_fit _ _ _ _ _ c.if-core_holds.true c.units_of.ensures c.core_holds.ensures
+scale_up-requires c = simp (c.from.ensures, c.from-then-core_holds.ensures) (ticks_fit _ _ _ _ _ c.if-core_holds.true c.units_of.ensures c.core_holds.ensures)
 
 pub returns-then-core_holds : goal.returns-then-core_holds
-returns-then-core_holds c = search core_end_yes
+returns-then-core_holds c = let e = simp (c.from.ensures, c.from-then-core_holds.ensures) at c.scale_up.ensures in core_end_yes _ _ _ _ _ c.if-core_holds.true c.units_of.ensures _ c.core_holds.ensures e
 
-pub returns : goal.returns
+pub returns-else-core_holds : goal.returns-else-core_holds
 unfolding end_within
-returns c = search calls depth 12 fits 20000
+returns-else-core_holds c = search calls depth 12 fits 20000

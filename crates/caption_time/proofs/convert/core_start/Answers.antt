@@ -4,11 +4,11 @@ use Rattle.spec_time.proofs.caption_time.Limits.{ticks_fit, core_start_yes}
 use Rattle.caption_time.proofs.convert.core_start.Goals as goal
 
 pub scale_down-requires : goal.scale_down-requires
-scale_down-requires c = ticks_fit _ _ _ _ _ c.if-core_holds.true c.units_of.ensures c.core_holds.ensures
+scale_down-requires c = simp (c.from.ensures, c.from-then-core_holds.ensures) (ticks_fit _ _ _ _ _ c.if-core_holds.true c.units_of.ensures c.core_holds.ensures)
 
 pub returns-then-core_holds : goal.returns-then-core_holds
-returns-then-core_holds c = search core_start_yes
+returns-then-core_holds c = let e = simp (c.from.ensures, c.from-then-core_holds.ensures) at c.scale_down.ensures in core_start_yes _ _ _ _ _ c.if-core_holds.true c.units_of.ensures _ c.core_holds.ensures e
 
-pub returns : goal.returns
+pub returns-else-core_holds : goal.returns-else-core_holds
 unfolding start_within
-returns c = search calls depth 12 fits 20000
+returns-else-core_holds c = search calls depth 12 fits 20000

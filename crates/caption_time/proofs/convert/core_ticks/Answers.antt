@@ -4,11 +4,11 @@ use Rattle.spec_time.proofs.caption_time.Limits.{units_fit, core_ticks_yes}
 use Rattle.caption_time.proofs.convert.core_ticks.Goals as goal
 
 pub scale_down-requires : goal.scale_down-requires
-scale_down-requires c = units_fit _ _ _ _ _ c.if-core_holds.true c.units_of.ensures c.core_holds.ensures
+scale_down-requires c = simp (c.from.ensures, c.from-then-core_holds.ensures) (units_fit _ _ _ _ _ c.if-core_holds.true c.units_of.ensures c.core_holds.ensures)
 
 pub returns-then-core_holds : goal.returns-then-core_holds
-returns-then-core_holds c = search core_ticks_yes
+returns-then-core_holds c = let e = simp (c.from.ensures, c.from-then-core_holds.ensures) at c.scale_down.ensures in core_ticks_yes _ _ _ _ _ c.if-core_holds.true c.units_of.ensures _ c.core_holds.ensures e
 
-pub returns : goal.returns
+pub returns-else-core_holds : goal.returns-else-core_holds
 unfolding ticks_within
-returns c = search calls depth 12 fits 20000
+returns-else-core_holds c = search calls depth 12 fits 20000

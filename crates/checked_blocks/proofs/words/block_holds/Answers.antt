@@ -1,11 +1,10 @@
+use native.Mathlib.Omega.{arith}
+use Rattle.std.proofs.lemmas.Grind.{common_steps}
 use Rattle.spec_sheet.proofs.checked_blocks.WordLaws.{block_missing, block_other, block_checked}
 use Rattle.checked_blocks.proofs.words.block_holds.Goals as goal
 
-pub returns-then-s-b : goal.returns-then-s-b
-returns-then-s-b c = search block_missing
+pub returns-then-word_in-b : goal.returns-then-word_in-b
+returns-then-word_in-b c = grind (arith, common_steps, block_checked)
 
-pub returns-then-number-b : goal.returns-then-number-b
-returns-then-number-b c = search block_other
-
-pub returns : goal.returns
-returns c = search block_checked
+pub returns-else-word_in-b : goal.returns-else-word_in-b
+returns-else-word_in-b c = grind (arith, common_steps, block_missing, block_other)

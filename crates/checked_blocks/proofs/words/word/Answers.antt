@@ -4,5 +4,5 @@ use Rattle.checked_blocks.proofs.words.word.Goals as goal
 pub returns-then-whole-i : goal.returns-then-whole-i
 returns-then-whole-i c = search word_past
 
-pub returns : goal.returns
-returns c = search word_at_lem
+pub returns-else-whole-i : goal.returns-else-whole-i
+returns-else-whole-i c = search word_at_lem

@@ -7,4 +7,4 @@ returns-in_default g c = none_held
 
 pub returns : goal.returns
 returns g c =
-    file_held _ c.read_full.new.buf _ c.in_ok-n.n _ c.front.ensures c.bytes-length.ensures (omega (arith, c.in_ok-n.ensures.bound))
+    file_held _ c.read_full.new.buf _ c.in_ok-n.n _ c.front.ensures c.put-length.ensures (omega (arith, c.in_ok-n.ensures.bound))

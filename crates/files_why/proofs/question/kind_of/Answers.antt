@@ -14,6 +14,6 @@ pub returns-then-equals-3 : goal.returns-then-equals-3
 unfolding kind_of
 returns-then-equals-3 c = search calls depth 12 fits 20000
 
-pub returns : goal.returns
+pub returns-else-equals-3 : goal.returns-else-equals-3
 unfolding kind_of
-returns c = search calls depth 12 fits 20000
+returns-else-equals-3 c = search calls depth 12 fits 20000

@@ -1,24 +1,16 @@
-use Rattle.spec_base.proofs.base.Laws.{drop_less}
-use Rattle.spec_json.proofs.json.CharsLaws.{into_start, into_again, into_stop, into_stop_2, into_end, into_end_2, into_length}
+use mathlib.Core.Path.{sym}
+use Rattle.spec_json.proofs.json.CharsLaws.{into_start, into_again, into_stop, into_stop_2}
+use Rattle.json_strings.proofs.WideLaws.{wide_less}
 use Rattle.json_strings.proofs.string.chars_into.Goals as goal
 
-pub loop-t-init : goal.loop-t-init
-loop-t-init c = search into_start
+pub loop-w-init : goal.loop-w-init
+loop-w-init c = search into_start
 
-pub shape_of-out-then-w-eq0 : goal.shape_of-out-then-w-eq0
-shape_of-out-then-w-eq0 c = search into_length
+pub loop-w-smaller : goal.loop-w-smaller
+loop-w-smaller c = search (wide_less, c.in-Some.ensures.0, c.in-Some.ensures.1)
 
-pub returns-then-w-eq0 : goal.returns-then-w-eq0
-returns-then-w-eq0 c = (search into_stop, search into_stop_2)
-
-pub loop-t-smaller : goal.loop-t-smaller
-loop-t-smaller c = search drop_less
-
-pub loop-t-preserved : goal.loop-t-preserved
-loop-t-preserved c = search into_again
-
-pub shape_of-out : goal.shape_of-out
-shape_of-out c = search into_length
+pub loop-w-preserved : goal.loop-w-preserved
+loop-w-preserved c = search (into_again, c.in-Some.ensures.0, c.in-Some.ensures.1)
 
 pub returns : goal.returns
-returns c = (search into_end, search into_end_2)
+returns c = (search (into_stop, sym c.in_default.ensures), search (into_stop_2, sym c.in_default.ensures))

@@ -1,24 +1,16 @@
-use native.Mathlib.Omega.{arith}
-use mathlib.Core.Path.{sym}
-use native.Mathlib.Nat.{zero-add}
-use Rattle.spec_base.proofs.base.Laws.{drop_less}
-use Rattle.spec_json.proofs.json.CharsLaws.{size_stop, size_end, size_again, size_most, size_fits}
+use mathlib.Core.Path.{refl, sym}
+use Rattle.json_strings.proofs.WideLaws.{wide_less}
+use Rattle.spec_json.proofs.json.CharsLaws.{size_stop, size_again, size_most, size_fits}
 use Rattle.json_strings.proofs.string.chars_size.Goals as goal
 
-pub loop-t-init : goal.loop-t-init
-loop-t-init c = (omega arith, sym (zero-add _))
-
-pub returns-then-w-eq0 : goal.returns-then-w-eq0
-returns-then-w-eq0 c = search size_stop
-
 pub overflow_add-n : goal.overflow_add-n
-overflow_add-n c = record { fits = search size_fits }
+overflow_add-n c = record { fits = search (size_fits, c.in-Some.ensures.0, c.in-Some.ensures.1) }
 
-pub loop-t-smaller : goal.loop-t-smaller
-loop-t-smaller c = search drop_less
+pub loop-w-smaller : goal.loop-w-smaller
+loop-w-smaller c = search (wide_less, c.in-Some.ensures.0, c.in-Some.ensures.1)
 
-pub loop-t-preserved : goal.loop-t-preserved
-loop-t-preserved c = (search size_most, search size_again)
+pub loop-w-preserved : goal.loop-w-preserved
+loop-w-preserved c = (search (size_most, c.in-Some.ensures.0, c.in-Some.ensures.1), search (size_again, c.in-Some.ensures.0, c.in-Some.ensures.1))
 
 pub returns : goal.returns
-returns c = search size_end
+returns c = size_stop _ _ _ 0 c.loop-w.invariant.1 (sym c.in_default.ensures) refl

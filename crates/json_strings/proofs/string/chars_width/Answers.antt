@@ -1,27 +1,23 @@
-use Rattle.spec_json.proofs.json.CharsLaws.{joined_zero, at_closed, at_stop, at_again, at_in, at_fits, chars_end}
+use mathlib.Core.Path.{refl, sym, ap, ◌∙◌}
 use native.Mathlib.Omega.{arith}
-use Prim.Native.Nat.{◌-◌}
-use mathlib.Core.Path.{sym}
-use borrow.Author.Rules.{rules}
+use Rattle.spec_json.proofs.json.CharsLaws.{at_closed, at_stop, chars_again, chars_in, chars_fits}
+use Rattle.spec_json.specs.json.Str.{char_wide}
+use Rattle.json_strings.proofs.WideLaws.{wide_further}
 use Rattle.json_strings.proofs.string.chars_width.Goals as goal
 
-pub loop-at-init : goal.loop-at-init
-loop-at-init c = (search rules, sym (joined_zero _))
-
-pub returns-then-s-at-eq34 : goal.returns-then-s-at-eq34
-returns-then-s-at-eq34 c = search at_closed
-
-pub returns-then-w-eq0 : goal.returns-then-w-eq0
-returns-then-w-eq0 c = search at_stop
-
 pub overflow_add-at : goal.overflow_add-at
-overflow_add-at c = record { fits = search at_fits }
+overflow_add-at c = record { fits = search (chars_fits, c.in-Some.ensures.0) }
 
-pub loop-at-smaller : goal.loop-at-smaller
-loop-at-smaller c = omega arith
+pub loop-w-smaller : goal.loop-w-smaller
+loop-w-smaller c = search (wide_further, c.in-Some.ensures.0, c.in-Some.ensures.1)
 
-pub loop-at-preserved : goal.loop-at-preserved
-loop-at-preserved c = (search at_in, search at_again)
+pub loop-w-preserved : goal.loop-w-preserved
+loop-w-preserved c = (search (chars_in, c.in-Some.ensures.0), search (chars_again, c.in-Some.ensures.0, c.in-Some.ensures.1))
 
-pub returns : goal.returns
-returns c = search chars_end
+pub returns-then-get_or-eq34 : goal.returns-then-get_or-eq34
+returns-then-get_or-eq34 c =
+    (at_closed _ _ 0 c.loop-w.invariant.1 (sym c.in_default.ensures ∙ ap char_wide c.rest.ensures) refl (sym c.get_or.ensures ∙ c.if-get_or-eq34.true), λ z. omega arith)
+
+pub returns-else-get_or-eq34 : goal.returns-else-get_or-eq34
+returns-else-get_or-eq34 c =
+    sym (at_stop _ _ 0 c.loop-w.invariant.1 (sym c.in_default.ensures ∙ ap char_wide c.rest.ensures) refl (λ q. c.if-get_or-eq34.false (c.get_or.ensures ∙ q)))

@@ -5,8 +5,8 @@ use Rattle.spec_json.specs.json.Space.{joined}
 use Rattle.spec_json.specs.json.Str.{chars_width}
 use Rattle.json_strings.proofs.string.chars_width.Given as goal
 
-abbrev pub invariant-loop-at : goal.invariant-loop-at
-invariant-loop-at l = (l.at ≤ length l.s) × (chars_width l.s 0 ≡ joined l.at (chars_width (drop l.at l.s) 0))
+abbrev pub invariant-loop-w : goal.invariant-loop-w
+invariant-loop-w l = (l.at ≤ length l.s) × (chars_width l.s 0 ≡ joined l.at (chars_width (drop l.at l.s) 0))
 
-abbrev pub decreases-loop-at : goal.decreases-loop-at
-decreases-loop-at l = length l.s - l.at
+abbrev pub decreases-loop-w : goal.decreases-loop-w
+decreases-loop-w l = length l.s - l.at

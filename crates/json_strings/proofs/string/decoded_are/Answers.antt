@@ -1,22 +1,16 @@
-use mathlib.Core.Path.{refl}
-use Rattle.spec_base.proofs.base.Laws.{drop_less}
-use Rattle.spec_json.proofs.json.CharsLaws.{are_stop, are_end, are_other, are_again}
+use mathlib.Core.Path.{refl, sym, ◌∙◌}
+use Rattle.spec_json.proofs.json.CharsLaws.{are_stop}
+use Rattle.json_strings.proofs.WideLaws.{wide_less, stripped_none, stripped_some}
 use Rattle.json_strings.proofs.string.decoded_are.Goals as goal
 
-pub loop-t-init : goal.loop-t-init
-loop-t-init c = refl
+pub returns-in-None : goal.returns-in-None
+returns-in-None c = search (stripped_none, c.in-Some.ensures.0, c.in-Some.ensures.1, c.in-None.ensures)
 
-pub returns-then-w-eq0 : goal.returns-then-w-eq0
-returns-then-w-eq0 c = search are_stop
+pub loop-w-smaller : goal.loop-w-smaller
+loop-w-smaller c = search (wide_less, c.in-Some.ensures.0, c.in-Some.ensures.1)
 
-pub returns-then-n-eq0 : goal.returns-then-n-eq0
-returns-then-n-eq0 c = search are_other
-
-pub loop-t-smaller : goal.loop-t-smaller
-loop-t-smaller c = search drop_less
-
-pub loop-t-preserved : goal.loop-t-preserved
-loop-t-preserved c = search are_again
+pub loop-w-preserved : goal.loop-w-preserved
+loop-w-preserved c = search (stripped_some, c.in-Some.ensures.0, c.in-Some.ensures.1, c.in-Some-char_stripped.ensures.0, c.in-Some-char_stripped.ensures.1)
 
 pub returns : goal.returns
-returns c = search are_end
+returns c = c.is_empty.ensures ∙ are_stop _ _ _ _ 0 c.loop-w.invariant (sym c.in_default.ensures) refl

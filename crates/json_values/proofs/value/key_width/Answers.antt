@@ -10,8 +10,8 @@ overflow_add-w c = record { fits = search key_fits }
 pub overflow_add-n : goal.overflow_add-n
 overflow_add-n c = record { fits = search key_fits_2 }
 
-pub returns-then-byte-ne58 : goal.returns-then-byte-ne58
-returns-then-byte-ne58 c = search key_other
+pub returns-then-get_or-ne58 : goal.returns-then-get_or-ne58
+returns-then-get_or-ne58 c = search key_other
 
 pub overflow_add-result : goal.overflow_add-result
 overflow_add-result c = record { fits = search key_fits_3 }

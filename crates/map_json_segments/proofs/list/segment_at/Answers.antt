@@ -4,5 +4,5 @@ use Rattle.map_json_segments.proofs.list.segment_at.Goals as goal
 pub returns-then-n-lt1024 : goal.returns-then-n-lt1024
 returns-then-n-lt1024 c = search segment_in_lem
 
-pub returns : goal.returns
-returns c = search segment_out
+pub returns-else-n-lt1024 : goal.returns-else-n-lt1024
+returns-else-n-lt1024 c = search segment_out

@@ -4,8 +4,8 @@ use Prim.Native.Nat.{◌+◌, ◌≤◌}
 use lib.ListN.{length}
 use Rattle.map_json_segments.proofs.list.segments_into.Given as goal
 
-abbrev pub invariant-loop-t : goal.invariant-loop-t
-invariant-loop-t l = (l.n + length l.t ≤ length l.s) × (length l.map ≡ length l.initial.map) × Left l.s l.t l.n l.initial.map l.map
+abbrev pub invariant-loop-x : goal.invariant-loop-x
+invariant-loop-x l = (l.n + length l.t ≤ length l.s) × (length l.map ≡ length l.initial.map) × Left l.s l.t l.n l.initial.map l.map
 
-abbrev pub decreases-loop-t : goal.decreases-loop-t
-decreases-loop-t l = length l.t
+abbrev pub decreases-loop-x : goal.decreases-loop-x
+decreases-loop-x l = length l.t

@@ -16,7 +16,7 @@ loop-i-preserved c =
     let long = read_length a.count a.flat.now c.requires.0 in
     let e = read_at a.count l.i a.flat.now c.requires.0 c.loop-i-test.true in
     let t = record_turn v a.map.now l.i (omega (arith, long)) (omega (arith, long)) in
-    (omega arith, length-set _ _ _ ∙ l.invariant.1, cc (l.invariant.2, e, t, c.segment_of-s.ensures))
+    (omega arith, length-set _ _ _ ∙ l.invariant.1, cc (l.invariant.2, e, t, c.segment_of.ensures))
 
 pub returns : goal.returns
 returns c =

@@ -27,23 +27,9 @@ slice_bounds-map-end c =
     let b = c.build-made in
     omega (arith, b.auto.map, few a.sheet.now a.list.now a.direction a.work.now b.new.map b.result b.ensures.0 b.ensures.2)
 
-pub slice_bounds-find_hit-end : goal.slice_bounds-find_hit-end
+pub slice_bounds-records-end : goal.slice_bounds-records-end
 unfolding none
-slice_bounds-find_hit-end c =
-    let a = c.args in
-    let b = c.build-made in
-    omega (arith, b.auto.map, length-take b.result.count b.new.map, few a.sheet.now a.list.now a.direction a.work.now b.new.map b.result b.ensures.0 b.ensures.2)
-
-pub slice_bounds-map-end-2 : goal.slice_bounds-map-end-2
-unfolding none
-slice_bounds-map-end-2 c =
-    let a = c.args in
-    let b = c.build-made in
-    omega (arith, b.auto.map, few a.sheet.now a.list.now a.direction a.work.now b.new.map b.result b.ensures.0 b.ensures.2)
-
-pub slice_bounds-flatten-end : goal.slice_bounds-flatten-end
-unfolding none
-slice_bounds-flatten-end c =
+slice_bounds-records-end c =
     let a = c.args in
     let b = c.build-made in
     omega (arith, b.auto.map, length-take b.result.count b.new.map, few a.sheet.now a.list.now a.direction a.work.now b.new.map b.result b.ensures.0 b.ensures.2)

@@ -10,5 +10,5 @@ whole-requires c = search line_room
 pub returns-then-fits : goal.returns-then-fits
 returns-then-fits c = (search line_yes_length, search line_yes)
 
-pub returns : goal.returns
-returns c = (search line_no_length, search line_no)
+pub returns-else-fits : goal.returns-else-fits
+returns-else-fits c = (search line_no_length, search line_no)

@@ -14,9 +14,9 @@ pub returns-then-places-text : goal.returns-then-places-text
 unfolding lengths_fault
 returns-then-places-text c = search refusals depth 12
 
-pub returns-then-told-lt7 : goal.returns-then-told-lt7
+pub returns-then-lent-lt7 : goal.returns-then-lent-lt7
 unfolding lengths_fault
-returns-then-told-lt7 c = search refusals depth 12
+returns-then-lent-lt7 c = search refusals depth 12
 
 pub returns : goal.returns
 unfolding lengths_fault

@@ -4,6 +4,3 @@ use Rattle.parked_blocks.proofs.reading.blank_behind.Given as goal
 
 abbrev pub invariant-loop-b : goal.invariant-loop-b
 invariant-loop-b l = (l.b ≤ 18) × (blank_all l.s l.b (18 - l.b) ≡ blank_all l.s (l.k + 1) (17 - l.k))
-
-abbrev pub decreases-loop-b : goal.decreases-loop-b
-decreases-loop-b l = 18 - l.b

@@ -1,10 +1,7 @@
-use Rattle.std.proofs.Common.{◌≡◌, ◌-◌, ◌*◌, ◌≤◌, length}
+use Rattle.std.proofs.Common.{◌≡◌, ◌*◌, length}
 use Rattle.spec_base.specs.base.Put.{put}
 use Rattle.spec_parked_blocks.specs.parked_blocks.Sealed.{bodies}
 use Rattle.parked_blocks.proofs.reading.copy_room.Given as goal
 
 abbrev pub invariant-loop-n : goal.invariant-loop-n
-invariant-loop-n l = (l.n ≤ l.k) × (l.at ≡ 504 * l.n) × (l.room ≡ put (bodies l.s 1 l.n) l.initial.room) × (length l.room ≡ length l.initial.room)
-
-abbrev pub decreases-loop-n : goal.decreases-loop-n
-decreases-loop-n l = l.k - l.n
+invariant-loop-n l = (l.at ≡ 504 * l.n) × (l.room ≡ put (bodies l.s 1 l.n) l.initial.room) × (length l.room ≡ length l.initial.room)

@@ -1,12 +1,8 @@
-use Rattle.std.proofs.Common.{arith}
 use Rattle.spec_parked_blocks.proofs.parked_blocks.WriteLaws.{end_small, end_lies, block_made}
 use Rattle.parked_blocks.proofs.writing.put_block.Goals as goal
 
 pub put_zeros-requires : goal.put_zeros-requires
 put_zeros-requires c = (search end_small, search end_lies)
-
-pub overflow_add-body : goal.overflow_add-body
-overflow_add-body c = omega arith
 
 pub returns : goal.returns
 returns c = search block_made

@@ -1,18 +1,6 @@
-use Rattle.spec_parked_blocks.proofs.parked_blocks.WriteLaws.{word_stored}
-use Rattle.std.proofs.Common.{arith, length-set}
+use mathlib.Core.Path.{◌∙◌}
+use Rattle.parked_blocks.proofs.Parts.{word_put}
 use Rattle.parked_blocks.proofs.writing.put_word.Goals as goal
 
-pub bounds-out-at-2 : goal.bounds-out-at-2
-bounds-out-at-2 c = simp length-set (omega arith)
-
-pub bounds-out-at-3 : goal.bounds-out-at-3
-bounds-out-at-3 c = simp length-set (omega arith)
-
-pub bounds-out-at-4 : goal.bounds-out-at-4
-bounds-out-at-4 c = simp length-set (omega arith)
-
-pub shape_of-out : goal.shape_of-out
-shape_of-out c = simp length-set (omega arith)
-
 pub returns : goal.returns
-returns c = search word_stored
+returns c = word_put _ _ _ _ (c.copy_from_slice.ensures.after ∙ c.to_le_bytes.ensures)

@@ -1,8 +1,8 @@
 use Rattle.spec_parking.proofs.parking.HeadLaws.{length_in, taken_in_lem}
 use Rattle.parking.proofs.taking.take_in.Goals as goal
 
-pub number_in-number-requires : goal.number_in-number-requires
-number_in-number-requires c = search length_in
+pub refusal_in-requires : goal.refusal_in-requires
+refusal_in-requires c = search length_in
 
 pub returns : goal.returns
-returns c = search taken_in_lem
+returns c = rw c.number-number.ensures (search taken_in_lem)

@@ -9,8 +9,8 @@ is_parked-requires c = (search rules, search whole_shows, search whole_rest)
 pub returns-then-foreign : goal.returns-then-foreign
 returns-then-foreign c = search take_17
 
-pub returns-then-is_parked : goal.returns-then-is_parked
-returns-then-is_parked c = search take_0
+pub returns-else-foreign : goal.returns-else-foreign
+returns-else-foreign c = search take_0
 
-pub returns : goal.returns
-returns c = search take_27
+pub returns-else-is_parked : goal.returns-else-is_parked
+returns-else-is_parked c = search take_27

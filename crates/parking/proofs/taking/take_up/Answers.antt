@@ -5,5 +5,5 @@ use Rattle.parking.proofs.taking.take_up.Goals as goal
 pub take_row-requires : goal.take_row-requires
 take_row-requires c = (search row_true, search row_room, search room_long)
 
-pub returns : goal.returns
-returns c = search take_unsealed
+pub returns-else-unseal : goal.returns-else-unseal
+returns-else-unseal c = search take_unsealed

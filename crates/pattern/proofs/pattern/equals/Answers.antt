@@ -1,8 +1,6 @@
-use Rattle.spec_text.proofs.pattern.Laws.{equals_starts, equals_other}
+use mathlib.Core.Path.{◌∙◌}
+use Rattle.pattern.proofs.StdLaws.{equals_pointwise}
 use Rattle.pattern.proofs.pattern.equals.Goals as goal
 
-pub returns-then-s-p : goal.returns-then-s-p
-returns-then-s-p c = search equals_other
-
 pub returns : goal.returns
-returns c = search equals_starts
+returns c = c.eq.ensures ∙ equals_pointwise _ _

@@ -1,15 +1,13 @@
 use native.Mathlib.Omega.{arith}
-use Rattle.spec_text.proofs.pattern.Laws.{stands_none, stands_other, stands_asked}
+use Rattle.spec_text.proofs.pattern.Laws.{stands_none}
+use Rattle.pattern.proofs.StdLaws.{stands_differs, stands_rest}
 use Rattle.pattern.proofs.pattern.stands.Goals as goal
 
-pub returns-then-p-eq0 : goal.returns-then-p-eq0
-returns-then-p-eq0 c = search stands_none
+pub returns-in-empty : goal.returns-in-empty
+returns-in-empty c = stands_none c.args.p.now c.args.s.now c.args.i (omega arith)
 
-pub bounds-p-0 : goal.bounds-p-0
-bounds-p-0 c = omega arith
+pub returns-then-s-i : goal.returns-then-s-i
+returns-then-s-i c = stands_rest c.args.p.now c.args.s.now c.args.i _ c.requires c.in-len1-up.len_at_least c.if-s-i.true c.starts_with.ensures.value
 
-pub returns-then-byte-p : goal.returns-then-byte-p
-returns-then-byte-p c = search stands_other
-
-pub returns : goal.returns
-returns c = search stands_asked
+pub returns-else-s-i : goal.returns-else-s-i
+returns-else-s-i c = stands_differs c.args.p.now c.args.s.now c.args.i c.in-len1-up.len_at_least c.if-s-i.false

@@ -1,21 +1,19 @@
+use Rattle.std.proofs.Common.{[], arith}
 use Rattle.spec_trim.proofs.plan.SnapLaws.{crossing_start}
-use native.Mathlib.Omega.{arith}
-use Prim.Native.Nat.{◌-◌}
-use Rattle.spec_trim.proofs.plan.SnapLaws.{crossing_short, crossing_done, crossing_here, crossing_next}
-use borrow.Author.Rules.{rules}
+use Rattle.plan.proofs.PairRows.{pair_at, overlap_met, overlap_passed, overlap_over}
 use Rattle.plan.proofs.crossing.overlap.Goals as goal
 
-pub loop-i-init : goal.loop-i-init
-loop-i-init c = (search rules, search rules, crossing_start _ _)
-
-pub returns-then-ranges-at-lt2 : goal.returns-then-ranges-at-lt2
-returns-then-ranges-at-lt2 c = search crossing_short
+pub loop-start-init : goal.loop-start-init
+loop-start-init c = (omega arith, crossing_start _ _)
 
 pub returns-then-start-prev : goal.returns-then-start-prev
-returns-then-start-prev c = search crossing_here
+returns-then-start-prev c = search overlap_met
 
-pub loop-i-preserved : goal.loop-i-preserved
-loop-i-preserved c = (search rules, omega arith, search crossing_next)
+pub loop-start-preserved : goal.loop-start-preserved
+loop-start-preserved c =
+    let a = c.as_chunks.ensures in
+    let x = pair_at c.args.ranges.now c.as_chunks.result.0.now c.args.count _ c.loop-start.start-index [] a.front a.front_len c.min.ensures c.loop-start-test.true in
+    (omega (arith, x.room), search overlap_passed)
 
 pub returns : goal.returns
-returns c = search crossing_done
+returns c = search overlap_over

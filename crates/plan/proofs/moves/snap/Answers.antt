@@ -1,5 +1,4 @@
 use native.Mathlib.Omega.{arith}
-use Prim.Native.Nat.{◌-◌}
 use mathlib.Core.Path.{refl}
 use Rattle.spec_trim.proofs.plan.SnapLaws.{snapping_start, snapping_short, snapping_done, snapping_next}
 use Rattle.spec_trim.proofs.plan.KnownLaws.{floor_of_first, ceil_of_end}

@@ -5,6 +5,3 @@ use Rattle.plan.proofs.scan.floor_from.Given as goal
 
 abbrev pub invariant-loop-k : goal.invariant-loop-k
 invariant-loop-k l = (l.low ≤ l.k) × (last_below l.s l.k ≡ last_below l.s l.initial.k)
-
-abbrev pub decreases-loop-k : goal.decreases-loop-k
-decreases-loop-k l = l.k

@@ -1,9 +1,5 @@
-use Rattle.std.proofs.Common.{length, ◌-◌, ◌≤◌}
 use Rattle.streams.specs.Left.{Grows}
 use Rattle.replay_ask.proofs.reasoning.print_places.Given as goal
 
-abbrev pub invariant-loop-i : goal.invariant-loop-i
-invariant-loop-i g l = (l.i ≤ length l.places) × Grows (g.W.Write.contents l.initial.to) (g.W.Write.contents l.to)
-
-abbrev pub decreases-loop-i : goal.decreases-loop-i
-decreases-loop-i g l = length l.places - l.i
+abbrev pub invariant-loop-n : goal.invariant-loop-n
+invariant-loop-n g l = Grows (g.W.Write.contents l.initial.to) (g.W.Write.contents l.to)

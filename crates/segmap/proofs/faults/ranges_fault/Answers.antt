@@ -1,20 +1,22 @@
-use native.Mathlib.Omega.{arith}
-use Prim.Native.Nat.{◌-◌}
-use Rattle.spec_map.proofs.segmap.BuildLaws.{testing_start, testing_short, testing_done, testing_here, testing_next}
-use borrow.Author.Rules.{rules}
+use Rattle.std.proofs.Common.{[], arith}
+use Rattle.std.proofs.lemmas.Result.{err_from_is_err_and}
+use Rattle.refusals.proofs.Laws.{refused_not_0}
+use Rattle.spec_map.proofs.segmap.BuildLaws.{testing_start}
+use Rattle.plan.proofs.PairRows.{pair_at}
+use Rattle.segmap.proofs.PairTests.{fault_met, fault_passed, faults_over}
 use Rattle.segmap.proofs.faults.ranges_fault.Goals as goal
 
-pub loop-i-init : goal.loop-i-init
-loop-i-init c = (search rules, search rules, testing_start _ _ _ _)
+pub loop-start-init : goal.loop-start-init
+loop-start-init c = (omega arith, testing_start _ _ _ _)
 
-pub returns-then-ranges-at-lt2 : goal.returns-then-ranges-at-lt2
-returns-then-ranges-at-lt2 c = search testing_short
+pub returns-in_err-range_fault : goal.returns-in_err-range_fault
+returns-in_err-range_fault c = let p = err_from_is_err_and c.from_residual.result c.from_residual.ensures.1 in rw (p.1, p.2) (search (fault_met, refused_not_0, c.in_err-range_fault.ensures))
 
-pub returns-then-f-ne0 : goal.returns-then-f-ne0
-returns-then-f-ne0 c = search testing_here
-
-pub loop-i-preserved : goal.loop-i-preserved
-loop-i-preserved c = (search rules, omega arith, search testing_next)
+pub loop-start-preserved : goal.loop-start-preserved
+loop-start-preserved c =
+    let a = c.as_chunks.ensures in
+    let x = pair_at c.args.ranges.now c.as_chunks.result.0.now c.args.count _ c.loop-start.start-index [] a.front a.front_len c.min.ensures c.loop-start-test.true in
+    (omega (arith, x.room), search (fault_passed, c.in_ok-range_fault.ensures))
 
 pub returns : goal.returns
-returns c = search testing_done
+returns c = search faults_over

@@ -1,12 +1,7 @@
-use mathlib.Core.Path.{◌≡◌}
-use Prim.Native.Nat.{◌-◌, ◌*◌, ◌≤◌}
-use lib.ListN.{length, take}
+use Rattle.std.proofs.Common.{◌≡◌, ◌*◌, ◌≤◌, take, length}
 use Rattle.spec_trim.proofs.plan.PairLaws.{left_of}
 use Rattle.spec_map.specs.segmap.Build.{ranges_fault}
 use Rattle.segmap.proofs.faults.ranges_fault.Given as goal
 
-abbrev pub invariant-loop-i : goal.invariant-loop-i
-invariant-loop-i l = (l.i ≤ l.count) × (2 * l.i ≤ length l.ranges) × (ranges_fault l.s l.n (left_of l.ranges l.count l.i) ≡ ranges_fault l.s l.n (take (2 * l.count) l.ranges))
-
-abbrev pub decreases-loop-i : goal.decreases-loop-i
-decreases-loop-i l = l.count - l.i
+abbrev pub invariant-loop-start : goal.invariant-loop-start
+invariant-loop-start l = (2 * l.start-index ≤ length l.ranges) × (ranges_fault l.s l.n (left_of l.ranges l.count l.start-index) ≡ ranges_fault l.s l.n (take (2 * l.count) l.ranges))

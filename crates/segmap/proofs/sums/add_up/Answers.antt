@@ -1,14 +1,13 @@
+use mathlib.Core.Path.{refl}
 use native.Mathlib.Omega.{arith}
-use Prim.Native.Nat.{◌-◌}
 use Rattle.spec_map.proofs.segmap.TicksLaws.{sample_next, sample_fits, ticks_done}
-use borrow.Author.Rules.{rules}
 use Rattle.segmap.proofs.sums.add_up.Goals as goal
 
 pub overflow_add-ticks : goal.overflow_add-ticks
 overflow_add-ticks c = search sample_fits
 
-pub loop-at-preserved : goal.loop-at-preserved
-loop-at-preserved c = (omega arith, search sample_next)
+pub loop-i-preserved : goal.loop-i-preserved
+loop-i-preserved c = search sample_next
 
 pub returns : goal.returns
-returns c = (search rules, search ticks_done)
+returns c = (refl, ticks_done _ c.loop-i.i c.args.to.0 _ (omega arith) c.loop-i-test.false c.loop-i.invariant)

@@ -1,5 +1,4 @@
 use native.Mathlib.Omega.{arith}
-use Prim.Native.Nat.{◌-◌}
 use Rattle.spec_map.proofs.segmap.TicksLaws.{ticks_done}
 use Rattle.segmap.proofs.MilestoneLaws.{noted_start, noted_next, noted_done}
 use borrow.Author.Rules.{rules}

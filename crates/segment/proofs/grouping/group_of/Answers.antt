@@ -1,27 +1,18 @@
-use Rattle.spec_map.proofs.segment.SegmentLaws.{six_less}
-use Rattle.spec_map.proofs.segment.GroupLaws.{group_start, group_sum, group_again, group_low, group_high, group_large, group_few}
+use Rattle.spec_map.proofs.segment.GroupLaws.{group_start, group_low, group_high, group_large}
+use Rattle.segment.proofs.RowLaws.{group_next, group_rest}
 use Rattle.segment.proofs.grouping.group_of.Goals as goal
 
-pub loop-t-init : goal.loop-t-init
-loop-t-init c = search group_start
+pub loop-numbers-init : goal.loop-numbers-init
+loop-numbers-init c = search group_start
 
-pub overflow_add-excess : goal.overflow_add-excess
-overflow_add-excess c = search group_sum
-
-pub loop-t-smaller : goal.loop-t-smaller
-loop-t-smaller c = search six_less
-
-pub loop-t-preserved : goal.loop-t-preserved
-loop-t-preserved c = search group_again depth 16
+pub loop-numbers-preserved : goal.loop-numbers-preserved
+loop-numbers-preserved c = search group_next depth 16
 
 pub returns-clause-low_value : goal.returns-clause-low_value
-returns-clause-low_value c = search group_low
+returns-clause-low_value c = search (group_low, group_rest)
 
 pub returns-clause-high_value : goal.returns-clause-high_value
-returns-clause-high_value c = search group_high
+returns-clause-high_value c = search (group_high, group_rest)
 
 pub returns-clause-excess_value : goal.returns-clause-excess_value
-returns-clause-excess_value c = search group_large
-
-pub returns-clause-excess_bound : goal.returns-clause-excess_bound
-returns-clause-excess_bound c = search group_few
+returns-clause-excess_value c = search (group_large, group_rest)

@@ -1,9 +1,6 @@
-use Rattle.std.proofs.Common.{length}
+use Rattle.std.proofs.Common.{◌*◌, drop}
 use Rattle.spec_map.proofs.segment.GroupLaws.{GroupLeft}
 use Rattle.segment.proofs.grouping.group_of.Given as goal
 
-abbrev pub invariant-loop-t : goal.invariant-loop-t
-invariant-loop-t l = GroupLeft l.row l.t l.low l.high l.excess
-
-abbrev pub decreases-loop-t : goal.decreases-loop-t
-decreases-loop-t l = length l.t
+abbrev pub invariant-loop-numbers : goal.invariant-loop-numbers
+invariant-loop-numbers l = GroupLeft l.row (drop (6 * l.numbers-index) l.row) l.low l.high l.excess

@@ -1,9 +1,6 @@
-use Rattle.std.proofs.Common.{length}
+use Rattle.std.proofs.Common.{◌*◌, drop}
 use Rattle.spec_map.proofs.segment.SegmentLaws.{Left}
 use Rattle.segment.proofs.segment.map_bad.Given as goal
 
-abbrev pub invariant-loop-t : goal.invariant-loop-t
-invariant-loop-t l = Left l.map l.t l.total
-
-abbrev pub decreases-loop-t : goal.decreases-loop-t
-decreases-loop-t l = length l.t
+abbrev pub invariant-loop-numbers : goal.invariant-loop-numbers
+invariant-loop-numbers l = Left l.map (drop (6 * l.numbers-index) l.map) l.total

@@ -10,10 +10,10 @@ use Rattle.spec_session.proofs.session_lines.TellLaws.{head_20, head_24, head_sa
 use Rattle.session_lines.proofs.taking.head_line.Goals as goal
 
 pub returns-then-not-is_utf8 : goal.returns-then-not-is_utf8
-returns-then-not-is_utf8 c = let a = c.args in let u : utf8 a.line.now ≡ false = sym c.is_utf8.ensures ∙ not-true _ (ap not c.if-not-is_utf8.true) in head_20 a.config (segments_by a.groups.now a.map.now) a.counts a.columns a.line.now _ _ _ u c.quiet.ensures
+returns-then-not-is_utf8 c = let a = c.args in let u : utf8 a.line.now ≡ false = sym c.is_utf8.ensures ∙ not-true _ (ap not c.if-not-is_utf8.true) in head_20 a.at.config (segments_by a.at.groups.now a.at.map.now) a.at.counts a.at.columns a.line.now _ _ _ u c.quiet.ensures
 
 pub returns-then-not-is_header : goal.returns-then-not-is_header
-returns-then-not-is_header c = let a = c.args in let u : utf8 a.line.now ≡ true = sym c.is_utf8.ensures ∙ not-false _ (ap not c.if-not-is_utf8.false) in let i : is_header a.line.now ≡ false = sym c.is_header.ensures ∙ not-true _ (ap not c.if-not-is_header.true) in head_24 a.config (segments_by a.groups.now a.map.now) a.counts a.columns a.line.now _ _ _ u i c.quiet-then-not-is_header.ensures
+returns-then-not-is_header c = let a = c.args in let u : utf8 a.line.now ≡ true = sym c.is_utf8.ensures ∙ not-false _ (ap not c.if-not-is_utf8.false) in let i : is_header a.line.now ≡ false = sym c.is_header.ensures ∙ not-true _ (ap not c.if-not-is_header.true) in head_24 a.at.config (segments_by a.at.groups.now a.at.map.now) a.at.counts a.at.columns a.line.now _ _ _ u i c.quiet-then-not-is_header.ensures
 
 pub returns : goal.returns
-returns c = let a = c.args in let u : utf8 a.line.now ≡ true = sym c.is_utf8.ensures ∙ not-false _ (ap not c.if-not-is_utf8.false) in let i : is_header a.line.now ≡ true = sym c.is_header.ensures ∙ not-false _ (ap not c.if-not-is_header.false) in let y = c.bytes_at-written.ensures in head_said_lem a.config (segments_by a.groups.now a.map.now) a.counts a.columns a.line.now _ _ _ _ _ _ u i c.requires.room_long c.still.ensures y.0 y.1 c.blank.ensures
+returns c = let a = c.args in let u : utf8 a.line.now ≡ true = sym c.is_utf8.ensures ∙ not-false _ (ap not c.if-not-is_utf8.false) in let i : is_header a.line.now ≡ true = sym c.is_header.ensures ∙ not-false _ (ap not c.if-not-is_header.false) in let y = c.put_at-written.ensures in head_said_lem a.at.config (segments_by a.at.groups.now a.at.map.now) a.at.counts a.at.columns a.line.now _ _ _ _ _ _ u i c.requires.room_long c.still.ensures y.0 y.1 c.blank.ensures

@@ -1,12 +1,6 @@
-use Rattle.spec_session.proofs.session_lines.LentLaws.{line_past, line_16, line_lent, lent_asked}
+use Rattle.spec_session.proofs.session_lines.LentLaws.{line_lent, lent_asked}
 use borrow.Author.Rules.{rules}
 use Rattle.session_lines.proofs.taking.take_line_by.Goals as goal
-
-pub returns-then-held-s : goal.returns-then-held-s
-returns-then-held-s c = search line_past
-
-pub returns-then-lent_bad : goal.returns-then-lent_bad
-returns-then-lent_bad c = search line_16
 
 pub take_held-requires : goal.take_held-requires
 take_held-requires c = (search lent_asked, search rules)

@@ -1,25 +1,15 @@
-use Prim.Native.Nat.{◌≤◌, ◌-◌}
-use native.Mathlib.Omega.{arith}
-use Rattle.spec_session.proofs.session_state.MarkLaws.{lf_again, lf_all, one_small}
+use Rattle.std.proofs.Common.{rules, ◌≡◌, ℕ, List, ◌∷◌, refl, sym, ◌∙◌, ◌+◌, eqb, cond, true, false, Bool, arith}
+use Rattle.std.specs.List.{count_by}
+use Rattle.std.proofs.lemmas.List.Recursion.{is_count_by}
+use Rattle.spec_session.proofs.session_state.MarkLaws.{lfs, lf_again}
 use Rattle.session_state.proofs.held.lf_count.Goals as goal
 
-pub loop-i-init : goal.loop-i-init
-loop-i-init c = (omega arith, omega arith, omega arith)
-
-pub bounds-held-i : goal.bounds-held-i
-bounds-held-i c = omega arith
-
-pub overflow_add-n : goal.overflow_add-n
-overflow_add-n c = let h : c.lf_one-n.result ≤ 1 = search one_small in omega arith
-
-pub overflow_add-i : goal.overflow_add-i
-overflow_add-i c = omega arith
-
-pub loop-i-smaller : goal.loop-i-smaller
-loop-i-smaller c = omega arith
-
-pub loop-i-preserved : goal.loop-i-preserved
-loop-i-preserved c = let h : c.lf_one-n.result ≤ 1 = search one_small in (omega arith, omega arith, search lf_again)
+one_more : (b : ℕ) (t : List ℕ) → lfs (b ∷ t) ≡ cond (eqb b 10) (1 + lfs t) (lfs t)
+one_more b t = let g = lf_again (b ∷ t) 0 0 (cond (eqb b 10) 1 0) (omega arith) (omega arith) refl in sym g ∙ go (eqb b 10)
+  where
+    go : (x : Bool) → 0 + cond x 1 0 + lfs t ≡ cond x (1 + lfs t) (lfs t)
+    go true = omega arith
+    go false = omega arith
 
 pub returns : goal.returns
-returns c = search lf_all
+returns c = let e : c.count.result ≡ count_by (λ x. eqb x 10) c.args.held.now = search rules in e ∙ sym (is_count_by lfs (λ x. eqb x 10) refl one_more c.args.held.now)

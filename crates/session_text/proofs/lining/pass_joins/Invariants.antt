@@ -9,9 +9,9 @@ use Rattle.spec_base.specs.base.Limits.{most_taken}
 use Rattle.spec_session.specs.session_text.Lined.{Onto}
 use Rattle.session_text.proofs.lining.pass_joins.Given as goal
 
-abbrev pub invariant-loop-e : goal.invariant-loop-e
-invariant-loop-e l = (l.n ≤ most_taken + l.i) × (l.b ≤ l.i) × (l.begin ≤ l.i) × (l.i ≤ length l.text) × (length l.text ≤ most_taken) × Onto l.kind l.b l.text l.lines l.begin l.n l.i
-    × (l.good ≡ true → utf8 (concat (closed_lines (drop l.i l.text))) ≡ true)
+abbrev pub invariant-loop-end : goal.invariant-loop-end
+invariant-loop-end l = (l.n ≤ most_taken + l.place) × (l.b ≤ l.place) × (l.begin ≤ l.place) × (l.place ≤ length l.text) × (length l.text ≤ most_taken) × Onto l.kind l.b l.text l.lines l.begin l.n l.place
+    × (l.good ≡ true → utf8 (concat (closed_lines (drop l.place l.text))) ≡ true)
 
-abbrev pub decreases-loop-e : goal.decreases-loop-e
-decreases-loop-e l = length l.text - l.i
+abbrev pub decreases-loop-end : goal.decreases-loop-end
+decreases-loop-end l = length l.text - l.place

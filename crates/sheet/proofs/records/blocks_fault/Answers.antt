@@ -1,17 +1,17 @@
-use Prim.Native.Nat.{◌-◌}
+use Rattle.std.proofs.lemmas.Result.{err_from_is_err_and}
+use Rattle.refusals.proofs.Laws.{refused_not_0}
 use Rattle.spec_base.proofs.base.RefusalLaws.{left_here, left_done}
 use Rattle.spec_sheet.proofs.sheet.FaultLaws.{left_pass, blocks_start}
-use borrow.Author.Rules.{rules}
 use Rattle.sheet.proofs.records.blocks_fault.Goals as goal
 
 pub loop-b-init : goal.loop-b-init
-loop-b-init c = (search rules, search rules, search blocks_start)
+loop-b-init c = search blocks_start
 
-pub returns-then-f-ne0 : goal.returns-then-f-ne0
-returns-then-f-ne0 c = search left_here
+pub returns-in_err-block_fault : goal.returns-in_err-block_fault
+returns-in_err-block_fault c = let p = err_from_is_err_and c.from_residual.result c.from_residual.ensures.1 in rw (p.1, p.2) (search (left_here, refused_not_0, c.in_err-block_fault.ensures))
 
 pub loop-b-preserved : goal.loop-b-preserved
-loop-b-preserved c = (search rules, search rules, search left_pass)
+loop-b-preserved c = search (left_pass, c.in_ok-block_fault.ensures)
 
 pub returns : goal.returns
 returns c = search left_done

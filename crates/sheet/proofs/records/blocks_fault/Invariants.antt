@@ -1,4 +1,4 @@
-use Prim.Native.Nat.{◌-◌, ◌≤◌}
+use Prim.Native.Nat.{◌-◌}
 use mathlib.Core.Path.{◌≡◌}
 use Rattle.spec_base.specs.base.Refusal.{first_of}
 use Rattle.spec_sheet.specs.sheet_frames.Frames.{long_of}
@@ -6,7 +6,4 @@ use Rattle.spec_sheet.specs.sheet.Sheet.{block_fault, record_blocks}
 use Rattle.sheet.proofs.records.blocks_fault.Given as goal
 
 abbrev pub invariant-loop-b : goal.invariant-loop-b
-invariant-loop-b l = (1 ≤ l.b) × (l.b ≤ l.end) × (first_of (block_fault l.s l.n) l.b (l.end - l.b) ≡ first_of (block_fault l.s l.n) 1 (record_blocks (long_of l.s) l.n))
-
-abbrev pub decreases-loop-b : goal.decreases-loop-b
-decreases-loop-b l = l.end - l.b
+invariant-loop-b l = first_of (block_fault l.s l.n) l.b (l.end - l.b) ≡ first_of (block_fault l.s l.n) 1 (record_blocks (long_of l.s) l.n)

@@ -4,5 +4,5 @@ use Rattle.sheet.proofs.records.check_fault.Goals as goal
 pub returns-then-block_holds : goal.returns-then-block_holds
 returns-then-block_holds c = search check_held
 
-pub returns : goal.returns
-returns c = search check_failed
+pub returns-else-block_holds : goal.returns-else-block_holds
+returns-else-block_holds c = search check_failed

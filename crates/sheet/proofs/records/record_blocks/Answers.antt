@@ -1,9 +1,11 @@
-use Rattle.spec_sheet.proofs.sheet.FaultLaws.{blocks_long, blocks_short}
-use borrow.Author.Rules.{rules}
+use native.Mathlib.Omega.{arith}
+use Rattle.spec_sheet.specs.sheet.Sheet.{record_blocks}
 use Rattle.sheet.proofs.records.record_blocks.Goals as goal
 
 pub returns-then-long : goal.returns-then-long
-returns-then-long c = (search blocks_long, search rules)
+unfolding record_blocks
+returns-then-long c = (rw c.if-long.true (omega arith), omega arith)
 
-pub returns : goal.returns
-returns c = (search blocks_short, search rules)
+pub returns-else-long : goal.returns-else-long
+unfolding record_blocks
+returns-else-long c = (rw c.if-long.false (omega arith), omega arith)

@@ -1,16 +1,14 @@
-use Prim.Native.Nat.{◌-◌}
 use Rattle.spec_sheet.proofs.sheet.TotalLaws.{total_start, total_over, total_next, total_done}
-use borrow.Author.Rules.{rules}
 use Rattle.sheet.proofs.totals.sum_fault.Goals as goal
 
 pub loop-i-init : goal.loop-i-init
-loop-i-init c = (search rules, total_start _)
+loop-i-init c = total_start _
 
 pub returns-then-left-d : goal.returns-then-left-d
 returns-then-left-d c = search total_over
 
 pub loop-i-preserved : goal.loop-i-preserved
-loop-i-preserved c = (search rules, search total_next)
+loop-i-preserved c = search total_next
 
 pub returns : goal.returns
 returns c = search total_done

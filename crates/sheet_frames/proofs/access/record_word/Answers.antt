@@ -5,5 +5,5 @@ use Rattle.sheet_frames.proofs.access.record_word.Goals as goal
 pub returns-then-long : goal.returns-then-long
 returns-then-long c = (search word_long, search rules)
 
-pub returns : goal.returns
-returns c = (search word_short, search rules)
+pub returns-else-long : goal.returns-else-long
+returns-else-long c = (search word_short, search rules)

@@ -4,7 +4,7 @@ use borrow.Author.Rules.{rules}
 use Rattle.sheet_permutation.proofs.naming.clean_pass.Goals as goal
 
 pub pass_by_layout-f-requires : goal.pass_by_layout-f-requires
-pass_by_layout-f-requires c = (omega arith, search clear_now)
+pass_by_layout-f-requires c = let e = c.fill.ensures.after (λ y h. h) in (omega arith, search clear_now)
 
 pub returns : goal.returns
-returns c = (search rules, search clear_all)
+returns c = let e = c.fill-2.ensures.after (λ y h. h) in (search rules, search clear_all)

@@ -7,7 +7,4 @@ use Rattle.spec_sheet.proofs.sheet_permutation.NamingLaws.{Seen}
 use Rattle.sheet_permutation.proofs.naming.pass.Given as goal
 
 abbrev pub invariant-loop-i : goal.invariant-loop-i
-invariant-loop-i l = (l.i ≤ l.n) × (length l.bits ≡ length l.initial.bits) × Seen l.s l.i l.bits × (first_of (repeat_fault l.s l.n) l.i (l.n - l.i) ≡ first_of (repeat_fault l.s l.n) 0 l.n)
-
-abbrev pub decreases-loop-i : goal.decreases-loop-i
-decreases-loop-i l = l.n - l.i
+invariant-loop-i g l = (l.i ≤ l.n) × (length l.bits ≡ length l.initial.bits) × Seen l.s l.i l.bits × (first_of (repeat_fault l.s l.n) l.i (l.n - l.i) ≡ first_of (repeat_fault l.s l.n) 0 l.n)

@@ -1,48 +1,24 @@
+use mathlib.Core.Path.{sym, ◌∙◌}
 use native.Mathlib.Omega.{arith}
-use borrow.Author.Rules.{rules}
-use Prim.Native.Nat.{◌-◌}
-use mathlib.Core.Path.{refl}
-use Rattle.spec_text.proofs.text.Laws.{natural_empty, digits_refused, digit_low, digit_high, digit_some, value_refused, digits_again, value_again, natural_passed}
+use borrow.Author.Tests.{eqb-false}
+use Rattle.spec_text.proofs.text.Laws.{digits_refused, value_refused, digits_again, value_again, natural_passed}
+use Rattle.text.proofs.StepLaws.{natural_none, digit_least}
 use Rattle.text.proofs.decimal.digits_to.Goals as goal
 
-pub returns-then-s-eq0 : goal.returns-then-s-eq0
-returns-then-s-eq0 c = search natural_empty
+pub returns-then-is_empty : goal.returns-then-is_empty
+returns-then-is_empty c = search natural_none
 
-pub loop-i-init : goal.loop-i-init
-loop-i-init c = (search rules, refl, refl, search rules)
+pub returns-then-not-is_digit : goal.returns-then-not-is_digit
+returns-then-not-is_digit c = digits_refused _ _ _ c.loop-b.invariant.0 c.loop-b-test.true (sym c.is_digit.ensures ∙ c.if-not-is_digit.true)
 
-pub bounds-s-i : goal.bounds-s-i
-bounds-s-i c = omega arith
-
-pub returns-then-b-lt48 : goal.returns-then-b-lt48
-returns-then-b-lt48 c = search (digits_refused, digit_low)
-
-pub returns-then-b-gt57 : goal.returns-then-b-gt57
-returns-then-b-gt57 c = search (digits_refused, digit_high)
-
-pub overflow_mul-v : goal.overflow_mul-v
-overflow_mul-v c = omega arith
-
-pub overflow_cast-v : goal.overflow_cast-v
-overflow_cast-v c = omega arith
-
-pub overflow_add-v : goal.overflow_add-v
-overflow_add-v c = omega arith
+pub overflow_sub-b : goal.overflow_sub-b
+overflow_sub-b c = digit_least _ (sym c.is_digit.ensures ∙ c.if-not-is_digit.false)
 
 pub returns-then-limit-v : goal.returns-then-limit-v
-returns-then-limit-v c = search value_refused
+returns-then-limit-v c = value_refused _ _ _ c.loop-b.v c.loop-b.invariant.1 c.loop-b-test.true (omega arith)
 
-pub overflow_add-i : goal.overflow_add-i
-overflow_add-i c = omega arith
-
-pub loop-i-smaller : goal.loop-i-smaller
-loop-i-smaller c = omega arith
-
-pub loop-i-preserved : goal.loop-i-preserved
-loop-i-preserved c = (omega arith, search (digits_again, digit_some), search value_again, omega arith)
-
-pub overflow_cast-value : goal.overflow_cast-value
-overflow_cast-value c = omega arith
+pub loop-b-preserved : goal.loop-b-preserved
+loop-b-preserved c = (digits_again _ _ c.loop-b.invariant.0 c.loop-b-test.true (sym c.is_digit.ensures ∙ c.if-not-is_digit.false), rw c.from.ensures (value_again _ _ _ c.loop-b.invariant.1 c.loop-b-test.true), omega arith)
 
 pub returns : goal.returns
-returns c = search natural_passed
+returns c = natural_passed _ _ _ _ (eqb-false _ _ (sym c.is_empty.ensures ∙ c.if-is_empty.false)) c.loop-b.invariant.0 c.loop-b.invariant.1 c.loop-b.invariant.2 (omega arith)

@@ -1,11 +1,8 @@
-use Prim.Native.Nat.{◌≤◌, ◌-◌}
+use Prim.Native.Nat.{◌≤◌}
 use mathlib.Core.Path.{◌≡◌}
-use lib.ListN.{length, drop}
+use lib.ListN.{drop}
 use Rattle.spec_text.specs.text.Number.{digits, value_from}
 use Rattle.text.proofs.decimal.digits_to.Given as goal
 
-abbrev pub invariant-loop-i : goal.invariant-loop-i
-invariant-loop-i l = (l.i ≤ length l.s) × (digits l.s ≡ digits (drop l.i l.s)) × (value_from 0 l.s ≡ value_from l.v (drop l.i l.s)) × (l.v ≤ l.most)
-
-abbrev pub decreases-loop-i : goal.decreases-loop-i
-decreases-loop-i l = length l.s - l.i
+abbrev pub invariant-loop-b : goal.invariant-loop-b
+invariant-loop-b l = (digits l.s ≡ digits (drop l.b-index l.s)) × (value_from 0 l.s ≡ value_from l.v (drop l.b-index l.s)) × (l.v ≤ l.most)

@@ -1,11 +1,9 @@
-use Prim.Native.Nat.{◌≤◌, ◌-◌, ◌+◌}
+use Prim.Native.Nat.{◌+◌}
 use mathlib.Core.Path.{◌≡◌}
+use mathlib.Core.Bool.{false}
 use lib.ListN.{drop}
 use Rattle.spec_text.specs.text.Line.{line_length}
 use Rattle.text.proofs.line.lf_free.Given as goal
 
-abbrev pub invariant-loop-k : goal.invariant-loop-k
-invariant-loop-k l = (l.k ≤ 16) × (l.most ≡ 0 → line_length (drop l.i l.s) ≡ l.k + line_length (drop (l.i + l.k) l.s))
-
-abbrev pub decreases-loop-k : goal.decreases-loop-k
-decreases-loop-k l = 16 - l.k
+abbrev pub invariant-loop-b : goal.invariant-loop-b
+invariant-loop-b l = l.found ≡ false → line_length (drop l.i l.s) ≡ l.b-index + line_length (drop (l.i + l.b-index) l.s)

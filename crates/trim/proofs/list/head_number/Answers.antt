@@ -7,5 +7,5 @@ returns-then-list-gt-MOST_LIST_BYTES c = search head_long
 pub returns-then-is_utf8 : goal.returns-then-is_utf8
 returns-then-is_utf8 c = search head_passed
 
-pub returns : goal.returns
-returns c = search head_bytes_lem
+pub returns-else-is_utf8 : goal.returns-else-is_utf8
+returns-else-is_utf8 c = search head_bytes_lem

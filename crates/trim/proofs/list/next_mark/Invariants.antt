@@ -1,12 +1,9 @@
-use Prim.Native.Nat.{◌≤◌, ◌-◌, ◌+◌}
+use Prim.Native.Nat.{◌-◌, ◌+◌, ◌≤◌}
 use mathlib.Core.Path.{◌≡◌}
-use lib.ListN.{length, drop}
+use lib.ListN.{drop, length}
 use Rattle.spec_text.specs.pattern.Find.{first}
 use Rattle.spec_trim.specs.trim.Token.{mark}
 use Rattle.trim.proofs.list.next_mark.Given as goal
 
 abbrev pub invariant-loop-i : goal.invariant-loop-i
-invariant-loop-i l = (l.i ≤ length l.s) × (first mark l.s ≡ l.i + first mark (drop l.i l.s))
-
-abbrev pub decreases-loop-i : goal.decreases-loop-i
-decreases-loop-i l = length l.s - l.i
+invariant-loop-i l = (l.i - 1 ≤ length l.s) × (first mark l.s ≡ l.i - 1 + first mark (drop (l.i - 1) l.s))

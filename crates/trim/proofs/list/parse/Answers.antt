@@ -1,5 +1,9 @@
 use native.Mathlib.Omega.{arith}
+use mathlib.Core.Path.{refl}
+use Rattle.std.proofs.lemmas.Result.{err_from_is_err_and}
+use Rattle.refusals.proofs.Laws.{refused_not_0}
 use Rattle.spec_trim.proofs.trim.ReadLaws.{short_told, short_kept, parse_told, parse_kept, parse_filled}
+use Rattle.trim.proofs.ReadingLaws.{front_written}
 use Rattle.trim.proofs.list.parse.Goals as goal
 
 pub returns-then-ranges-lt-MOST_PLACES-clause-value : goal.returns-then-ranges-lt-MOST_PLACES-clause-value
@@ -8,20 +12,14 @@ returns-then-ranges-lt-MOST_PLACES-clause-value c = search short_told
 pub returns-then-ranges-lt-MOST_PLACES-clause-ranges_after : goal.returns-then-ranges-lt-MOST_PLACES-clause-ranges_after
 returns-then-ranges-lt-MOST_PLACES-clause-ranges_after c = search short_kept
 
-pub overflow_mul-k : goal.overflow_mul-k
-overflow_mul-k c = omega arith
+pub returns-in_err-count-clause-value : goal.returns-in_err-count-clause-value
+returns-in_err-count-clause-value c = let p = err_from_is_err_and c.from_residual.result c.from_residual.ensures.1 in rw (p.1, p.2) (parse_told _ _ _ c.if-ranges-lt-MOST_PLACES.false c.in_err-count.ensures.value)
 
-pub copy-requires : goal.copy-requires
-copy-requires c = (omega arith, omega arith)
-
-pub returns-then-n-eq0-clause-value : goal.returns-then-n-eq0-clause-value
-returns-then-n-eq0-clause-value c = search parse_told
-
-pub returns-then-n-eq0-clause-ranges_after : goal.returns-then-n-eq0-clause-ranges_after
-returns-then-n-eq0-clause-ranges_after c = let r = c.read-r in parse_filled _ _ _ _ _ r.result (omega arith) r.ensures.value c.if-n-eq0.true r.ensures.ranges_after c.copy.ensures
+pub returns-in_err-count-clause-ranges_after : goal.returns-in_err-count-clause-ranges_after
+returns-in_err-count-clause-ranges_after c = parse_kept _ _ _ c.if-ranges-lt-MOST_PLACES.false c.in_err-count.ensures.value (refused_not_0 _)
 
 pub returns-clause-value : goal.returns-clause-value
-returns-clause-value c = search parse_told
+returns-clause-value c = parse_told _ _ _ c.if-ranges-lt-MOST_PLACES.false c.in_ok-count.ensures.value
 
 pub returns-clause-ranges_after : goal.returns-clause-ranges_after
-returns-clause-ranges_after c = search parse_kept
+returns-clause-ranges_after c = let e = c.in_ok-count.ensures in parse_filled _ _ _ _ _ _ c.if-ranges-lt-MOST_PLACES.false e.value refl e.ranges_after (front_written _ _ _ _ c.copy_from_slice.ensures.after (omega arith))

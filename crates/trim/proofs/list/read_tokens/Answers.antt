@@ -1,43 +1,33 @@
 use native.Mathlib.Omega.{arith}
-use Prim.Native.Nat.{◌-◌}
 use mathlib.Core.Path.{refl, sym}
 use native.Mathlib.Nat.{zero-add}
-use Rattle.spec_trim.proofs.trim.ReadLaws.{read_fault, fault_unread, read_last_lem, read_filled, read_many, many_unread, number_again, count_again, places_again, drop_shorter}
+use Rattle.std.proofs.lemmas.Result.{err_from_is_err_and}
+use Rattle.refusals.proofs.Laws.{refused_not_0}
+use Rattle.spec_trim.proofs.trim.ReadLaws.{read_filled, read_many, number_again, places_again, drop_shorter}
+use Rattle.trim.proofs.AnswerLaws.{fault_read, last_read, more_read}
 use borrow.Author.Rules.{rules}
 use Rattle.trim.proofs.list.read_tokens.Goals as goal
 
 pub loop-count-init : goal.loop-count-init
 loop-count-init c = (search rules, refl, search rules, refl, sym (zero-add _), refl)
 
-pub returns-in-Fault-clause-value : goal.returns-in-Fault-clause-value
-returns-in-Fault-clause-value c = search read_fault
+pub returns-in_err-r-clause-value : goal.returns-in_err-r-clause-value
+returns-in_err-r-clause-value c = let p = err_from_is_err_and c.from_residual.result c.from_residual.ensures.1 in rw (p.1, p.2) (search (fault_read, c.in_err-r.ensures))
 
-pub returns-in-Fault-clause-ranges_after : goal.returns-in-Fault-clause-ranges_after
-returns-in-Fault-clause-ranges_after c = λ z. search fault_unread
+pub returns-in_err-r-clause-ranges_after : goal.returns-in_err-r-clause-ranges_after
+returns-in_err-r-clause-ranges_after c = let p = err_from_is_err_and c.from_residual.result c.from_residual.ensures.1 in rw (p.1, p.2) (λ z. absurd (refused_not_0 _ z))
 
-pub store-requires : goal.store-requires
-store-requires c = omega arith
+pub returns-then-t-k-clause-value : goal.returns-then-t-k-clause-value
+returns-then-t-k-clause-value c = search (last_read, c.in_ok-r.ensures)
 
-pub overflow_add-count : goal.overflow_add-count
-overflow_add-count c = omega arith
-
-pub returns-then-k-t-clause-value : goal.returns-then-k-t-clause-value
-returns-then-k-t-clause-value c = search read_last_lem
-
-pub returns-then-k-t-clause-ranges_after : goal.returns-then-k-t-clause-ranges_after
-returns-then-k-t-clause-ranges_after c = λ z. search read_filled
-
-pub overflow_add-k : goal.overflow_add-k
-overflow_add-k c = omega arith
-
-pub loop-count-smaller : goal.loop-count-smaller
-loop-count-smaller c = omega arith
+pub returns-then-t-k-clause-ranges_after : goal.returns-then-t-k-clause-ranges_after
+returns-then-t-k-clause-ranges_after c = λ z. search (read_filled, c.in_ok-r.ensures)
 
 pub loop-count-preserved : goal.loop-count-preserved
-loop-count-preserved c = (omega arith, omega arith, search drop_shorter, search number_again, search count_again, search places_again)
+loop-count-preserved c = (omega arith, omega arith, search drop_shorter, search (number_again, c.in_ok-r.ensures), search (more_read, c.in_ok-r.ensures), search (places_again, c.in_ok-r.ensures))
 
 pub returns-clause-value : goal.returns-clause-value
 returns-clause-value c = search read_many
 
 pub returns-clause-ranges_after : goal.returns-clause-ranges_after
-returns-clause-ranges_after c = λ z. search many_unread
+returns-clause-ranges_after c = λ z. absurd (omega arith)

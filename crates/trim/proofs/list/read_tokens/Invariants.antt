@@ -8,6 +8,3 @@ use Rattle.trim.proofs.list.read_tokens.Given as goal
 
 abbrev pub invariant-loop-count : goal.invariant-loop-count
 invariant-loop-count l = (l.count ≤ most_trims) × (length l.ranges ≡ length l.initial.ranges) × (length l.t ≤ length l.list) × (tokens_number most_trims 0 (tokens_of l.list) ≡ tokens_number (most_trims - l.count) l.prev.0 (tokens_of l.t)) × (length (tokens_of l.list) ≡ l.count + length (tokens_of l.t)) × (sets l.initial.ranges 0 (ranges_in (tokens_of l.list)) ≡ sets l.ranges (l.count * 2) (ranges_in (tokens_of l.t)))
-
-abbrev pub decreases-loop-count : goal.decreases-loop-count
-decreases-loop-count l = most_trims - l.count

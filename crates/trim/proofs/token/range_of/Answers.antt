@@ -10,6 +10,6 @@ pub returns-then-b-eq-MOST_FRAME : goal.returns-then-b-eq-MOST_FRAME
 unfolding range_of
 returns-then-b-eq-MOST_FRAME c = search chain depth 12
 
-pub returns : goal.returns
+pub returns-else-b-eq-MOST_FRAME : goal.returns-else-b-eq-MOST_FRAME
 unfolding range_of
-returns c = search chain depth 12
+returns-else-b-eq-MOST_FRAME c = search chain depth 12

@@ -5,6 +5,6 @@ use Rattle.utf8.proofs.utf8.char_width.Goals as goal
 pub returns-then-a-lt128 : goal.returns-then-a-lt128
 returns-then-a-lt128 c = search width_one
 
-pub returns : goal.returns
+pub returns-else-a-lt128 : goal.returns-else-a-lt128
 unfolding char_width
-returns c = cc
+returns-else-a-lt128 c = cc

@@ -1,19 +1,20 @@
-use Rattle.spec_base.proofs.base.Laws.{chain}
+use native.Mathlib.Omega.{arith}
+use Rattle.std.proofs.lemmas.Grind.{common_steps}
 use Rattle.spec_text.specs.utf8.Utf8.{code_by}
 use Rattle.utf8.proofs.utf8.code_by.Goals as goal
 
-pub returns-then-w-eq1 : goal.returns-then-w-eq1
+pub returns-in-1 : goal.returns-in-1
 unfolding code_by
-returns-then-w-eq1 c = search chain depth 12
+returns-in-1 c = grind (arith, common_steps)
 
-pub returns-then-w-eq2 : goal.returns-then-w-eq2
+pub returns-in-2 : goal.returns-in-2
 unfolding code_by
-returns-then-w-eq2 c = search chain depth 12
+returns-in-2 c = grind (arith, common_steps)
 
-pub returns-then-w-eq3 : goal.returns-then-w-eq3
+pub returns-in-3 : goal.returns-in-3
 unfolding code_by
-returns-then-w-eq3 c = search chain depth 12
+returns-in-3 c = grind (arith, common_steps)
 
-pub returns : goal.returns
+pub returns-in_default : goal.returns-in_default
 unfolding code_by
-returns c = search chain depth 12
+returns-in_default c = grind (arith, common_steps)

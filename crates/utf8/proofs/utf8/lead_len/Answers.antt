@@ -1,27 +1,28 @@
-use Rattle.spec_base.proofs.base.Laws.{chain}
+use native.Mathlib.Omega.{arith}
+use Rattle.std.proofs.lemmas.Grind.{common_steps}
 use Rattle.spec_text.specs.utf8.Utf8.{lead_len}
 use Rattle.utf8.proofs.utf8.lead_len.Goals as goal
 
-pub returns-then-a-lt128 : goal.returns-then-a-lt128
+pub returns-in-0-to-127 : goal.returns-in-0-to-127
 unfolding lead_len
-returns-then-a-lt128 c = search chain depth 12
+returns-in-0-to-127 c = grind (arith, common_steps)
 
-pub returns-then-a-lt194 : goal.returns-then-a-lt194
+pub returns-in-194-to-223 : goal.returns-in-194-to-223
 unfolding lead_len
-returns-then-a-lt194 c = search chain depth 12
+returns-in-194-to-223 c = grind (arith, common_steps)
 
-pub returns-then-a-lt224 : goal.returns-then-a-lt224
+pub returns-in-224-to-239 : goal.returns-in-224-to-239
 unfolding lead_len
-returns-then-a-lt224 c = search chain depth 12
+returns-in-224-to-239 c = grind (arith, common_steps)
 
-pub returns-then-a-lt240 : goal.returns-then-a-lt240
+pub returns-in-240-to-244 : goal.returns-in-240-to-244
 unfolding lead_len
-returns-then-a-lt240 c = search chain depth 12
+returns-in-240-to-244 c = grind (arith, common_steps)
 
-pub returns-then-a-lt245 : goal.returns-then-a-lt245
+pub returns-in_default : goal.returns-in_default
 unfolding lead_len
-returns-then-a-lt245 c = search chain depth 12
+returns-in_default c = grind (arith, common_steps)
 
-pub returns : goal.returns
+pub returns-in_default-2 : goal.returns-in_default-2
 unfolding lead_len
-returns c = search chain depth 12
+returns-in_default-2 c = grind (arith, common_steps)

@@ -1,15 +1,16 @@
-use Rattle.spec_base.proofs.base.Laws.{chain}
+use native.Mathlib.Omega.{arith}
+use Rattle.std.proofs.lemmas.Grind.{common_steps}
 use Rattle.spec_text.specs.utf8.Utf8.{second_high}
 use Rattle.utf8.proofs.utf8.second_high.Goals as goal
 
-pub returns-then-a-eq237 : goal.returns-then-a-eq237
+pub returns-in-237 : goal.returns-in-237
 unfolding second_high
-returns-then-a-eq237 c = search chain depth 12
+returns-in-237 c = grind (arith, common_steps)
 
-pub returns-then-a-eq244 : goal.returns-then-a-eq244
+pub returns-in-244 : goal.returns-in-244
 unfolding second_high
-returns-then-a-eq244 c = search chain depth 12
+returns-in-244 c = grind (arith, common_steps)
 
-pub returns : goal.returns
+pub returns-in_default : goal.returns-in_default
 unfolding second_high
-returns c = search chain depth 12
+returns-in_default c = grind (arith, common_steps)

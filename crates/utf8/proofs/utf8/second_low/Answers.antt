@@ -1,15 +1,16 @@
-use Rattle.spec_base.proofs.base.Laws.{chain}
+use native.Mathlib.Omega.{arith}
+use Rattle.std.proofs.lemmas.Grind.{common_steps}
 use Rattle.spec_text.specs.utf8.Utf8.{second_low}
 use Rattle.utf8.proofs.utf8.second_low.Goals as goal
 
-pub returns-then-a-eq224 : goal.returns-then-a-eq224
+pub returns-in-224 : goal.returns-in-224
 unfolding second_low
-returns-then-a-eq224 c = search chain depth 12
+returns-in-224 c = grind (arith, common_steps)
 
-pub returns-then-a-eq240 : goal.returns-then-a-eq240
+pub returns-in-240 : goal.returns-in-240
 unfolding second_low
-returns-then-a-eq240 c = search chain depth 12
+returns-in-240 c = grind (arith, common_steps)
 
-pub returns : goal.returns
+pub returns-in_default : goal.returns-in_default
 unfolding second_low
-returns c = search chain depth 12
+returns-in_default c = grind (arith, common_steps)

@@ -1,31 +1,28 @@
-use Rattle.spec_base.proofs.base.Laws.{chain}
+use native.Mathlib.Omega.{arith}
+use Rattle.std.proofs.lemmas.Grind.{common_steps}
 use Rattle.spec_text.specs.whitespace.White.{white_high}
 use Rattle.whitespace.proofs.white.is_white_high.Goals as goal
 
-pub returns-then-u-lt8192 : goal.returns-then-u-lt8192
+pub returns-in_default : goal.returns-in_default
 unfolding white_high
-returns-then-u-lt8192 c = search chain depth 12
+returns-in_default c = grind (arith, common_steps)
 
-pub returns-then-u-le8202 : goal.returns-then-u-le8202
+pub returns-in_default-2 : goal.returns-in_default-2
 unfolding white_high
-returns-then-u-le8202 c = search chain depth 12
+returns-in_default-2 c = grind (arith, common_steps)
 
-pub returns-then-u-eq8232 : goal.returns-then-u-eq8232
+pub returns-in_default-3 : goal.returns-in_default-3
 unfolding white_high
-returns-then-u-eq8232 c = search chain depth 12
+returns-in_default-3 c = grind (arith, common_steps)
 
-pub returns-then-u-eq8233 : goal.returns-then-u-eq8233
+pub returns-in-8192-to-8202 : goal.returns-in-8192-to-8202
 unfolding white_high
-returns-then-u-eq8233 c = search chain depth 12
+returns-in-8192-to-8202 c = grind (arith, common_steps)
 
-pub returns-then-u-eq8239 : goal.returns-then-u-eq8239
+pub returns-in-8192-to-8202-2 : goal.returns-in-8192-to-8202-2
 unfolding white_high
-returns-then-u-eq8239 c = search chain depth 12
+returns-in-8192-to-8202-2 c = grind (arith, common_steps)
 
-pub returns-then-u-eq8287 : goal.returns-then-u-eq8287
+pub returns-in-8192-to-8202-3 : goal.returns-in-8192-to-8202-3
 unfolding white_high
-returns-then-u-eq8287 c = search chain depth 12
-
-pub returns : goal.returns
-unfolding white_high
-returns c = search chain depth 12
+returns-in-8192-to-8202-3 c = grind (arith, common_steps)

@@ -18,6 +18,6 @@ pub returns-then-ends_white-3 : goal.returns-then-ends_white-3
 unfolding white_tail
 returns-then-ends_white-3 c = search calls depth 12
 
-pub returns : goal.returns
+pub returns-else-ends_white-3 : goal.returns-else-ends_white-3
 unfolding white_tail
-returns c = search calls depth 12
+returns-else-ends_white-3 c = search calls depth 12

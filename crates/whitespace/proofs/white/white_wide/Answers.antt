@@ -4,5 +4,5 @@ use Rattle.whitespace.proofs.white.white_wide.Goals as goal
 pub returns-then-is_white : goal.returns-then-is_white
 returns-then-is_white c = search white_some
 
-pub returns : goal.returns
-returns c = search white_none
+pub returns-else-is_white : goal.returns-else-is_white
+returns-else-is_white c = search white_none

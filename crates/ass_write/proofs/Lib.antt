@@ -1,0 +1,2 @@
+pub mod TagSearch
+pub mod FieldLoop

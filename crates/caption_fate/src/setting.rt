@@ -1,1 +1,0 @@
-// What captions are decided by, beside the map.

@@ -1,0 +1,2 @@
+-- Laws of this crate alone.
+pub mod Parts
