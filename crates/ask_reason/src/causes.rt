@@ -26,7 +26,8 @@ pub fn fill(map: &[u64], a: u64, b: u64, places: &mut [u64])
     requires { length map.now / 6 ≤ length places.old }
     ensures { places.new ≡ put (causes_of (segments_of map.now) a b) places.old }
 {
-    for (i, s) in map.chunks_exact(6).enumerate() {
+    let (segments, _) = map.as_chunks::<6>();
+    for (i, s) in segments.iter().enumerate() {
         places[i] = cause(s[2], s[5], a, b);
     }
 }

@@ -40,6 +40,10 @@ module _ (s e : List ℕ) (i j m : ℕ) (rest o₀ : List ℕ) (from : ℕ) wher
   going k at t o h (inl p) = absurd (omega (arith, p.0))
   going k at t o h (inr p) = p.1
 
+  -- the cursor stands within the output
+  pub going_room : (k at : ℕ) (t o : List ℕ) → k < m → Going k at t o → at ≤ length o
+  going_room k at t o h g = (going k at t o h g).room
+
   pub going_all : from ≤ length o₀ → Going 0 from rest o₀
   going_all r = go (eqb m 0) refl
     where

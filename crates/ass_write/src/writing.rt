@@ -45,11 +45,11 @@ fn write_fields(out: &mut [u8], from: usize, rest: &[u8], columns: Columns, text
     for k in 0..columns.columns {
         let n = field_length(t, columns.columns - k);
         let text = column_text(base::front(t, n), k + 1, columns, texts);
-        at = base::put_at(out, at, text);
+        at += base::put(&mut out[at..], text);
         if t.len() <= n {
             return at;
         }
-        at = base::put_at(out, at, b",");
+        at += base::put(&mut out[at..], b",");
         t = base::rest(t, n + 1);
     }
     at
@@ -68,7 +68,7 @@ fn write_line(
 {
     let first = base::put_at(out, 0, word);
     let last = write_fields(out, first, rest, columns, texts);
-    base::put_at(out, last, ending)
+    last + base::put(&mut out[last..], ending)
 }
 
 // The same with two times as texts of a kind, each with its mark.

@@ -10,7 +10,9 @@ pub fn put<T: Copy>(out: &mut [T], s: &[T]) -> usize
     if out.len() < n {
         return 0;
     }
-    out[..n].copy_from_slice(s);
+    for (i, x) in s.iter().enumerate() {
+        out[i] = *x;
+    }
     n
 }
 

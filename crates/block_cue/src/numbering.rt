@@ -7,7 +7,11 @@ ghost use Rattle.spec_cue.specs.block_cue.BlockThrough.{number_in};
 fn line_feeds(block: &[u8]) -> usize
     ensures { result ≡ count_by (λ b. eqb b 10) block.now }
 {
-    block.iter().filter(|b| **b == b'\n').count()
+    let mut n = 0;
+    for b in block {
+        n += usize::from(*b == b'\n');
+    }
+    n
 }
 
 // How many lines a block has. The last may have no LF.

@@ -16,7 +16,7 @@ fn begun(session: Session) -> Head
 {
     Head {
         held_len: 0,
-        ..session_state::head_of(session)
+        ..session_state::head_of(&session)
     }
 }
 

@@ -98,8 +98,8 @@ fn park_refusal(session: Session, lent: usize) -> u32
 }
 
 // How many bytes are stored.
-fn kept_length(session: Session) -> usize
-    ensures { result ≡ cond session.ended 0 session.held_len }
+fn kept_length(session: &Session) -> usize
+    ensures { result ≡ cond session.now.ended 0 session.now.held_len }
 {
     if session.ended { 0 } else { session.held_len }
 }
@@ -112,16 +112,16 @@ fn number_bytes(head: Head) -> [u8; 64]
 }
 
 // The bytes of words 1 to 16 of a session.
-fn head_bytes(session: Session) -> [u8; 64]
-    ensures { result ≡ words_bytes (head_words 2 session) }
+fn head_bytes(session: &Session) -> [u8; 64]
+    ensures { result ≡ words_bytes (head_words 2 session.now) }
 {
     number_bytes(session_state::head_of(session))
 }
 
 // The 18 blocks, at the start.
-fn store(session: Session, out: &mut [u8])
+fn store(session: &Session, out: &mut [u8])
     requires { sealed_length ≤ length out.old }
-    ensures { out.new ≡ put (parked_of 2 session) out.old }
+    ensures { out.new ≡ put (parked_of 2 session.now) out.old }
 {
     let head = head_bytes(session);
     let n = kept_length(session);
@@ -135,7 +135,7 @@ pub fn keep(session: Session, out: &mut [u8]) -> Result<(), Refusal>
     if out.len() < 9216 {
         return Err(Refusal::BadArgument);
     }
-    store(session, out);
+    store(&session, out);
     Ok(())
 }
 
@@ -147,7 +147,7 @@ pub fn park(session: Session, out: &mut [u8]) -> u32
     if refused != 0 {
         return refused;
     }
-    store(session, out);
+    store(&session, out);
     0
 }
 

@@ -2,10 +2,13 @@
 ghost use Rattle.std.specs.Prelude.{◌≡◌, ◌<◌, length, drop};
 ghost use Rattle.spec_text.specs.pattern.Find.{starts, equals, first, contains, up_to, past};
 
-// Whether `s` begins with `p`.
+// Whether `s` begins with `p`. Most texts are ruled out by the first byte.
 pub fn starts_with(s: &[u8], p: &[u8]) -> bool
     ensures { result ≡ starts p.now s.now }
 {
+    if 0 < s.len() && 0 < p.len() && s[0] != p[0] {
+        return false;
+    }
     s.starts_with(p)
 }
 

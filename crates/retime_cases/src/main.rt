@@ -10,10 +10,10 @@ use std::rt::Files;
 fn run_case<R: Files, W: Write>(rt: &R, to: &mut W, name: &[u8]) -> io::Result<()>
     ensures grows { Grows (W.contents to.old) (W.contents to.new) }
 {
-    let sheet = files_map::load(rt, name, b"sheet.bin")?;
-    let list = files_map::load(rt, name, b"trim.txt")?;
     streams::write_text(to, name)?;
     streams::write_text(to, b":\n")?;
+    let sheet = files_map::load(rt, name, b"sheet.bin")?;
+    let list = files_map::load(rt, name, b"trim.txt")?;
     files_retime::retime(rt, to, name, sheet.held(), list.held())?;
     streams::write_text(to, b"\n")
 }

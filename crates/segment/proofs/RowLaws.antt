@@ -39,13 +39,13 @@ six_at (suc k) zero m d h = refl
 six_at (suc k) (suc i) m d h = let e : 6 * suc i ≡ 6 + 6 * i = omega arith in six_at k i (drop 6 m) d (omega arith) ∙ ap (take 6) (drop-drop (6 * i) 6 m ∙ ap (λ (n : ℕ). drop n m) (sym e))
 
 -- the i-th of the whole segments of m
-record Row (m t x : List ℕ) (i : ℕ) : Type 0 where
-  enough : 6 ≤ length t
-  six : length x ≡ 6
-  same : (j : ℕ) → j < 6 → get_or x j 0 ≡ get_or t j 0
-  next : drop (6 * (i + 1)) m ≡ drop 6 t
+pub record Row (m t x : List ℕ) (i : ℕ) : Type 0 where
+  pub enough : 6 ≤ length t
+  pub six : length x ≡ 6
+  pub same : (j : ℕ) → j < 6 → get_or x j 0 ≡ get_or t j 0
+  pub next : drop (6 * (i + 1)) m ≡ drop 6 t
 
-row_at : (m : List ℕ) (s : List (List ℕ)) (i : ℕ) (d : List ℕ) → s ≡ first_chunks 6 (length m / 6) m → length s ≡ length m / 6 → i < length s → Row m (drop (6 * i) m) (get_or s i d) i
+pub row_at : (m : List ℕ) (s : List (List ℕ)) (i : ℕ) (d : List ℕ) → s ≡ first_chunks 6 (length m / 6) m → length s ≡ length m / 6 → i < length s → Row m (drop (6 * i) m) (get_or s i d) i
 row_at m s i d es ls h =
     let e = ap (λ (l : List (List ℕ)). get_or l i d) es ∙ six_at (length m / 6) i m d (omega arith) in
     let n : 6 * (i + 1) ≡ 6 * i + 6 = omega arith in

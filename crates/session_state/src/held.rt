@@ -22,7 +22,11 @@ pub fn block_end(held: &[u8]) -> usize
 pub fn lf_count(held: &[u8]) -> usize
     ensures { result ≡ line_count (closed_lines held.now) }
 {
-    held.iter().filter(|b| **b == b'\n').count()
+    let mut n = 0;
+    for b in held {
+        n += usize::from(*b == b'\n');
+    }
+    n
 }
 
 // Whether this can't be a line of an open block: a blank line would have ended the block, and a line that is not UTF-8 is a fault (20).

@@ -24,10 +24,18 @@ fn marks_bad(ended: bool, outcome: u32, lines: u32, held: &[u8]) -> bool
 fn kept_bad(head: Head, held: &[u8]) -> bool
     ensures { result ≡ (ltb head.taken (length held.now) || (strange head.config.kind head.columns held.now || (outcome_bad head.ended head.outcome || ltb head.lines (line_count (closed_lines held.now))))) }
 {
-    (head.taken as usize) < held.len()
+    if (head.taken as usize) < held.len()
         || columns_bad(head.columns)
         || held_bad(head.config.kind, held)
-        || marks_bad(head.ended, head.outcome, head.lines, held)
+    {
+        return true;
+    }
+    // ASS holds no finished line, so none is counted.
+    if head.config.kind == 0 {
+        outcome_bad(head.ended, head.outcome)
+    } else {
+        marks_bad(head.ended, head.outcome, head.lines, held)
+    }
 }
 
 // Whether a session of these numbers and held bytes is foreign.
@@ -42,8 +50,8 @@ pub fn foreign_head(head: Head, held: &[u8]) -> bool
 }
 
 // The numbers of a session, apart from the bytes that it holds.
-pub fn head_of(session: Session) -> Head
-    ensures { result ≡ record { config = session.config; ended = session.ended; outcome = session.outcome; taken = session.taken; lines = session.lines; counts = session.counts; columns = session.columns; held_len = session.held_len } }
+pub fn head_of(session: &Session) -> Head
+    ensures { result ≡ record { config = session.now.config; ended = session.now.ended; outcome = session.now.outcome; taken = session.now.taken; lines = session.now.lines; counts = session.now.counts; columns = session.now.columns; held_len = session.now.held_len } }
 {
     Head {
         config: session.config,
@@ -63,5 +71,5 @@ pub fn foreign(session: Session) -> bool
     ensures { result ≡ foreign_of session }
 {
     let n = session.held_len;
-    base::MOST_HELD < n || foreign_head(head_of(session), base::front(&session.held, n))
+    base::MOST_HELD < n || foreign_head(head_of(&session), base::front(&session.held, n))
 }

@@ -57,7 +57,7 @@ pub record Enums : Type 0 where
   pub number_to : (k most : ℕ) (s : List ℕ) (r : Option ℕ) → r ≡ number most s → SaysNumber k most (unsigned s) r
   -- stamp::read_time
   pub read_time : (kind : ℕ) (s : List ℕ) (r : Option Stamp) → r ≡ time_in kind s → SaysTime kind r
-  -- sheet::check
+  -- sheet::check: r is its answer with the number of its refusal, `answer_of` (`told_sheet` and `held_sheet` of sheet/proofs/AnswerLaws say it of the answer itself)
   pub check : (s : List ℕ) (lent : ℕ) (r : Result Head ℕ) → r ≡ sheet_of s lent → SaysSheet s lent r
   -- event::find_hit, segments::find_hit
   pub found_hit : (m : List Segment) (a b : ℕ) (r : Option Met) → r ≡ hit_of (find_hit m a b) → hit_case r ≡ found_case (find_hit m a b)

@@ -8,7 +8,7 @@ use Rattle.spec_base.specs.base.Put.{put}
 use Rattle.spec_text.specs.pattern.Find.{starts, first}
 use Rattle.spec_text.proofs.pattern.Laws.{first_again}
 use Rattle.spec_trim.specs.trim.Token.{mark}
-use Rattle.spec_trim.proofs.trim.MarkLaws.{mark_found, mark_none}
+use Rattle.spec_trim.proofs.trim.MarkLaws.{mark_found, mark_one}
 
 -- a prefix that is stripped is one that the text starts with
 pub starts_told : (p s : List ℕ) → pointwise nat_eq (take (length p) s) p ≡ starts p s
@@ -52,19 +52,24 @@ no_mark (x ∷ y ∷ s) zero n = go (eqb 0x2B x) (eqb 0x2B y) refl refl
     go false u e f = refl
 no_mark (x ∷ s) (suc i) n = no_mark s i n
 
--- i is the place after the one that is looked at
-pub mark_next : (s : List ℕ) (i : ℕ) → first mark s ≡ i - 1 + first mark (drop (i - 1) s) → 1 ≤ i → i < length s → (get_or s (i - 1) 0 ≡ 0x2B → get_or s i 0 ≡ 0x2B → ⊥)
-    → first mark s ≡ i + 1 - 1 + first mark (drop (i + 1 - 1) s)
-mark_next s i inv l h n =
-    let e : suc (i - 1) ≡ i = omega arith in
-    let f : i - 1 + 1 ≡ i + 1 - 1 = omega arith in
-    first_again s mark (i - 1) false inv (omega arith) (sym (no_mark s (i - 1) (λ a b. n a (ap (λ (k : ℕ). get_or s k 0) (sym e) ∙ b)))) refl
-    ∙ ap (λ (k : ℕ). k + first mark (drop k s)) f
+-- a plus stands within the text
+plus_within : (s : List ℕ) (i : ℕ) → get_or s i 0 ≡ 0x2B → i < length s
+plus_within [] zero e = absurd (omega arith)
+plus_within [] (suc i) e = absurd (omega arith)
+plus_within (x ∷ s) zero e = omega arith
+plus_within (x ∷ s) (suc i) e = let h : i < length s = plus_within s i e in omega arith
 
-pub mark_here : (s : List ℕ) (i : ℕ) → first mark s ≡ i - 1 + first mark (drop (i - 1) s) → 1 ≤ i → i < length s → get_or s (i - 1) 0 ≡ 0x2B → get_or s i 0 ≡ 0x2B → i - 1 ≡ first mark s
-mark_here s i inv l h a b =
-    let e : i ≡ i - 1 + 1 = omega arith in
-    mark_found s (i - 1) inv (omega arith) (ap (λ (k : ℕ). get_or s k 0) (sym e) ∙ b) a
+-- two bytes from i on, where none of those before begins a mark
+module _ (s : List ℕ) (i : ℕ) (inv : first mark s ≡ i + first mark (drop i s)) where
+  pub mark_behind : i + 1 < length s → (get_or s i 0 ≡ 0x2B → ⊥) → get_or s (i + 1) 0 ≡ 0x2B → get_or s (i + 2) 0 ≡ 0x2B → i + 1 ≡ first mark s
+  mark_behind h n a b =
+      let e : i + 1 + 1 ≡ i + 2 = omega arith in
+      let l : i + 2 < length s = plus_within s (i + 2) b in
+      mark_found s (i + 1) (mark_one s i inv h n) (omega arith) (ap (λ (k : ℕ). get_or s k 0) e ∙ b) a
 
-pub mark_over : (s : List ℕ) (i : ℕ) → first mark s ≡ i - 1 + first mark (drop (i - 1) s) → i - 1 ≤ length s → length s ≤ i → length s ≡ first mark s
-mark_over s i inv h k = mark_none s (i - 1) inv h (omega arith)
+  pub mark_skipped : i + 1 < length s → (get_or s i 0 ≡ 0x2B → ⊥) → (get_or s (i + 2) 0 ≡ 0x2B → ⊥) → first mark s ≡ i + 2 + first mark (drop (i + 2) s)
+  mark_skipped h n m =
+      let e : suc (i + 1) ≡ i + 2 = omega arith in
+      let f : i + 1 + 1 ≡ i + 2 = omega arith in
+      first_again s mark (i + 1) false (mark_one s i inv h n) (omega arith) (sym (no_mark s (i + 1) (λ a b. m (ap (λ (k : ℕ). get_or s k 0) (sym e) ∙ b)))) refl
+      ∙ ap (λ (k : ℕ). k + first mark (drop k s)) f

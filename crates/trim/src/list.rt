@@ -13,13 +13,19 @@ use crate::token::step_of;
 use order::DisplayIdx;
 use refusals::Refusal;
 
-// Where the first `++` begins, or the length of `s`.
+// Where the first `++` begins, or the length of `s`. Of two bytes whose second is no plus, neither begins one.
 fn next_mark(s: &[u8]) -> usize
     ensures { result ≡ first mark s.now }
 {
-    for i in 1..s.len() {
-        if s[i - 1] == b'+' && s[i] == b'+' {
-            return i - 1;
+    for k in 0..s.len() / 2 {
+        let i = 2 * k;
+        if s[i + 1] == b'+' {
+            if s[i] == b'+' {
+                return i;
+            }
+            if base::get_or(s, i + 2, 0) == b'+' {
+                return i + 1;
+            }
         }
     }
     s.len()

@@ -10,11 +10,11 @@ use std::rt::Files;
 fn run_case<R: Files, W: Write>(rt: &R, to: &mut W, name: &[u8]) -> io::Result<()>
     ensures grows { Grows (W.contents to.old) (W.contents to.new) }
 {
+    streams::write_text(to, name)?;
+    streams::write_text(to, b":\n")?;
     let sheet = files_map::load(rt, name, b"sheet.bin")?;
     let list = files_map::load(rt, name, b"trim.txt")?;
     let times = files_map::load(rt, name, b"times.txt")?;
-    streams::write_text(to, name)?;
-    streams::write_text(to, b":\n")?;
     files_why::tell(to, sheet.held(), list.held(), times.held())?;
     streams::write_text(to, b"\n")
 }

@@ -16,8 +16,8 @@ loop-w-preserved c = (search (chars_in, c.in-Some.ensures.0), search (chars_agai
 
 pub returns-then-get_or-eq34 : goal.returns-then-get_or-eq34
 returns-then-get_or-eq34 c =
-    (at_closed _ _ 0 c.loop-w.invariant.1 (sym c.in_default.ensures ∙ ap char_wide c.rest.ensures) refl (sym c.get_or.ensures ∙ c.if-get_or-eq34.true), λ z. omega arith)
+    (at_closed _ _ 0 c.loop-w.invariant.1 (sym c.in_default.ensures) refl (sym c.get_or.ensures ∙ c.if-get_or-eq34.true), λ z. omega arith)
 
 pub returns-else-get_or-eq34 : goal.returns-else-get_or-eq34
 returns-else-get_or-eq34 c =
-    sym (at_stop _ _ 0 c.loop-w.invariant.1 (sym c.in_default.ensures ∙ ap char_wide c.rest.ensures) refl (λ q. c.if-get_or-eq34.false (c.get_or.ensures ∙ q)))
+    sym (at_stop _ _ 0 c.loop-w.invariant.1 (sym c.in_default.ensures) refl (λ q. c.if-get_or-eq34.false (c.get_or.ensures ∙ q)))

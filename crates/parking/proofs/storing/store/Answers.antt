@@ -6,5 +6,5 @@ use Rattle.parking.proofs.storing.store.Goals as goal
 
 pub returns : goal.returns
 returns c =
-    let size : length c.args.session.held ≡ 8192 = search rules in
-    search (stored_is c.args.session size)
+    let size : length c.args.session.now.held ≡ 8192 = search rules in
+    search (stored_is c.args.session.now size)

@@ -1,4 +1,5 @@
-use Rattle.std.proofs.Common.{rules, ◌≡◌, ℕ, List, ◌∷◌, refl, sym, ◌∙◌, ◌+◌, eqb, cond, true, false, Bool, arith}
+use Rattle.std.proofs.Common.{ap, ◌≡◌, ℕ, List, ◌∷◌, refl, sym, ◌∙◌, ◌+◌, eqb, cond, true, false, Bool, arith}
+use lib.Seq.{take_all}
 use Rattle.std.specs.List.{count_by}
 use Rattle.std.proofs.lemmas.List.Recursion.{is_count_by}
 use Rattle.spec_session.proofs.session_state.MarkLaws.{lfs, lf_again}
@@ -12,4 +13,4 @@ one_more b t = let g = lf_again (b ∷ t) 0 0 (cond (eqb b 10) 1 0) (omega arith
     go false = omega arith
 
 pub returns : goal.returns
-returns c = let e : c.count.result ≡ count_by (λ x. eqb x 10) c.args.held.now = search rules in e ∙ sym (is_count_by lfs (λ x. eqb x 10) refl one_more c.args.held.now)
+returns c = c.loop-b.invariant ∙ ap (count_by (λ x. eqb x 10)) (take_all _ c.args.held.now c.loop-b-test.false) ∙ sym (is_count_by lfs (λ x. eqb x 10) refl one_more c.args.held.now)
